@@ -1,0 +1,5 @@
+pub mod Ring
+pub mod Domain
+pub mod Free
+pub mod Limits
+pub mod Laws
