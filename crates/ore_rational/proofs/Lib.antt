@@ -1,0 +1,6 @@
+pub mod FractionLaws
+pub mod WithinLaws
+pub mod Bounds
+pub mod Stored
+pub mod Quotients
+pub mod Reciprocals

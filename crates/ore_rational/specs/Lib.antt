@@ -1,0 +1,6 @@
+pub mod Gcd
+pub mod Fraction
+pub mod Reduced
+pub mod Within
+pub mod Range
+pub mod Stored
