@@ -1,0 +1,10 @@
+pub mod Monomial
+pub mod MonomialCode
+pub mod StoredExps
+pub mod Term
+pub mod Signature
+pub mod SignatureCode
+pub mod Passing
+pub mod LetterRule
+pub mod Gives
+pub mod Numbers
