@@ -1,0 +1,16 @@
+pub mod Lists
+pub mod ClosedForm
+pub mod FlatForm
+pub mod Distinct
+pub mod Axes
+pub mod Mapped
+pub mod Lowering
+pub mod Numbers
+pub mod Kept
+pub mod Falling
+pub mod Checked
+pub mod Divisors
+pub mod Shifted
+pub mod Steps
+pub mod Walk
+pub mod Within

@@ -1,0 +1,2 @@
+pub mod ClosedForm
+pub mod Product
