@@ -1,0 +1,16 @@
+pub mod Product
+pub mod Lead
+pub mod Adjoint
+pub mod Terms
+pub mod Ordered
+pub mod Belongs
+pub mod Within
+pub mod AdjointWithin
+pub mod Merge
+pub mod Place
+pub mod Gathered
+pub mod IsGathered
+pub mod Products
+pub mod Small
+pub mod SmallTerms
+pub mod OnlyTerm

@@ -1,0 +1,46 @@
+//! Operators: finite sums of fractions times ordered monomials, their sums, products and adjoints.
+//!
+//! An `Op` keeps its terms in a vector, the greatest first, by the order of monomials that it carries.
+//! Contracts see it as a finite map from monomials to fractions that are not zero, beside that order
+//! (`specs/Ordered.antt`), so equal operators are equal values.
+//!
+//! What an operation gives is a definition: the product is that of the letter rule, one letter applied
+//! to one monomial at a time (`specs/Product.antt`), and the adjoint negates the coordinates and reverses
+//! products (`specs/Adjoint.antt`). Beside each stands the same operation within limits
+//! (`specs/Within.antt`, `specs/AdjointWithin.antt`), which says in which order its numbers are formed and
+//! where it stops: with Degree where two monomials have degrees with too great a sum, with Overflow where
+//! a number leaves the range of the fractions. Without limits it gives the exact value, and where it
+//! doesn't stop it gives the exact value too (`proofs/WithinLaws.antt`). The calls meet these definitions
+//! at the limits of the program: the value where there is one, else the cause. Want of memory is the one
+//! answer beside them.
+//!
+//! A ring of operators is an `OreRing`: a signature and the operations, with one meaning for all of them.
+//! A ring is made from a way to multiply two monomials, `Pass`, by the functions `plus`, `minus`, `times`
+//! and `adjoint` of this crate.
+//!
+//! Proved in `proofs/`: the product is associative and distributes (`Product`), the lead of a product is
+//! the product of the leads (`Leads`), there are no zero divisors (`NoZeroDivisor`), the adjoint reverses
+//! products and is its own inverse (`Adjoints`), exponents of products stay bounded (`Support`).
+//!
+//! The crate stands on `ore_rational` (fractions), `ore_monomial` (monomials, orders, signatures, the
+//! letter rule) and `ore_algebra` (finite sums, limits).
+#![tactic(auto)]
+
+mod fraction;
+pub mod gather;
+pub mod letters;
+mod merge;
+pub mod multiply;
+pub mod op;
+mod place;
+pub mod reverse;
+pub mod ring;
+pub mod sum;
+
+pub use gather::Gather;
+pub use letters::letter_product;
+pub use multiply::{Pass, times};
+pub use op::{Op, lead};
+pub use reverse::adjoint;
+pub use ring::OreRing;
+pub use sum::{minus, plus};

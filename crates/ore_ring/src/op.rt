@@ -1,0 +1,168 @@
+//! Operators.
+
+ghost use Rattle.std.specs.Prelude.{◌≡◌, ◌≢◌, length, slice_get, OnOk, OnErr, IfOk, MatchOption, IsTrue, ◌↔◌, pos};
+ghost use Rattle.ore_algebra.specs.Free.{none, single, plus, collect};
+ghost use Rattle.ore_algebra.specs.Limits.{program};
+ghost use Rattle.ore_rational.specs.Fraction.{whole};
+ghost use Rattle.ore_rational.proofs.FractionLaws.{rationals};
+ghost use Rattle.ore_monomial.specs.Gives.{Turns};
+ghost use Rattle.ore_monomial.specs.Monomial.{plain_cmp};
+ghost use Rattle.ore_ring.specs.Lead.{IsLead};
+ghost use Rattle.ore_ring.specs.Ordered.{Ordered};
+ghost use Rattle.ore_ring.specs.Terms.{falling, IsFalling, IsBelowLast};
+ghost use Rattle.ore_ring.specs.Within.{plus_within};
+
+use crate::place::{place, splice};
+use ore_monomial::{Exps, NoMemory, Order, RingStop};
+use ore_rational::Rational;
+use std::alloc::Global;
+use std::marker::Model;
+
+/// An operator: its terms from the greatest down, by an order of monomials.
+#[derive(Drop)]
+pub struct Op {
+    order: Order,
+    terms: Vec<(Exps, Rational)>,
+}
+
+impl Model for Op {
+    ghost use Rattle.ore_ring.specs.Ordered.{Ordered, ordered_code};
+
+    ghost Value = { Ordered };
+
+    ghost coded = { ordered_code };
+
+    ghost use Rattle.ore_algebra.specs.Free.{collect};
+    ghost use Rattle.ore_monomial.specs.Monomial.{plain_cmp};
+    ghost use Rattle.ore_rational.proofs.FractionLaws.{rationals};
+    ghost use Rattle.ore_ring.specs.Terms.{IsFalling};
+
+    ghost view = { λ a. record { by = a.order; sum = collect rationals plain_cmp a.terms.items } };
+
+    ghost invariant = { λ a. IsFalling a.order a.terms.items };
+}
+
+impl Op {
+    /// The operator zero. Terms that are added to it later take memory from `alloc`.
+    pub fn zero(alloc: Global, order: Order) -> Op
+        ensures { result ≡ record { by = order; sum = none rationals plain_cmp } }
+    {
+        Op {
+            order,
+            terms: Vec::new(alloc),
+        }
+    }
+
+    /// One term. A coefficient of 0 gives the operator zero.
+    pub fn term(alloc: Global, order: Order, exps: Exps, coef: Rational) -> Result<Op, NoMemory>
+        ensures { IfOk result (λ f. f ≡ record { by = order; sum = single rationals plain_cmp exps coef }) }
+    {
+        let mut made = Op::zero(alloc, order);
+        if coef.is_zero() {
+            return Ok(made);
+        }
+        made.push(exps, coef)?;
+        Ok(made)
+    }
+
+    // The operator of falling terms.
+    pub(crate) fn from_terms(order: Order, terms: Vec<(Exps, Rational)>) -> Op
+        requires { IsFalling order terms.items }
+        ensures { result ≡ record { by = order; sum = collect rationals plain_cmp terms.items } }
+    {
+        Op { order, terms }
+    }
+
+    /// The order of its monomials.
+    pub fn order(&self) -> Order
+        ensures { result ≡ self.now.by }
+    {
+        self.order
+    }
+
+    /// The number of its terms.
+    pub fn len(&self) -> usize
+        ensures { result ≡ length (falling self.now.by self.now.sum) }
+    {
+        self.terms.len()
+    }
+
+    /// Whether it has no term.
+    pub fn is_zero(&self) -> bool
+        ensures { IsTrue result ↔ self.now.sum ≡ none rationals plain_cmp }
+    {
+        self.terms.is_empty()
+    }
+
+    /// The term at place `k`, where the greatest term has place 0.
+    pub fn get(&self, k: usize) -> Option<(Exps, Rational)>
+        ensures { result ≡ slice_get (falling self.now.by self.now.sum) k }
+    {
+        if k < self.terms.len() {
+            Some(self.terms[k])
+        } else {
+            None
+        }
+    }
+
+    // The terms from the greatest down.
+    pub(crate) fn terms(&self) -> &[(Exps, Rational)]
+        ensures value { result.now ≡ falling self.now.by self.now.sum }
+        ensures falls { IsFalling self.now.by result.now }
+    {
+        self.terms.as_slice()
+    }
+
+    /// Whether both have the same order and the same terms.
+    pub fn equal(&self, other: &Op) -> bool
+        ensures { IsTrue result ↔ self.now ≡ other.now }
+    {
+        self.order == other.order && self.terms == other.terms
+    }
+
+    /// Appends a term below all others.
+    pub fn push(&mut self, exps: Exps, coef: Rational) -> Result<(), NoMemory>
+        requires apart { coef ≢ whole (pos 0) }
+        requires below { IsBelowLast self.old.by (falling self.old.by self.old.sum) exps }
+        ensures ok { OnOk result (self.new ≡ record { by = self.old.by; sum = plus rationals plain_cmp self.old.sum (single rationals plain_cmp exps coef) }) }
+        ensures err { OnErr result (self.new ≡ self.old) }
+    {
+        self.terms.push((exps, coef))?;
+        Ok(())
+    }
+
+    /// Adds to the coefficient of one monomial. Where the sum is 0, the term goes.
+    pub fn add_term(&mut self, exps: Exps, coef: Rational) -> Result<(), RingStop>
+        ensures by { self.new.by ≡ self.old.by }
+        ensures turns { Turns result self.new.sum (plus_within program self.old.sum (single rationals plain_cmp exps coef)) }
+        ensures err { OnErr result (self.new ≡ self.old) }
+    {
+        if coef.is_zero() {
+            return Ok(());
+        }
+        let k = place(self.order, &self.terms, &exps);
+        splice(&mut self.terms, self.order, k, exps, coef)
+    }
+
+    /// The same operator again.
+    pub fn copy(&self, alloc: Global) -> Result<Op, NoMemory>
+        ensures { IfOk result (λ f. f ≡ self.now) }
+    {
+        let mut terms = Vec::new(alloc);
+        terms.extend_from_slice(&self.terms)?;
+        Ok(Op {
+            order: self.order,
+            terms,
+        })
+    }
+}
+
+/// The greatest term.
+pub fn lead(op: &Op) -> Option<(Exps, Rational)>
+    ensures { MatchOption result (op.now.sum ≡ none rationals plain_cmp) (λ t. IsLead rationals op.now.by op.now.sum t.0 t.1) }
+{
+    op.get(0)
+}
+
+#[cfg(test)]
+mod tests;
