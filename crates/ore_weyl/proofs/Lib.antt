@@ -1,0 +1,2 @@
+pub mod Unshifted
+mod TestRing

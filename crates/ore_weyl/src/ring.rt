@@ -1,0 +1,89 @@
+//! The ring of a signature without shifts and delays.
+
+ghost use Rattle.std.specs.Prelude.{SomeIff};
+ghost use Rattle.ore_weyl.specs.Shifts.{HasNoShift};
+
+use crate::monomials::product_terms;
+use crate::variables::has_no_shift;
+use ore_monomial::{Exps, RingStop, Signature};
+use ore_ring::{Op, OreRing, Pass, minus, plus, times};
+use std::alloc::Global;
+use std::marker::Model;
+
+/// The ring of the operators of a signature in which no variable is a shift or a delay.
+#[derive(Drop)]
+pub struct WeylRing {
+    signature: Signature,
+}
+
+impl Model for WeylRing {
+    ghost use Rattle.ore_monomial.specs.Signature.{Signature as Lawful};
+    ghost use Rattle.ore_monomial.specs.SignatureCode.{signature_code};
+    ghost use Rattle.ore_weyl.specs.Shifts.{HasNoShift};
+
+    ghost Value = { Lawful };
+
+    ghost coded = { signature_code };
+
+    ghost view = { λ a. a.signature };
+
+    ghost invariant = { λ a. HasNoShift a.signature };
+}
+
+impl WeylRing {
+    /// The ring of this signature, where it has no shift and no delay.
+    pub fn new(signature: Signature) -> Option<WeylRing>
+        ensures { SomeIff result (HasNoShift signature) signature }
+    {
+        if has_no_shift(&signature) {
+            Some(WeylRing { signature })
+        } else {
+            None
+        }
+    }
+}
+
+impl Pass for WeylRing {
+    ghost signature_of = { λ r. r };
+
+    fn signature(&self) -> &Signature {
+        &self.signature
+    }
+
+    fn pass(
+        &self,
+        alloc: Global,
+        left: &Exps,
+        right: &Exps,
+    ) -> Result<Vec<(Exps, i128)>, RingStop> {
+        product_terms(alloc, &self.signature, left, right)
+    }
+}
+
+impl OreRing for WeylRing {
+    ghost signature_of = { λ r. r };
+
+    fn signature(&self) -> &Signature {
+        &self.signature
+    }
+
+    fn add(&self, alloc: Global, a: &Op, b: &Op) -> Result<Op, RingStop> {
+        plus(alloc, a, b)
+    }
+
+    fn sub(&self, alloc: Global, a: &Op, b: &Op) -> Result<Op, RingStop> {
+        minus(alloc, a, b)
+    }
+
+    fn mul(&self, alloc: Global, a: &Op, b: &Op) -> Result<Op, RingStop> {
+        times(self, alloc, a, b)
+    }
+
+    fn adjoint(&self, alloc: Global, a: &Op) -> Result<Op, RingStop> {
+        ore_ring::adjoint(self, alloc, a)
+    }
+
+    fn copy(&self, alloc: Global, a: &Op) -> Result<Op, RingStop> {
+        Ok(a.copy(alloc)?)
+    }
+}
