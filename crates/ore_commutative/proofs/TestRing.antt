@@ -1,0 +1,10 @@
+-- Operators of the ring of the tests, which declares twelve variables.
+--     all_belong      every operator with its order belongs to it
+use Rattle.std.proofs.Common.{◌≡◌, ◌≤◌, length, subst}
+use Rattle.ore_monomial.specs.Signature.{Signature}
+use Rattle.ore_monomial.proofs.Monomials.{exponent_past}
+use Rattle.ore_ring.specs.Belongs.{Belongs}
+use Rattle.ore_ring.specs.Ordered.{Ordered}
+
+pub all_belong : (s : Signature) (f : Ordered) → length s.kinds ≡ 12 → f.by ≡ s.order → Belongs s f
+all_belong s f h e = record { order = e; variables = λ m n x l. exponent_past x m (subst (λ k. k ≤ x) h l) }
