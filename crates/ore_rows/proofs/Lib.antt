@@ -1,0 +1,4 @@
+pub mod RowLaws
+pub mod Pairs
+pub mod Dots
+pub mod Columns

@@ -1,0 +1,69 @@
+-- One turn of a loop that goes through two lists side by side and may stop. The items have values, and an operation
+-- on values may stop.
+--     both           the operation on the values at each place, in order
+--     both_next      the first items of both are done, and the rest is to come
+--     both_end       one of the lists has no item left
+--     folded, folded_next, folded_stops, folded_end     a fold over the pairs, and its turns
+--     all_rest       what holds of all of a list holds of all but its first item
+use Rattle.std.proofs.Common.{◌≡◌, ◌⊎◌, inl, inr, List, [], ◌∷◌, ◌++◌, map, refl, sym, ap, ◌∙◌, subst, append_assoc, append-nil}
+use Rattle.std.proofs.lemmas.List.{map-append}
+use Rattle.std.proofs.lemmas.List.Elements.{All-tail}
+use Rattle.std.specs.List.{All, zip}
+use Rattle.std.specs.declared.result.Result.{Result}
+use Rattle.std.specs.declared.result.Result.TheVariants.{Ok, Err}
+use Rattle.ore_algebra.specs.Limits.{Cause, ◌>>=◌, fold_within, map_within, fronted}
+
+pub all_rest : {X : Type 0} (P : X → Type 0) (xs : List X) (x : X) (us : List X) → xs ≡ x ∷ us → All P xs → All P us
+all_rest P xs x us e h = All-tail P x us (subst (All P) e h)
+
+module _ {X V : Type 0} (value : X → V) (op : V → V → Result V Cause) where
+  abbrev pub both : List V → List V → Result (List V) Cause
+  both r q = map_within (λ p. op p.0 p.1) (zip r q)
+
+  front_more : (front : List V) (y : V) (r : Result (List V) Cause) → fronted front (r >>= λ ys. Ok (y ∷ ys)) ≡ fronted (front ++ y ∷ []) r
+  front_more front y (Ok ys) = ap Ok (sym (append_assoc front (y ∷ []) ys))
+  front_more front y (Err e) = refl
+
+  step : (front r q : List V) (a b c : V) → op a b ≡ Ok c → fronted front (both (a ∷ r) (b ∷ q)) ≡ fronted (front ++ c ∷ []) (both r q)
+  step front r q a b c e = ap (λ t. fronted front (t >>= λ y. both r q >>= λ ys. Ok (y ∷ ys))) e ∙ front_more front c (both r q)
+
+  pub both_next : (out xs ys us vs : List X) (x y z : X) → xs ≡ x ∷ us → ys ≡ y ∷ vs → op (value x) (value y) ≡ Ok (value z)
+      → fronted (map value out) (both (map value xs) (map value ys)) ≡ fronted (map value (out ++ z ∷ [])) (both (map value us) (map value vs))
+  both_next out xs ys us vs x y z e f k =
+      ap (λ t. fronted (map value out) (both (map value t) (map value ys))) e
+      ∙ ap (λ t. fronted (map value out) (both (map value (x ∷ us)) (map value t))) f
+      ∙ step (map value out) (map value us) (map value vs) (value x) (value y) (value z) k
+      ∙ ap (λ o. fronted o (both (map value us) (map value vs))) (sym (map-append value out (z ∷ [])))
+
+  nothing_left : (out xs : List X) → fronted (map value out) (both (map value xs) []) ≡ Ok (map value out)
+  nothing_left out [] = ap Ok (append-nil (map value out))
+  nothing_left out (x ∷ xs) = ap Ok (append-nil (map value out))
+
+  pub both_end : (out xs ys : List X) → (xs ≡ []) ⊎ (ys ≡ []) → fronted (map value out) (both (map value xs) (map value ys)) ≡ Ok (map value out)
+  both_end out xs ys (inl e) = ap (λ t. fronted (map value out) (both (map value t) (map value ys))) e ∙ ap Ok (append-nil (map value out))
+  both_end out xs ys (inr e) = ap (λ t. fronted (map value out) (both (map value xs) (map value t))) e ∙ nothing_left out xs
+
+-- a fold over pairs: of the item x of the one and the item y of the other
+module _ {X Y V U W S : Type 0} (u : X → V) (h : Y → U) (g : U → W) (step : S → V × W → Result S Cause) where
+  abbrev pub folded : S → List X → List Y → Result S Cause
+  folded s xs ys = fold_within step s (zip (map u xs) (map g (map h ys)))
+
+  pub folded_next : (s t : S) (xs us : List X) (ys vs : List Y) (x : X) (y : Y) → xs ≡ x ∷ us → ys ≡ y ∷ vs → step s (u x, g (h y)) ≡ Ok t → folded s xs ys ≡ folded t us vs
+  folded_next s t xs us ys vs x y e f k =
+      ap (λ l. folded s l ys) e
+      ∙ ap (λ l. folded s (x ∷ us) l) f
+      ∙ ap (λ r. r >>= λ t. folded t us vs) k
+
+  pub folded_stops : (s : S) (c : Cause) (xs us : List X) (ys vs : List Y) (x : X) (y : Y) → xs ≡ x ∷ us → ys ≡ y ∷ vs → step s (u x, g (h y)) ≡ Err c → folded s xs ys ≡ Err c
+  folded_stops s c xs us ys vs x y e f k =
+      ap (λ l. folded s l ys) e
+      ∙ ap (λ l. folded s (x ∷ us) l) f
+      ∙ ap (λ r. r >>= λ t. folded t us vs) k
+
+  nothing_over : (s : S) (xs : List X) → folded s xs [] ≡ Ok s
+  nothing_over s [] = refl
+  nothing_over s (x ∷ xs) = refl
+
+  pub folded_end : (s : S) (xs : List X) (ys : List Y) → (xs ≡ []) ⊎ (ys ≡ []) → folded s xs ys ≡ Ok s
+  folded_end s xs ys (inl e) = ap (λ l. folded s l ys) e
+  folded_end s xs ys (inr e) = ap (λ l. folded s xs l) e ∙ nothing_over s xs

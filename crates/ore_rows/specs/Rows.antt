@@ -1,0 +1,83 @@
+-- Rows and matrices of operators, and the modules that rows span. A matrix is a list of rows, beside its number
+-- of columns where that is needed.
+-- (Torsion and exactness of the module of a linear system: Chyzak, Quadrat and Robertz 2005; Robertz 2014.)
+--     Row                            a list of operators
+--     zero_row, row_plus, row_scale  zeros, sums, left multiples
+--     dot                            a row times a column
+--     combine                        the sum of multiples of rows
+--     InRowModule                    a row is a combination of rows
+--     IsExact                        the rows that a matrix takes to zero are those of a row module
+--     IsTorsion, IsTorsionFree       a nonzero operator takes a row into a row module; only its own rows
+--     matrix_times                   the product of matrices
+--     column, transpose_adjoint      a column of a matrix; the transpose, each entry replaced by its adjoint
+use Rattle.std.specs.Prelude.{◌≡◌, ◌≢◌, ◌↔◌, ℕ, zero, suc, List, [], ◌∷◌, length, map, replicate, get_or}
+use Rattle.ore_algebra.specs.Domain.{Domain}
+use Rattle.ore_algebra.specs.Free.{none, plus}
+use Rattle.ore_monomial.specs.Monomial.{plain_cmp}
+use Rattle.ore_monomial.specs.Signature.{Signature}
+use Rattle.ore_monomial.specs.LetterRule.{Operator}
+use Rattle.ore_ring.specs.Product.{times}
+use Rattle.ore_ring.specs.Adjoint.{adjoint}
+
+-- a list of operators
+abbrev pub Row : Domain → Type 0
+Row K = List (Operator K)
+
+-- n zeros
+unfoldable pub zero_row : (K : Domain) → ℕ → Row K
+zero_row K n = replicate n (none K plain_cmp)
+
+-- the sum, entry by entry
+unfoldable pub row_plus : (K : Domain) → Row K → Row K → Row K
+row_plus K (a ∷ r) (b ∷ q) = plus K plain_cmp a b ∷ row_plus K r q
+row_plus K r q = []
+
+-- a row times a column
+unfoldable pub dot : (K : Domain) → Signature → Row K → Row K → Operator K
+dot K s (a ∷ r) (b ∷ q) = plus K plain_cmp (times K s a b) (dot K s r q)
+dot K s r q = none K plain_cmp
+
+module _ (K : Domain) (s : Signature) where
+  -- d times each entry
+  unfoldable pub row_scale : Operator K → Row K → Row K
+  row_scale d r = map (times K s d) r
+
+  -- a row of coefficients times rows of n entries
+  unfoldable pub combine : ℕ → Row K → List (Row K) → Row K
+  combine n (c ∷ cs) (r ∷ rs) = row_plus K (row_scale c r) (combine n cs rs)
+  combine n cs rs = zero_row K n
+
+  -- z is a combination of the rows
+  unfoldable pub InRowModule : ℕ → List (Row K) → Row K → Type 0
+  InRowModule n rows z = (c : Row K) × (length c ≡ length rows) × (combine n c rows ≡ z)
+
+  -- the rows that give zeros times a are the row module of l (n columns of a)
+  unfoldable pub IsExact : ℕ → List (Row K) → List (Row K) → Type 0
+  IsExact n a l = (c : Row K) → length c ≡ length a → (combine n c a ≡ zero_row K n) ↔ InRowModule (length a) l c
+
+  -- some nonzero operator takes z into the row module of a
+  unfoldable pub IsTorsion : ℕ → List (Row K) → Row K → Type 0
+  IsTorsion n a z = (d : Operator K) × (d ≢ none K plain_cmp) × InRowModule n a (row_scale d z)
+
+  -- each row that is torsion modulo a is in the row module of a
+  unfoldable pub IsTorsionFree : ℕ → List (Row K) → Type 0
+  IsTorsionFree n a = (z : Row K) → length z ≡ n → IsTorsion n a z → InRowModule n a z
+
+  -- ---- products of matrices, and the transposed adjoint
+
+  -- each row of a times b, which has n columns
+  unfoldable pub matrix_times : ℕ → List (Row K) → List (Row K) → List (Row K)
+  matrix_times n a b = map (λ r. combine n r b) a
+
+  -- the entries at place j
+  unfoldable pub column : ℕ → List (Row K) → Row K
+  column j a = map (λ r. get_or r j (none K plain_cmp)) a
+
+  -- the adjoints of the columns from j on, n of them
+  unfoldable pub adjoint_columns : ℕ → ℕ → List (Row K) → List (Row K)
+  adjoint_columns j zero a = []
+  adjoint_columns j (suc n) a = map (adjoint K s) (column j a) ∷ adjoint_columns (suc j) n a
+
+  -- the transpose of a, which has n columns, with each entry replaced by its adjoint
+  unfoldable pub transpose_adjoint : ℕ → List (Row K) → List (Row K)
+  transpose_adjoint n a = adjoint_columns 0 n a

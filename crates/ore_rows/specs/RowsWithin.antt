@@ -1,0 +1,58 @@
+-- Operations on rows and matrices that stop at limits: as the first operation of the ring that stops, in the order
+-- in which they stand here.
+--     scale_within                       an operator times each entry
+--     sum_within, difference_within      of two rows, entry by entry
+--     dot_within                         a row times a column
+--     combine_within                     a row times a matrix, column by column
+--     matrix_times_within                a matrix times a matrix, row by row
+use Rattle.std.specs.Prelude.{ℕ, zero, suc, List, [], ◌∷◌}
+use Rattle.std.specs.List.{zip}
+use Rattle.std.specs.declared.result.Result.{Result}
+use Rattle.std.specs.declared.result.Result.TheVariants.{Ok}
+use Rattle.ore_algebra.specs.Free.{none}
+use Rattle.ore_algebra.specs.Limits.{Limits, Cause, ◌>>=◌, fold_within, map_within}
+use Rattle.ore_rational.proofs.FractionLaws.{rationals}
+use Rattle.ore_monomial.specs.Monomial.{plain_cmp}
+use Rattle.ore_monomial.specs.Signature.{Signature}
+use Rattle.ore_monomial.specs.LetterRule.{Operator}
+use Rattle.ore_ring.specs.Within.{plus_within, minus_within, times_within}
+use Rattle.ore_rows.specs.Rows.{Row, column}
+
+-- the sums of the entries at one place, in order
+abbrev pub sum_within : Limits → Row rationals → Row rationals → Result (Row rationals) Cause
+sum_within l r q = map_within (λ p. plus_within l p.0 p.1) (zip r q)
+
+-- the differences of the entries at one place, in order
+abbrev pub difference_within : Limits → Row rationals → Row rationals → Result (Row rationals) Cause
+difference_within l r q = map_within (λ p. minus_within l p.0 p.1) (zip r q)
+
+module _ (l : Limits) (s : Signature) where
+  -- f times each entry, in order
+  abbrev pub scale_within : Operator rationals → Row rationals → Result (Row rationals) Cause
+  scale_within f r = map_within (times_within l s f) r
+
+  -- a product is added to a sum
+  unfoldable pub product_added : Operator rationals → Operator rationals × Operator rationals → Result (Operator rationals) Cause
+  product_added acc p = do
+    m ← times_within l s p.0 p.1
+    plus_within l acc m
+
+  -- from zero, the product of each entry with that of the column is added
+  abbrev pub dot_within : Row rationals → Row rationals → Result (Operator rationals) Cause
+  dot_within c r = fold_within product_added (none rationals plain_cmp) (zip c r)
+
+  -- the columns from j on, n of them
+  unfoldable pub combine_from : ℕ → ℕ → Row rationals → List (Row rationals) → Result (Row rationals) Cause
+  combine_from j zero c m = Ok []
+  combine_from j (suc n) c m = do
+    f ← dot_within c (column rationals s j m)
+    fs ← combine_from (suc j) n c m
+    Ok (f ∷ fs)
+
+  -- a row times a matrix of n columns
+  abbrev pub combine_within : ℕ → Row rationals → List (Row rationals) → Result (Row rationals) Cause
+  combine_within n c m = combine_from 0 n c m
+
+  -- each row of a times b, which has n columns
+  abbrev pub matrix_times_within : ℕ → List (Row rationals) → List (Row rationals) → Result (List (Row rationals)) Cause
+  matrix_times_within n a b = map_within (λ r. combine_within n r b) a

@@ -1,0 +1,99 @@
+//! Operations of a ring on matrices.
+
+ghost use Rattle.std.specs.Prelude.{◌≡◌, ◌<◌, length, IfOk};
+ghost use Rattle.std.specs.List.{All};
+ghost use Rattle.ore_algebra.specs.Limits.{program};
+ghost use Rattle.ore_monomial.specs.Gives.{Gives};
+ghost use Rattle.ore_ring.specs.Belongs.{Belongs};
+ghost use Rattle.ore_rows.specs.RowsWithin.{combine_within, dot_within, matrix_times_within, product_added};
+ghost use Rattle.ore_rows.specs.Stored.{places, rows_of, sums_of};
+
+use crate::matrix::Matrix;
+use crate::row::Row;
+use ore_monomial::RingStop;
+use ore_ring::{Op, OreRing};
+use std::alloc::Global;
+
+/// The row `c` times the matrix `m`: the columns in order, and for each the products in order.
+///
+/// # Errors
+/// The stop of the first product or sum that stops, and want of memory.
+pub fn combine<R: OreRing>(ring: &R, alloc: Global, c: &Row, m: &Matrix) -> Result<Row, RingStop>
+    requires rows { length c.now ≡ length m.now.rows }
+    requires c_of { All (Belongs (R.signature_of ring.now)) c.now }
+    requires m_of { All (All (Belongs (R.signature_of ring.now))) m.now.rows }
+    ensures gives { Gives sums_of result (combine_within program (R.signature_of ring.now) m.now.cols (sums_of c.now) (rows_of m.now)) }
+    ensures of { IfOk result (All (Belongs (R.signature_of ring.now))) }
+    ensures width { IfOk result (λ r. length r ≡ m.now.cols) }
+{
+    let rows = m.rows_slice();
+    let mut out = Vec::new(alloc);
+    for j in 0..m.cols() {
+        out.push(dot(ring, alloc, c.entries(), rows, j)?)?;
+    }
+    Ok(Row::from_vec(out))
+}
+
+/// The product of two matrices, row by row.
+///
+/// # Errors
+/// The stop of the first row that stops, and want of memory.
+pub fn times<R: OreRing>(
+    ring: &R,
+    alloc: Global,
+    a: &Matrix,
+    b: &Matrix,
+) -> Result<Matrix, RingStop>
+    requires fits { a.now.cols ≡ length b.now.rows }
+    requires a_of { All (All (Belongs (R.signature_of ring.now))) a.now.rows }
+    requires b_of { All (All (Belongs (R.signature_of ring.now))) b.now.rows }
+    ensures gives { Gives rows_of result (matrix_times_within program (R.signature_of ring.now) b.now.cols (rows_of a.now) (rows_of b.now)) }
+    ensures cols { IfOk result (λ m. m.cols ≡ b.now.cols) }
+    ensures of { IfOk result (λ m. All (All (Belongs (R.signature_of ring.now))) m.rows) }
+{
+    let mut out = Vec::new(alloc);
+    for row in a.rows_slice() {
+        out.push(combine(ring, alloc, row, b)?)?;
+    }
+    Ok(Matrix::from_rows(b.cols(), out))
+}
+
+// A product added to an operator.
+#[tactic(auto, unfolding(crate::specs::RowsWithin::product_added))]
+fn add_product<R: OreRing>(
+    ring: &R,
+    alloc: Global,
+    acc: &Op,
+    f: &Op,
+    g: &Op,
+) -> Result<Op, RingStop>
+    requires acc_of { Belongs (R.signature_of ring.now) acc.now }
+    requires f_of { Belongs (R.signature_of ring.now) f.now }
+    requires g_of { Belongs (R.signature_of ring.now) g.now }
+    ensures gives { Gives (λ f. f.sum) result (product_added program (R.signature_of ring.now) acc.now.sum (f.now.sum, g.now.sum)) }
+    ensures of { IfOk result (Belongs (R.signature_of ring.now)) }
+{
+    let product = ring.mul(alloc, f, g)?;
+    ring.add(alloc, acc, &product)
+}
+
+// A row times the entries at place `j` of as many rows.
+fn dot<R: OreRing>(
+    ring: &R,
+    alloc: Global,
+    c: &[Op],
+    rows: &[Row],
+    j: usize,
+) -> Result<Op, RingStop>
+    requires c_of { All (Belongs (R.signature_of ring.now)) c.now }
+    requires rows_of { All (All (Belongs (R.signature_of ring.now))) rows.now }
+    requires place { All (λ r. j < length r) rows.now }
+    ensures gives { Gives (λ f. f.sum) result (dot_within program (R.signature_of ring.now) (sums_of c.now) (places j rows.now)) }
+    ensures of { IfOk result (Belongs (R.signature_of ring.now)) }
+{
+    let mut acc = Op::zero(alloc, ring.signature().order());
+    for (f, row) in c.iter().zip(rows) {
+        acc = add_product(ring, alloc, &acc, f, row.entry(j))?;
+    }
+    Ok(acc)
+}

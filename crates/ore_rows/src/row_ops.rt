@@ -1,0 +1,83 @@
+//! Operations of a ring on rows.
+
+ghost use Rattle.std.specs.Prelude.{◌≡◌, length, IfOk, IfErr};
+ghost use Rattle.std.specs.List.{All};
+ghost use Rattle.ore_algebra.specs.Limits.{program};
+ghost use Rattle.ore_monomial.specs.Gives.{Gives};
+ghost use Rattle.ore_monomial.specs.declared.stop.RingStop.TheVariants.{Memory};
+ghost use Rattle.ore_ring.specs.Belongs.{Belongs};
+ghost use Rattle.ore_rows.specs.RowsWithin.{scale_within, sum_within, difference_within};
+ghost use Rattle.ore_rows.specs.Stored.{sums_of};
+
+use crate::row::Row;
+use ore_monomial::RingStop;
+use ore_ring::{Op, OreRing};
+use std::alloc::Global;
+
+/// `f` times each entry, in order.
+///
+/// # Errors
+/// The stop of the first product that stops, and want of memory.
+pub fn scale<R: OreRing>(ring: &R, alloc: Global, f: &Op, row: &Row) -> Result<Row, RingStop>
+    requires f_of { Belongs (R.signature_of ring.now) f.now }
+    requires row_of { All (Belongs (R.signature_of ring.now)) row.now }
+    ensures gives { Gives sums_of result (scale_within program (R.signature_of ring.now) f.now.sum (sums_of row.now)) }
+    ensures of { IfOk result (All (Belongs (R.signature_of ring.now))) }
+{
+    let mut out = Vec::new(alloc);
+    for g in row.entries() {
+        out.push(ring.mul(alloc, f, g)?)?;
+    }
+    Ok(Row::from_vec(out))
+}
+
+/// An equal row.
+///
+/// # Errors
+/// Want of memory.
+pub fn row_copy<R: OreRing>(ring: &R, alloc: Global, row: &Row) -> Result<Row, RingStop>
+    ensures same { IfOk result (λ r. r ≡ row.now) }
+    ensures memory { IfErr result (λ e. e ≡ Memory) }
+{
+    let mut out = Vec::new(alloc);
+    for g in row.entries() {
+        out.push(ring.copy(alloc, g)?)?;
+    }
+    Ok(Row::from_vec(out))
+}
+
+/// The sum of two rows of one length, entry by entry.
+///
+/// # Errors
+/// The stop of the first sum that stops, and want of memory.
+pub fn row_add<R: OreRing>(ring: &R, alloc: Global, a: &Row, b: &Row) -> Result<Row, RingStop>
+    requires lengths { length a.now ≡ length b.now }
+    requires a_of { All (Belongs (R.signature_of ring.now)) a.now }
+    requires b_of { All (Belongs (R.signature_of ring.now)) b.now }
+    ensures gives { Gives sums_of result (sum_within program (sums_of a.now) (sums_of b.now)) }
+    ensures of { IfOk result (All (Belongs (R.signature_of ring.now))) }
+{
+    let mut out = Vec::new(alloc);
+    for (f, g) in a.entries().iter().zip(b.entries()) {
+        out.push(ring.add(alloc, f, g)?)?;
+    }
+    Ok(Row::from_vec(out))
+}
+
+/// The difference of two rows of one length, entry by entry.
+///
+/// # Errors
+/// The stop of the first difference that stops, and want of memory.
+pub fn row_sub<R: OreRing>(ring: &R, alloc: Global, a: &Row, b: &Row) -> Result<Row, RingStop>
+    requires lengths { length a.now ≡ length b.now }
+    requires a_of { All (Belongs (R.signature_of ring.now)) a.now }
+    requires b_of { All (Belongs (R.signature_of ring.now)) b.now }
+    ensures gives { Gives sums_of result (difference_within program (sums_of a.now) (sums_of b.now)) }
+    ensures of { IfOk result (All (Belongs (R.signature_of ring.now))) }
+{
+    let mut out = Vec::new(alloc);
+    for (f, g) in a.entries().iter().zip(b.entries()) {
+        out.push(ring.sub(alloc, f, g)?)?;
+    }
+    Ok(Row::from_vec(out))
+}
