@@ -1,0 +1,28 @@
+//! Tests that cross crates: each ring of operators on one table, and the calls on rows over a ring.
+//!
+//! The rings `CommutativeRing`, `WeylRing` and `MixedRing` have products of monomials of their own. Where
+//! a signature has more than one of them, their contracts promise the same answers, and the tests here run
+//! them on the same products. Each pair of letters is multiplied in both orders, to exponents up to 3, by
+//! each ring that exists for a signature in which the letters are declared, in both orders of monomials.
+//! The values that are compared are worked out by hand:
+//!
+//! - two letters of which the left one doesn't act on the right one commute;
+//! - a differential operator `d` of `t` gives `d^c t^a` as the sum over `k` of `C(c,k) a!/(a-k)!` times
+//!   `t^(a-k) d^(c-k)`;
+//! - a shift `s` by `h` gives `s^c t^a = (t + c h)^a s^c`, and a delay by `h` the same with `-h`;
+//! - products of letters on two coordinates, and of several letters on one, are written out.
+//!
+//! `rows` has one value for each call of `ore_rows` that is generic over a ring, at `MixedRing`.
+//!
+//! The crate has nothing but tests, and promises nothing. It stands on the rings, on `ore_rows`, and on
+//! `ore_ring`, `ore_monomial`, `ore_rational` and `ore_algebra` for operators and signatures.
+#![tactic(auto)]
+
+#[cfg(test)]
+mod letters;
+#[cfg(test)]
+mod operators;
+#[cfg(test)]
+mod products;
+#[cfg(test)]
+mod rows;
