@@ -1,0 +1,11 @@
+pub mod Entries
+pub mod EntryLaws
+pub mod Parsed
+pub mod Forms
+pub mod ReadForm
+pub mod Pieces
+pub mod Reading
+pub mod Canonical
+pub mod Verdicts
+pub mod KnownWords
+pub mod OneVerdict

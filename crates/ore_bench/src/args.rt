@@ -1,0 +1,83 @@
+//! The words of the command line.
+
+ghost use Rattle.std.specs.Prelude.{◌≡◌, ◌<◌, ◌↔◌, [], ◌∷◌, ◌++◌, length, slice_get, Some, OnOk, OnErr, IsTrue};
+
+use ore_monomial::NoMemory;
+use std::alloc::Global;
+use std::marker::Model;
+
+/// Words in order, each a list of bytes.
+#[derive(Drop)]
+pub struct ArgList {
+    words: Vec<Vec<u8>>,
+}
+
+impl Model for ArgList {
+    ghost use Rattle.std.specs.Prelude.{ℕ, List, map, vec_items};
+
+    ghost Value = { List (List ℕ) };
+
+    ghost view = { λ list. map (λ word. word.items) list.words.items };
+}
+
+impl ArgList {
+    pub fn new(alloc: Global) -> ArgList
+        ensures { result ≡ [] }
+    {
+        ArgList {
+            words: Vec::new(alloc),
+        }
+    }
+
+    pub fn push(&mut self, word: &[u8]) -> Result<(), NoMemory>
+        ensures ok { OnOk result (self.new ≡ self.old ++ word.now ∷ []) }
+        ensures err { OnErr result (self.new ≡ self.old) }
+    {
+        let alloc = *self.words.allocator();
+        let copy = Vec::from_slice(alloc, word)?;
+        self.words.push(copy)?;
+        Ok(())
+    }
+
+    pub fn len(&self) -> usize
+        ensures { result ≡ length self.now }
+    {
+        self.words.len()
+    }
+
+    pub fn is_empty(&self) -> bool
+        ensures { IsTrue result ↔ (self.now ≡ []) }
+    {
+        self.words.is_empty()
+    }
+
+    /// The word at the place `k`, from 0.
+    pub fn word(&self, k: usize) -> &[u8]
+        requires { k < length self.now }
+        ensures { slice_get self.now k ≡ Some result.now }
+    {
+        self.words[k].as_slice()
+    }
+}
+
+#[cfg(test)]
+mod tests {
+    use super::*;
+    use std::test::Fail;
+
+    #[test]
+    fn keeps_words_in_order(rt: HostRuntime) -> Result<(), Fail> {
+        let mut words = ArgList::new(rt.alloc());
+        assert!(rt; words.is_empty());
+        for (word, len) in [("check", 1), ("", 2), ("--budget", 3)] {
+            words.push(word.as_bytes())?;
+            assert_eq!(rt; words.len(), len);
+        }
+        assert!(rt; !words.is_empty());
+        assert!(rt; words.len() == 3);
+        assert_eq!(rt; words.word(0), b"check".as_slice());
+        assert_eq!(rt; words.word(1), b"".as_slice());
+        assert_eq!(rt; words.word(2), b"--budget".as_slice());
+        Ok(())
+    }
+}

@@ -1,0 +1,97 @@
+//! Reads all of the input, up to a limit.
+
+ghost use Rattle.std.specs.Prelude.{◌≡◌, ◌+◌, ◌≤◌, IfOk, OnOk, IfSome, IsErrOf, vec_len};
+ghost use Rattle.std.specs.Io.KnownBytes.{IsAtEnd};
+ghost use Rattle.ore_bench.specs.InputEnd.{CountsFault, Takes};
+ghost use Rattle.ore_bench.specs.declared.input.InputEnd.TheVariants.{Memory};
+
+use ore_io::{Failed, Source};
+use std::alloc::{AllocError, Global};
+
+/// How many bytes are read at most in one call.
+const PIECE: usize = 4096;
+
+/// Why the input wasn't read to its end.
+#[derive(Clone, Copy, Debug, PartialEq, Eq)]
+pub enum InputEnd {
+    Fault,
+    TooLong,
+    Memory,
+}
+
+impl From<AllocError> for InputEnd {
+    ghost from_gives = { λ _ e. e ≡ Memory };
+
+    fn from(_: AllocError) -> InputEnd {
+        InputEnd::Memory
+    }
+}
+
+/// Reads to the end of the input, to the first fault, or to the byte past the limit.
+pub fn read_input<S: Source>(
+    alloc: Global,
+    source: &mut S,
+    limit: usize,
+) -> Result<Vec<u8>, InputEnd>
+    ensures within { IfOk result (λ bytes. vec_len bytes ≤ limit) }
+    ensures whole { IfOk result (λ bytes. IfSome (S.left source.old) (λ left. bytes.items ≡ left)) }
+    ensures end { OnOk result (IsAtEnd (S.left source.new)) }
+    ensures too_long { IsErrOf result InputEnd.TooLong →
+        Takes (S.left source.old) (S.left source.new) (limit + 1) }
+    // The count of faults rose where the answer is `Fault`, and stands still elsewhere.
+    ensures fault { CountsFault result (S.faults source.old) (S.faults source.new) }
+{
+    let mut bytes = Vec::new(alloc);
+    let mut piece = [0u8; PIECE];
+    loop {
+        let room = limit - bytes.len();
+        let asked = room.min(PIECE - 1) + 1;
+        let count = match source.read(&mut piece[..asked]) {
+            Ok(count) => count,
+            Err(Failed) => return Err(InputEnd::Fault),
+        };
+        if count == 0 {
+            return Ok(bytes);
+        }
+        if count > room {
+            return Err(InputEnd::TooLong);
+        }
+        bytes.extend_from_slice(&piece[..count])?;
+    }
+}
+
+#[cfg(test)]
+mod tests {
+    use super::*;
+    use ore_io::MemSource;
+    use std::test::Fail;
+
+    #[test]
+    fn reads_to_the_end(rt: HostRuntime) -> Result<(), Fail> {
+        for (text, limit) in [("", 0), ("0123456789", 10), ("0123456789", 20)] {
+            let bytes = Vec::from_slice(rt.alloc(), text.as_bytes())?;
+            let mut source = MemSource::new(bytes, 8, vec![in rt.alloc(); 4]?);
+            let read = read_input(rt.alloc(), &mut source, limit)?;
+            assert_eq!(rt; read.as_slice(), text.as_bytes());
+        }
+        Ok(())
+    }
+
+    #[test]
+    fn stops_at_the_limit_or_a_fault(rt: HostRuntime) -> Result<(), Fail> {
+        for (failing, limit, end, left) in [
+            (4, 9, InputEnd::TooLong, ""),
+            (4, 3, InputEnd::TooLong, "456789"),
+            (3, 9, InputEnd::TooLong, ""),
+            (3, 10, InputEnd::Fault, ""),
+            (2, 20, InputEnd::Fault, "89"),
+        ] {
+            let bytes = Vec::from_slice(rt.alloc(), b"0123456789")?;
+            let mut source = MemSource::new(bytes, 8, vec![in rt.alloc(); failing]?);
+            let read = read_input(rt.alloc(), &mut source, limit);
+            assert_eq!(rt; read.err(), Some(end));
+            assert_eq!(rt; source.left(), left.as_bytes());
+        }
+        Ok(())
+    }
+}

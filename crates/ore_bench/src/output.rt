@@ -1,0 +1,47 @@
+//! Writes a whole text.
+
+ghost use Rattle.std.specs.Prelude.{◌≡◌, [], IsOk, OnOk, OnErr};
+ghost use Rattle.std.specs.Io.KnownBytes.{append_known};
+ghost use Rattle.ore_io.specs.Faults.{Rose};
+ghost use Rattle.ore_bench.specs.Prefix.{AppendsPrefix};
+
+use ore_io::{Failed, Sink};
+
+/// Writes the text from its first byte to its last, or up to the first write that fails.
+pub fn write_text<K: Sink>(sink: &mut K, text: &[u8]) -> Result<(), Failed>
+    ensures whole { OnOk result (K.written sink.new ≡ append_known (K.written sink.old) text.now) }
+    ensures prefix { OnErr result (AppendsPrefix (K.written sink.old) (K.written sink.new) text.now) }
+    ensures nothing { text.now ≡ [] → IsOk result }
+    ensures no_fault { OnOk result (K.faults sink.new ≡ K.faults sink.old) }
+    ensures fault { OnErr result (Rose (K.faults sink.old) (K.faults sink.new)) }
+{
+    let mut done = 0;
+    while done < text.len() {
+        done += sink.write(&text[done..])?;
+    }
+    Ok(())
+}
+
+#[cfg(test)]
+mod tests {
+    use super::*;
+    use ore_io::MemSink;
+    use std::test::Fail;
+
+    #[test]
+    fn writes_all_or_up_to_a_fault(rt: HostRuntime) -> Result<(), Fail> {
+        for (room, failing, answer, written) in [
+            (12, 0, Ok(()), "0123456789ab"),
+            (20, 3, Ok(()), "0123456789ab"),
+            (12, 2, Err(Failed), "0123456789"),
+            (12, 1, Err(Failed), ""),
+            (11, 0, Err(Failed), "0123456789a"),
+        ] {
+            let room = vec![in rt.alloc(); b'.'; room]?;
+            let mut sink = MemSink::new(room, 10, vec![in rt.alloc(); failing]?);
+            assert_eq!(rt; write_text(&mut sink, b"0123456789ab"), answer);
+            assert_eq!(rt; sink.written(), written.as_bytes());
+        }
+        Ok(())
+    }
+}

@@ -1,0 +1,22 @@
+//! The status with which the program ends.
+
+/// How a call of the program ended. Its number is the program's exit status.
+#[derive(Clone, Copy, Debug, PartialEq, Eq, Drop)]
+pub enum Status {
+    /// The certificate is valid.
+    Done = 0,
+    /// A condition of the certificate fails.
+    Invalid = 1,
+    /// The words are no command.
+    Words = 2,
+    /// The input isn't of the form that is read.
+    Malformed = 3,
+    /// The source failed.
+    ReadFault = 7,
+    /// The sink failed.
+    WriteFault = 8,
+    /// The input is longer than the limit.
+    TooLong = 9,
+    /// Memory ran out.
+    Memory = 12,
+}
