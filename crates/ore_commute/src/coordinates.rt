@@ -61,8 +61,8 @@ fn passed(
     Ok(terms)
 }
 
-// The greatest term comes first.
-fn sort_falling(order: Order, terms: &mut Vec<Term>)
+/// Sorts terms so that the greatest comes first.
+pub fn sort_falling(order: Order, terms: &mut Vec<Term>)
     ensures same { IsPermutation terms.old.items terms.new.items }
     ensures falls { IsSortedBy (λ t u. is_lt (flip_args (order_cmp order) t.0 u.0)) terms.new.items }
 {

@@ -31,10 +31,10 @@
 #![tactic(auto)]
 
 mod axis;
-mod coordinates;
+pub mod coordinates;
 mod laws;
-mod number;
-mod variables;
+pub mod number;
+pub mod variables;
 
 pub use coordinates::pass;
 pub use laws::closed_form_is_letter_rule;

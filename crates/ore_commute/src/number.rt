@@ -9,8 +9,8 @@ ghost use Rattle.ore_commute.specs.ClosedForm.{falling as falling_of, number as 
 /// The greatest magnitude of a whole number.
 const MOST: u128 = 0x7fff_ffff_ffff_ffff_ffff_ffff_ffff_ffff;
 
-// The product, where it is in range.
-fn times(a: u128, b: u128) -> Option<u128>
+/// The product, where it is in range.
+pub fn times(a: u128, b: u128) -> Option<u128>
     ensures { SomeIff result (a * b < 2 ^ 127) (a * b) }
 {
     let product = a.checked_mul(b)?;
@@ -20,8 +20,8 @@ fn times(a: u128, b: u128) -> Option<u128>
     Some(product)
 }
 
-// a (a - 1) .. (a - k + 1), where it is in range.
-fn falling(a: u16, k: u16) -> Option<u128>
+/// a (a - 1) .. (a - k + 1), where it is in range.
+pub fn falling(a: u16, k: u16) -> Option<u128>
     requires { k ≤ a }
     ensures { SomeIff result (falling_of a k < 2 ^ 127) (falling_of a k) }
 {
@@ -48,8 +48,8 @@ fn next_binomial(n: u16, i: u16, value: u128) -> Option<u128>
     Some(whole + rest)
 }
 
-// C(n,j), where it is in range.
-fn binomial(n: u16, j: u16) -> Option<u128>
+/// C(n,j), where it is in range.
+pub fn binomial(n: u16, j: u16) -> Option<u128>
     requires { j ≤ n }
     ensures { SomeIff result (choose n j < 2 ^ 127) (choose n j) }
 {
@@ -61,7 +61,7 @@ fn binomial(n: u16, j: u16) -> Option<u128>
     Some(value)
 }
 
-// The product of whole numbers, where it is in range.
+/// The product of whole numbers, where it is in range.
 pub fn product(a: i128, b: i128) -> Option<i128>
     ensures { SomeIff result (nat_abs (a *ℤ b) < 2 ^ 127) (a *ℤ b) }
 {
@@ -72,8 +72,8 @@ pub fn product(a: i128, b: i128) -> Option<i128>
     Some(product)
 }
 
-// The number with a sign.
-fn whole(n: u128) -> i128
+/// The number with a sign.
+pub fn whole(n: u128) -> i128
     requires { n < 2 ^ 127 }
     ensures { result ≡ pos n }
 {

@@ -10,7 +10,8 @@ ghost use Rattle.ore_monomial.specs.Passing.{choose};
 ghost use Rattle.ore_commute.specs.ClosedForm.{divisor as divisor_of, falling as falling_of, axis_terms};
 ghost use Rattle.ore_commute.specs.Product.{divided, in_range, checked, IsStarted, HasRoom};
 
-use crate::number::{number, product};
+use crate::number::number;
+use ore_commute::number::product;
 use ore_monomial::{DegreePassed, Exps, RingStop};
 use std::alloc::Global;
 

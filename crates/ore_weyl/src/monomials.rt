@@ -14,8 +14,9 @@ ghost use Rattle.ore_ring.specs.Within.{numbers_within};
 ghost use Rattle.ore_weyl.specs.Shifts.{HasNoShift};
 
 use crate::axis::{Axis, Term};
-use crate::variables::differential_of;
-use ore_monomial::{Exps, Order, RingStop, Signature, compare};
+use ore_commute::coordinates::sort_falling;
+use ore_commute::variables::differential_of;
+use ore_monomial::{Exps, RingStop, Signature};
 use std::alloc::Global;
 
 // What the terms become where one more variable is passed, if it has a differential operator.
@@ -68,14 +69,6 @@ fn passed(
         terms = passed_next(alloc, signature, left, right, variable, terms)?;
     }
     Ok(terms)
-}
-
-// The greatest term comes first.
-fn sort_falling(order: Order, terms: &mut Vec<Term>)
-    ensures same { IsPermutation terms.old.items terms.new.items }
-    ensures falls { IsSortedBy (λ t u. is_lt (flip_args (order_cmp order) t.0 u.0)) terms.new.items }
-{
-    terms.sort_unstable_by(|a, b| compare(order, &b.0, &a.0));
 }
 
 /// The product of two ordered monomials: its monomials with their whole numbers, the greatest first

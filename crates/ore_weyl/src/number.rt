@@ -1,82 +1,10 @@
 //! The whole numbers of a product of two monomials.
 
-ghost use Rattle.std.specs.Prelude.{◌≡◌, ◌+◌, ◌*◌, ◌^◌, ◌<◌, ◌≤◌, pos, ◌*ℤ◌, nat_abs, SomeIff};
+ghost use Rattle.std.specs.Prelude.{◌≡◌, ◌*◌, ◌^◌, ◌<◌, ◌≤◌, pos, SomeIff};
 ghost use Rattle.ore_monomial.specs.Passing.{choose};
 ghost use Rattle.ore_commute.specs.ClosedForm.{falling as falling_of};
 
-/// The greatest magnitude of a whole number.
-const MOST: u128 = 0x7fff_ffff_ffff_ffff_ffff_ffff_ffff_ffff;
-
-// The product, where it is in range.
-fn times(a: u128, b: u128) -> Option<u128>
-    ensures { SomeIff result (a * b < 2 ^ 127) (a * b) }
-{
-    let product = a.checked_mul(b)?;
-    if product > MOST {
-        return None;
-    }
-    Some(product)
-}
-
-// a (a - 1) .. (a - k + 1), where it is in range.
-fn falling(a: u16, k: u16) -> Option<u128>
-    requires { k ≤ a }
-    ensures { SomeIff result (falling_of a k < 2 ^ 127) (falling_of a k) }
-{
-    let mut value: u128 = 1;
-    for i in 0..k {
-        value = times(value, (a - i) as u128)?;
-    }
-    Some(value)
-}
-
-// From C(n,i) the next one, C(n,i+1), where it is in range.
-fn next_binomial(n: u16, i: u16, value: u128) -> Option<u128>
-    requires below { i < n }
-    requires value_is { value ≡ choose n i }
-    ensures { SomeIff result (choose n (i + 1) < 2 ^ 127) (choose n (i + 1)) }
-{
-    let divisor = (i + 1) as u128;
-    let factor = (n - i) as u128;
-    let whole = times(value / divisor, factor)?;
-    let rest = value % divisor * factor / divisor;
-    if whole + rest > MOST {
-        return None;
-    }
-    Some(whole + rest)
-}
-
-// C(n,j), where it is in range.
-fn binomial(n: u16, j: u16) -> Option<u128>
-    requires { j ≤ n }
-    ensures { SomeIff result (choose n j < 2 ^ 127) (choose n j) }
-{
-    let steps = j.min(n - j);
-    let mut value: u128 = 1;
-    for i in 0..steps {
-        value = next_binomial(n, i, value)?;
-    }
-    Some(value)
-}
-
-// The number with a sign.
-fn whole(n: u128) -> i128
-    requires { n < 2 ^ 127 }
-    ensures { result ≡ pos n }
-{
-    n as i128
-}
-
-/// The product of whole numbers, where it is in range.
-pub fn product(a: i128, b: i128) -> Option<i128>
-    ensures { SomeIff result (nat_abs (a *ℤ b) < 2 ^ 127) (a *ℤ b) }
-{
-    let product = a.checked_mul(b)?;
-    if product == i128::MIN {
-        return None;
-    }
-    Some(product)
-}
+use ore_commute::number::{binomial, falling, times, whole};
 
 /// The whole number of the term that lowers a differential operator with exponent `c`, and its
 /// coordinate with exponent `a`, by `k`.

@@ -1,6 +1,0 @@
-use Rattle.std.proofs.Common.{◌≡◌, ◌<◌, ◌^◌}
-use Rattle.ore_commute.specs.ClosedForm.{falling as falling_of}
-use Rattle.ore_weyl.proofs.number.falling.Given as goal
-
-abbrev pub invariant-loop-i : goal.invariant-loop-i
-invariant-loop-i l = (l.value ≡ falling_of l.fn.a l.i) × (l.value < 2 ^ 127)
