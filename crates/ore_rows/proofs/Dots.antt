@@ -3,18 +3,23 @@
 --     all_at            what holds of all of a list holds of the item at a place
 --     all_first         and of its first item
 --     zero_belongs      the operator zero belongs to each signature whose order it carries
+--     term_belongs      and so does a term whose monomial is of the signature
 use Rattle.std.proofs.Common.{◌≡◌, ℕ, List, ◌∷◌, get_or, Some, sym, ap, ◌∙◌, subst, arith}
+use Rattle.std.specs.Prelude.{IfOk}
 use Rattle.std.specs.List.{All, slice_get}
+use Rattle.std.specs.declared.result.Result.{Result}
+use Rattle.std.specs.declared.result.Result.TheVariants.{Ok, Err}
 use Rattle.std.proofs.lemmas.List.{get_or-map}
 use Rattle.std.proofs.lemmas.Option.{slice_get_within, get_or_from_slice_get}
-use Rattle.ore_algebra.specs.Free.{none}
+use Rattle.ore_algebra.specs.Free.{none, single}
+use Rattle.ore_rational.specs.Fraction.{Fraction}
 use Rattle.ore_rational.proofs.FractionLaws.{rationals}
-use Rattle.ore_monomial.specs.Monomial.{plain_cmp}
+use Rattle.ore_monomial.specs.Monomial.{Monomial, plain_cmp}
 use Rattle.ore_monomial.specs.declared.order.Order.{Order}
-use Rattle.ore_monomial.specs.Signature.{Signature}
+use Rattle.ore_monomial.specs.Signature.{Signature, MonomialOf}
 use Rattle.ore_ring.specs.Belongs.{Belongs, OperatorOf}
 use Rattle.ore_ring.specs.Ordered.{Ordered}
-use Rattle.ore_ring.proofs.Belonging.{of_none}
+use Rattle.ore_ring.proofs.Belonging.{of_none, of_single}
 use Rattle.ore_rows.specs.Stored.{sums_of}
 
 pub entry_place : (r : List Ordered) (j : ℕ) (e : Ordered) → slice_get r j ≡ Some e → get_or (sums_of r) j (none rationals plain_cmp) ≡ e.sum
@@ -28,3 +33,7 @@ all_first P xs x us e a = subst (All P) e a 0 x (omega arith)
 
 pub zero_belongs : (s : Signature) (o : Order) (v : Ordered) → v ≡ record { by = o; sum = none rationals plain_cmp } → o ≡ s.order → Belongs s v
 zero_belongs s o v e h = record { order = ap (λ (w : Ordered). w.by) e ∙ h; variables = subst (OperatorOf rationals s) (sym (ap (λ (w : Ordered). w.sum) e)) (of_none rationals s) }
+
+pub term_belongs : {E : Type 0} (s : Signature) (o : Order) (m : Monomial) (k : Fraction) (r : Result Ordered E) → o ≡ s.order → MonomialOf s m → IfOk r (λ v. v ≡ record { by = o; sum = single rationals plain_cmp m k }) → IfOk r (Belongs s)
+term_belongs s o m k (Ok v) h d e = record { order = ap (λ (w : Ordered). w.by) e ∙ h; variables = subst (OperatorOf rationals s) (sym (ap (λ (w : Ordered). w.sum) e)) (of_single rationals s m k d) }
+term_belongs s o m k (Err x) h d e = tt

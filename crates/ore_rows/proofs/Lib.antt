@@ -2,3 +2,11 @@ pub mod RowLaws
 pub mod Pairs
 pub mod Dots
 pub mod Columns
+pub mod RowLeads
+pub mod LeadAppend
+pub mod LeadSteps
+pub mod Differences
+pub mod UnitRows
+pub mod RowModules
+pub mod StoredRows
+pub mod WithinValues

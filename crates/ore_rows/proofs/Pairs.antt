@@ -4,9 +4,10 @@
 --     both_next      the first items of both are done, and the rest is to come
 --     both_end       one of the lists has no item left
 --     folded, folded_next, folded_stops, folded_end     a fold over the pairs, and its turns
+--     width_within, both_width     what is made of each item has as many items
 --     all_rest       what holds of all of a list holds of all but its first item
-use Rattle.std.proofs.Common.{◌≡◌, ◌⊎◌, inl, inr, List, [], ◌∷◌, ◌++◌, map, refl, sym, ap, ◌∙◌, subst, append_assoc, append-nil}
-use Rattle.std.proofs.lemmas.List.{map-append}
+use Rattle.std.proofs.Common.{◌≡◌, ◌⊎◌, suc, pred, length, inl, inr, List, [], ◌∷◌, ◌++◌, map, refl, sym, ap, ◌∙◌, subst, append_assoc, append-nil, arith}
+use Rattle.std.proofs.lemmas.List.{map-append, length-map}
 use Rattle.std.proofs.lemmas.List.Elements.{All-tail}
 use Rattle.std.specs.List.{All, zip}
 use Rattle.std.specs.declared.result.Result.{Result}
@@ -15,6 +16,20 @@ use Rattle.ore_algebra.specs.Limits.{Cause, ◌>>=◌, fold_within, map_within, 
 
 pub all_rest : {X : Type 0} (P : X → Type 0) (xs : List X) (x : X) (us : List X) → xs ≡ x ∷ us → All P xs → All P us
 all_rest P xs x us e h = All-tail P x us (subst (All P) e h)
+
+pub width_within : {A B : Type 0} (f : A → Result B Cause) (xs : List A) (ys : List B) → map_within f xs ≡ Ok ys → length ys ≡ length xs
+width_within f [] ys e = let same : [] ≡ ys = cc in sym (ap length same)
+width_within {A} {B} f (x ∷ xs) ys e = by (f x) (map_within f xs) (width_within f xs) ys e
+  where
+    by : (r : Result B Cause) (t : Result (List B) Cause) → ((zs : List B) → t ≡ Ok zs → length zs ≡ length xs) → (ys : List B) → (r >>= λ y. t >>= λ zs. Ok (y ∷ zs)) ≡ Ok ys → length ys ≡ suc (length xs)
+    by (Ok y) (Ok zs) h ys e = let same : y ∷ zs ≡ ys = cc in sym (ap length same) ∙ ap suc (h zs refl)
+    by (Ok y) (Err c) h ys e = cc
+    by (Err c) t h ys e = cc
+
+length-zip_same : {A B : Type 0} (xs : List A) (ys : List B) → length xs ≡ length ys → length (zip xs ys) ≡ length xs
+length-zip_same [] ys e = refl
+length-zip_same (x ∷ xs) [] e = absurd (omega arith)
+length-zip_same (x ∷ xs) (y ∷ ys) e = ap suc (length-zip_same xs ys (ap pred e))
 
 module _ {X V : Type 0} (value : X → V) (op : V → V → Result V Cause) where
   abbrev pub both : List V → List V → Result (List V) Cause
@@ -42,6 +57,13 @@ module _ {X V : Type 0} (value : X → V) (op : V → V → Result V Cause) wher
   pub both_end : (out xs ys : List X) → (xs ≡ []) ⊎ (ys ≡ []) → fronted (map value out) (both (map value xs) (map value ys)) ≡ Ok (map value out)
   both_end out xs ys (inl e) = ap (λ t. fronted (map value out) (both (map value t) (map value ys))) e ∙ ap Ok (append-nil (map value out))
   both_end out xs ys (inr e) = ap (λ t. fronted (map value out) (both (map value xs) (map value t))) e ∙ nothing_left out xs
+
+  pub both_width : (out xs ys : List X) → length xs ≡ length ys → both (map value xs) (map value ys) ≡ Ok (map value out) → length out ≡ length xs
+  both_width out xs ys h e =
+      sym (length-map out value)
+      ∙ width_within (λ p. op p.0 p.1) (zip (map value xs) (map value ys)) (map value out) e
+      ∙ length-zip_same (map value xs) (map value ys) (length-map xs value ∙ h ∙ sym (length-map ys value))
+      ∙ length-map xs value
 
 -- a fold over pairs: of the item x of the one and the item y of the other
 module _ {X Y V U W S : Type 0} (u : X → V) (h : Y → U) (g : U → W) (step : S → V × W → Result S Cause) where

@@ -1,5 +1,6 @@
 -- The laws of rows and matrices, over any domain.
---     AreLong                        each row of a list has n entries
+--     of_zero_row, of_row_plus, of_row_scale, of_combine
+--                                    zeros, sums, multiples and combinations of rows of a signature are of it
 --     scale-combine                  a multiple of a combination of rows is a combination of them
 --     scale-reflects                 where a nonzero operator takes a row to zeros, the row is zeros
 --     torsion_free                   exactness leaves no torsion
@@ -7,7 +8,7 @@
 --     entry-combine                  an entry of a combination is the coefficients times a column
 --     adjoint-product, adjoint_twice     the transposed adjoint of a product, and of a transposed adjoint
 --     combine-combine, matrix_assoc  combinations of combinations; products of matrices are associative
---     module_plus, module_scale      row modules are closed under sums and multiples
+--     module_plus, module_scale      row modules are closed under sums and multiples by operators of the signature
 --     long_adjoint                   the shape of the transposed adjoint
 use Rattle.std.proofs.Common.{◌≡◌, ◌≢◌, ⊎_elim, ℕ, zero, suc, pred, ◌+◌, ◌<◌, List, [], ◌∷◌, length, map, replicate, get_or, refl, sym, ap, ◌∙◌, subst, arith}
 use Rattle.std.specs.List.{AllByRecursion}
@@ -20,15 +21,13 @@ use Rattle.ore_monomial.specs.Signature.{Signature, IsLawful}
 use Rattle.ore_monomial.specs.LetterRule.{Operator}
 use Rattle.ore_ring.specs.Product.{times}
 use Rattle.ore_ring.specs.Adjoint.{adjoint}
-use Rattle.ore_rows.specs.Rows.{Row, zero_row, row_plus, dot, row_scale, combine, InRowModule, IsExact, IsTorsion, IsTorsionFree, matrix_times, column, adjoint_columns, transpose_adjoint}
+use Rattle.ore_rows.specs.Rows.{Row, RowOf, AreLong, zero_row, row_plus, dot, row_scale, combine, InRowModule, IsExact, IsTorsion, IsTorsionFree, matrix_times, column, adjoint_columns, transpose_adjoint}
+use Rattle.ore_ring.specs.Belongs.{OperatorOf}
+use Rattle.ore_ring.proofs.Belonging.{of_none, of_plus, of_times}
 use Rattle.ore_ring.proofs.Product.{times-linear_left, times-linear_right, times_assoc}
 use Rattle.ore_ring.proofs.NoZeroDivisor.{no_zero_divisor}
 use Rattle.ore_ring.proofs.Adjoints.{adjoint-linear, adjoint-times, adjoint-adjoint}
 use Rattle.ore_monomial.proofs.Operators
-
--- each row has n entries
-abbrev pub AreLong : (K : Domain) → ℕ → List (Row K) → Type 0
-AreLong K n rows = AllByRecursion (λ r. length r ≡ n) rows
 
 module _ (K : Domain) (s : Signature) where
   pub scale-zero_row : (d : Operator K) (n : ℕ) → row_scale K s d (zero_row K n) ≡ zero_row K n
@@ -41,6 +40,31 @@ module _ (K : Domain) (s : Signature) where
   scale-row_plus d [] q = refl
   scale-row_plus d (a ∷ r) [] = refl
   scale-row_plus d (a ∷ r) (b ∷ q) = λ i. (times-linear_right K s d).plus a b i ∷ scale-row_plus d r q i
+
+-- ---- rows of a signature
+
+module _ (K : Domain) (s : Signature) where
+  pub of_zero_row : (n : ℕ) → RowOf K s (zero_row K n)
+  unfolding zero_row
+  of_zero_row zero = tt
+  of_zero_row (suc n) = (of_none K s, of_zero_row n)
+
+  pub of_row_plus : (r q : Row K) → RowOf K s r → RowOf K s q → RowOf K s (row_plus K r q)
+  unfolding row_plus
+  of_row_plus [] q h k = tt
+  of_row_plus (a ∷ r) [] h k = tt
+  of_row_plus (a ∷ r) (b ∷ q) h k = (of_plus K s a b h.0 k.0, of_row_plus r q h.1 k.1)
+
+  pub of_row_scale : (d : Operator K) (r : Row K) → OperatorOf K s d → RowOf K s r → RowOf K s (row_scale K s d r)
+  unfolding row_scale
+  of_row_scale d [] o h = tt
+  of_row_scale d (a ∷ r) o h = (of_times K s d a o h.0, of_row_scale d r o h.1)
+
+  pub of_combine : (n : ℕ) (c : Row K) (rows : List (Row K)) → RowOf K s c → AllByRecursion (RowOf K s) rows → RowOf K s (combine K s n c rows)
+  unfolding combine
+  of_combine n [] rows h k = of_zero_row n
+  of_combine n (c ∷ cs) [] h k = of_zero_row n
+  of_combine n (c ∷ cs) (r ∷ rs) h k = of_row_plus _ _ (of_row_scale c r h.0 k.0) (of_combine n cs rs h.1 k.1)
 
 module _ (K : Domain) (s : Signature) (lawful : IsLawful s) where
   pub scale-scale : (d e : Operator K) (r : Row K) → row_scale K s d (row_scale K s e r) ≡ row_scale K s (times K s d e) r
@@ -93,9 +117,9 @@ module _ (K : Domain) (s : Signature) (lawful : IsLawful s) where
   -- where the left kernel of q is the row module of r, a row that is torsion modulo r is in that module
   pub torsion_free : (m : ℕ) (q r : List (Row K)) → AreLong K m q → IsExact K s m q r → IsTorsionFree K s (length q) r
   unfolding IsExact IsTorsionFree IsTorsion
-  torsion_free m q r long exact z lz (d, nz, inside) =
-      (exact z lz).0 (scale-reflects d nz m (combine K s m z q) (length-combine m z q long)
-      (scale-combine d m z q ∙ (exact (row_scale K s d z) (length-row_scale d z ∙ lz)).1 inside))
+  torsion_free m q r long exact z lz oz (d, od, nz, inside) =
+      (exact z lz oz).0 (scale-reflects d nz m (combine K s m z q) (length-combine m z q long)
+      (scale-combine d m z q ∙ (exact (row_scale K s d z) (length-row_scale d z ∙ lz) (of_row_scale K s d z od oz)).1 inside))
 
 -- ---- entries
 
@@ -309,11 +333,11 @@ module _ (K : Domain) (s : Signature) (lawful : IsLawful s) where
   -- a row module is closed under sums and left multiples
   pub module_plus : (n : ℕ) (rows : List (Row K)) (z w : Row K) → InRowModule K s n rows z → InRowModule K s n rows w → InRowModule K s n rows (row_plus K z w)
   unfolding InRowModule
-  module_plus n rows z w (c, lc, e) (d, ld, f) = (row_plus K c d, length-row_plus K s lawful (length rows) c d lc ld, combine-plus K s n c d rows (lc ∙ sym ld) ∙ (λ i. row_plus K (e i) (f i)))
+  module_plus n rows z w (c, lc, oc, e) (d, ld, od, f) = (row_plus K c d, length-row_plus K s lawful (length rows) c d lc ld, of_row_plus K s c d oc od, combine-plus K s n c d rows (lc ∙ sym ld) ∙ (λ i. row_plus K (e i) (f i)))
 
-  pub module_scale : (n : ℕ) (rows : List (Row K)) (d : Operator K) (z : Row K) → InRowModule K s n rows z → InRowModule K s n rows (row_scale K s d z)
+  pub module_scale : (n : ℕ) (rows : List (Row K)) (d : Operator K) (z : Row K) → OperatorOf K s d → InRowModule K s n rows z → InRowModule K s n rows (row_scale K s d z)
   unfolding InRowModule
-  module_scale n rows d z (c, lc, e) = (row_scale K s d c, length-row_scale K s lawful d c ∙ lc, sym (scale-combine K s lawful d n c rows) ∙ ap (row_scale K s d) e)
+  module_scale n rows d z od (c, lc, oc, e) = (row_scale K s d c, length-row_scale K s lawful d c ∙ lc, of_row_scale K s d c od oc, sym (scale-combine K s lawful d n c rows) ∙ ap (row_scale K s d) e)
 
 module _ (K : Domain) (s : Signature) where
   long_from : (j n : ℕ) (a : List (Row K)) (p : ℕ) → length a ≡ p → AreLong K p (adjoint_columns K s j n a)

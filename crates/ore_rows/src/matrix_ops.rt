@@ -1,15 +1,17 @@
 //! Operations of a ring on matrices.
 
-ghost use Rattle.std.specs.Prelude.{◌≡◌, ◌<◌, length, IfOk};
+ghost use Rattle.std.specs.Prelude.{◌≡◌, ◌<◌, ◌∷◌, length, IfOk, IfErr};
 ghost use Rattle.std.specs.List.{All};
 ghost use Rattle.ore_algebra.specs.Limits.{program};
 ghost use Rattle.ore_monomial.specs.Gives.{Gives};
+ghost use Rattle.ore_monomial.specs.declared.stop.RingStop.TheVariants.{Memory};
 ghost use Rattle.ore_ring.specs.Belongs.{Belongs};
 ghost use Rattle.ore_rows.specs.RowsWithin.{combine_within, dot_within, matrix_times_within, product_added};
 ghost use Rattle.ore_rows.specs.Stored.{places, rows_of, sums_of};
 
 use crate::matrix::Matrix;
 use crate::row::Row;
+use crate::row_ops::row_copy;
 use ore_monomial::RingStop;
 use ore_ring::{Op, OreRing};
 use std::alloc::Global;
@@ -56,6 +58,26 @@ pub fn times<R: OreRing>(
         out.push(combine(ring, alloc, row, b)?)?;
     }
     Ok(Matrix::from_rows(b.cols(), out))
+}
+
+/// The row `z` above the rows of `m`, all of them copied.
+///
+/// # Errors
+/// Want of memory.
+pub fn stack<R: OreRing>(ring: &R, alloc: Global, z: &Row, m: &Matrix) -> Result<Matrix, RingStop>
+    requires width { length z.now ≡ m.now.cols }
+    requires z_of { All (Belongs (R.signature_of ring.now)) z.now }
+    requires m_of { All (All (Belongs (R.signature_of ring.now))) m.now.rows }
+    ensures value { IfOk result (λ x. x ≡ record { cols = m.now.cols; rows = z.now ∷ m.now.rows }) }
+    ensures memory { IfErr result (λ e. e ≡ Memory) }
+    ensures of { IfOk result (λ x. All (All (Belongs (R.signature_of ring.now))) x.rows) }
+{
+    let mut out = Vec::new(alloc);
+    out.push(row_copy(ring, alloc, z)?)?;
+    for row in m.rows_slice() {
+        out.push(row_copy(ring, alloc, row)?)?;
+    }
+    Ok(Matrix::from_rows(m.cols(), out))
 }
 
 // A product added to an operator.

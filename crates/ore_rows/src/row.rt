@@ -47,8 +47,8 @@ impl Row {
         &self.entries[k]
     }
 
-    // The entries in order.
-    pub(crate) fn entries(&self) -> &[Op]
+    /// The entries in order.
+    pub fn entries(&self) -> &[Op]
         ensures { result.now ≡ self.now }
     {
         self.entries.as_slice()

@@ -23,6 +23,7 @@ pub fn scale<R: OreRing>(ring: &R, alloc: Global, f: &Op, row: &Row) -> Result<R
     requires row_of { All (Belongs (R.signature_of ring.now)) row.now }
     ensures gives { Gives sums_of result (scale_within program (R.signature_of ring.now) f.now.sum (sums_of row.now)) }
     ensures of { IfOk result (All (Belongs (R.signature_of ring.now))) }
+    ensures width { IfOk result (λ r. length r ≡ length row.now) }
 {
     let mut out = Vec::new(alloc);
     for g in row.entries() {
@@ -56,6 +57,7 @@ pub fn row_add<R: OreRing>(ring: &R, alloc: Global, a: &Row, b: &Row) -> Result<
     requires b_of { All (Belongs (R.signature_of ring.now)) b.now }
     ensures gives { Gives sums_of result (sum_within program (sums_of a.now) (sums_of b.now)) }
     ensures of { IfOk result (All (Belongs (R.signature_of ring.now))) }
+    ensures width { IfOk result (λ r. length r ≡ length a.now) }
 {
     let mut out = Vec::new(alloc);
     for (f, g) in a.entries().iter().zip(b.entries()) {
@@ -74,6 +76,7 @@ pub fn row_sub<R: OreRing>(ring: &R, alloc: Global, a: &Row, b: &Row) -> Result<
     requires b_of { All (Belongs (R.signature_of ring.now)) b.now }
     ensures gives { Gives sums_of result (difference_within program (sums_of a.now) (sums_of b.now)) }
     ensures of { IfOk result (All (Belongs (R.signature_of ring.now))) }
+    ensures width { IfOk result (λ r. length r ≡ length a.now) }
 {
     let mut out = Vec::new(alloc);
     for (f, g) in a.entries().iter().zip(b.entries()) {

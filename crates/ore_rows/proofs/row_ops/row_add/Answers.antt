@@ -9,7 +9,7 @@ use Rattle.ore_ring.specs.Within.{plus_within}
 use Rattle.ore_ring.specs.Ordered.{Ordered}
 use Rattle.ore_rows.specs.RowsWithin.{sum_within}
 use Rattle.ore_rows.specs.Stored.{sums_of}
-use Rattle.ore_rows.proofs.Pairs.{all_rest, both_next, both_end}
+use Rattle.ore_rows.proofs.Pairs.{all_rest, both_next, both_end, both_width}
 use Rattle.ore_rows.proofs.row_ops.row_add.Goals as goal
 
 pub loop-f-preserved : goal.loop-f-preserved
@@ -30,3 +30,6 @@ returns-clause-gives g c =
     sym c.loop-f.invariant.told
     ∙ both_end (λ (w : Ordered). w.sum) (plus_within program) c.loop-f.out.items _ _ (either_empty_from_Zip c.loop-f.f-iterator c.next.new.self _ c.in-None.is c.next.ensures.steps)
     ∙ ap (λ o. Ok (sums_of o)) (sym c.from_vec.ensures)
+
+pub returns-clause-width : goal.returns-clause-width
+returns-clause-width g c = both_width (λ (w : Ordered). w.sum) (plus_within program) c.from_vec.result c.args.a.now c.args.b.now c.requires.lengths (returns-clause-gives g c)

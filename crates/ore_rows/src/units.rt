@@ -1,0 +1,63 @@
+//! Unit rows, and the matrix of all of one length.
+
+ghost use Rattle.std.specs.Prelude.{◌≡◌, ◌<◌, ◌^◌, length, cond, IfOk};
+ghost use Rattle.std.specs.List.{All};
+ghost use Rattle.ore_algebra.specs.Free.{none, single};
+ghost use Rattle.ore_rational.proofs.FractionLaws.{rationals};
+ghost use Rattle.ore_monomial.specs.Monomial.{plain_cmp};
+ghost use Rattle.ore_monomial.specs.Monomial as monomials;
+ghost use Rattle.ore_ring.specs.Belongs.{Belongs};
+ghost use Rattle.ore_rows.specs.Rows as rows;
+ghost use Rattle.ore_rows.specs.Stored.{rows_of, sums_of};
+
+use crate::matrix::Matrix;
+use crate::row::Row;
+use ore_monomial::{Exps, NoMemory, Signature};
+use ore_rational::Rational;
+use ore_ring::Op;
+use std::alloc::Global;
+
+/// The row of `n` zeros, but for a 1 at place `i`.
+///
+/// # Errors
+/// Want of memory.
+pub fn unit_row(alloc: Global, sig: &Signature, n: usize, i: usize) -> Result<Row, NoMemory>
+    ensures value { IfOk result (λ r. sums_of r ≡ rows.unit_row rationals n i) }
+    ensures width { IfOk result (λ r. length r ≡ n) }
+    ensures of { IfOk result (All (Belongs sig.now)) }
+{
+    let mut out = Vec::new(alloc);
+    for k in 0..n {
+        out.push(one_or_zero(alloc, sig, k == i)?)?;
+    }
+    Ok(Row::from_vec(out))
+}
+
+/// The matrix of the `n` unit rows of `n` entries.
+///
+/// # Errors
+/// Want of memory.
+pub fn identity(alloc: Global, sig: &Signature, n: usize) -> Result<Matrix, NoMemory>
+    requires { n < 2 ^ 63 }
+    ensures rows { IfOk result (λ m. rows_of m ≡ rows.identity_rows rationals n) }
+    ensures cols { IfOk result (λ m. m.cols ≡ n) }
+    ensures count { IfOk result (λ m. length m.rows ≡ n) }
+    ensures of { IfOk result (λ m. All (All (Belongs sig.now)) m.rows) }
+{
+    let mut out = Vec::new(alloc);
+    for k in 0..n {
+        out.push(unit_row(alloc, sig, n, k)?)?;
+    }
+    Ok(Matrix::from_rows(n, out))
+}
+
+// The operator 1, or the operator 0.
+fn one_or_zero(alloc: Global, sig: &Signature, one: bool) -> Result<Op, NoMemory>
+    ensures value { IfOk result (λ f. f.sum ≡ cond one (single rationals plain_cmp monomials.unit rationals.one) (none rationals plain_cmp)) }
+    ensures of { IfOk result (Belongs sig.now) }
+{
+    if !one {
+        return Ok(Op::zero(alloc, sig.order()));
+    }
+    Op::term(alloc, sig.order(), Exps::zero(), Rational::one())
+}
