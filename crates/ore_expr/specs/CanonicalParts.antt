@@ -1,0 +1,65 @@
+-- The parts of a canonical text, as they are written and read one after another.
+--     starred            factors with `*` before each, the first excepted where nothing stands before it
+--     stays_bare         whether nothing stands there still after these factors
+--     exponent_text      what follows a name in a factor, from its exponent
+--     denominator_text   what follows a numerator
+--     is_negative        whether a minus stands before a number
+--     IsWordEnd, IsFactorEnd, IsTermEnd     what may follow a name or a number, a factor, a term
+--     terms_of           the terms of a stored operator, falling
+--     kept_unless, kept  a term as the list that it adds to others: 0 adds nothing
+--     IsPrintableTerm    a term in the variables of a signature with numbers in range
+use Rattle.std.specs.Prelude.{◌≡◌, ◌⊎◌, ℕ, zero, suc, Bool, true, false, if◌then◌else◌, nat_eq, List, [], ◌∷◌, ◌++◌, ℤ, pos, negsuc, decimal}
+use Rattle.ore_rational.proofs.FractionLaws.{rationals}
+use Rattle.ore_monomial.specs.Signature.{Signature, MonomialOf}
+use Rattle.ore_ring.specs.Ordered.{Ordered}
+use Rattle.ore_ring.specs.Terms.{Term, Terms, falling}
+use Rattle.ore_expr.specs.Laws.{IsStorableTerm}
+use Rattle.ore_expr.specs.Tokens.{is_name_byte}
+
+abbrev pub starred : Bool → List (List ℕ) → List ℕ
+starred bare [] = []
+starred true (f ∷ fs) = f ++ starred false fs
+starred false (f ∷ fs) = 42 ∷ (f ++ starred false fs)
+
+abbrev pub stays_bare : Bool → List (List ℕ) → Bool
+stays_bare bare [] = bare
+stays_bare bare (f ∷ fs) = false
+
+abbrev pub exponent_text : ℕ → List ℕ
+exponent_text zero = []
+exponent_text (suc zero) = []
+exponent_text e = 94 ∷ decimal e
+
+abbrev pub denominator_text : ℕ → List ℕ
+denominator_text n = if nat_eq n 1 then [] else 47 ∷ decimal n
+
+abbrev pub is_negative : ℤ → Bool
+is_negative (pos n) = false
+is_negative (negsuc n) = true
+
+abbrev pub IsWordEnd : List ℕ → Type 0
+IsWordEnd [] = Unit {0}
+IsWordEnd (b ∷ bs) = is_name_byte b ≡ false
+
+-- `*` or a space
+abbrev pub IsFactorEnd : List ℕ → Type 0
+IsFactorEnd [] = Unit {0}
+IsFactorEnd (b ∷ bs) = (b ≡ 42) ⊎ (b ≡ 32)
+
+abbrev pub IsTermEnd : List ℕ → Type 0
+IsTermEnd [] = Unit {0}
+IsTermEnd (b ∷ bs) = b ≡ 32
+
+abbrev pub terms_of : Ordered → Terms
+terms_of f = falling f.by f.sum
+
+abbrev pub kept_unless : {P : Type 0} → Dec P → Term → Terms
+kept_unless (yes e) t = []
+kept_unless (no n) t = t ∷ []
+
+unfoldable pub kept : Term → Terms
+kept t = kept_unless (rationals.discrete t.1 rationals.none) t
+
+pub record IsPrintableTerm (s : Signature) (t : Term) : Type 0 where
+  pub variables : MonomialOf s t.0
+  pub storable : IsStorableTerm t

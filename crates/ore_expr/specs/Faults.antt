@@ -1,0 +1,93 @@
+-- What is wrong with an expression. Each token may have a fault of its own, by the tokens before it; it is a syntax fault
+-- where the tokens up to it begin no expression. The first token with a fault decides, and syntax comes first there.
+--     greatest_number, greatest_exponent, greatest_power, greatest_depth     the limits
+--     index_of           the index of a declared name
+--     open_count         how many parentheses are open behind some tokens, the last token first
+--     power_limit        the greatest power of what stands before `^`
+--     number_fault, own_fault     of a number, of any token, where others stand before it, the last one first
+--     IsSoundAt, IsFaultAt        the token that follows these has no fault; has this one
+--     IsSound, IsFirstFault       none of the lexemes that follow has a fault; the first that has one has this one
+--     IsExpression       a text is spelled as an expression, and no token has a fault
+--     IsFault            the fault of a text
+use Rattle.std.specs.Prelude.{◌≡◌, ◌⊎◌, ℕ, suc, ◌-◌, nat_lt, nat_eq, if◌then◌else◌, List, [], ◌∷◌, ◌++◌, length, reverse}
+use Rattle.std.specs.declared.option.Option.{Option}
+use Rattle.std.specs.declared.option.Option.TheVariants.{None, Some}
+use Rattle.std.specs.Option.{option_map}
+use Rattle.std.specs.Str.Parse.{digits_value}
+use Rattle.std.specs.Str.{bytes_eq}
+use Rattle.ore_expr.specs.declared.fault.TextFault.{TextFault}
+use Rattle.ore_expr.specs.declared.fault.TextFault.TheVariants.{Syntax, UnknownName, NumberTooWide, ZeroDenominator, PowerTooLarge, TooDeep}
+use Rattle.ore_expr.specs.Tokens.{Token, Number, Name, Slash, Caret, Open, Close, Lexeme, lexemes, tokens_of}
+use Rattle.ore_expr.specs.Grammar.{Expression, expression_tokens, IsSentence, Begins}
+
+-- 2^127 - 1
+abbrev pub greatest_number : ℕ
+greatest_number = 170141183460469231731687303715884105727
+
+-- of a name
+abbrev pub greatest_exponent : ℕ
+greatest_exponent = 32767
+
+-- of a number or of parentheses
+abbrev pub greatest_power : ℕ
+greatest_power = 64
+
+abbrev pub greatest_depth : ℕ
+greatest_depth = 64
+
+-- the index of the first name that is these bytes
+abbrev pub index_of : List (List ℕ) → List ℕ → Option ℕ
+index_of [] name = None
+index_of (n ∷ names) name = if bytes_eq n name then Some 0 else option_map suc (index_of names name)
+
+abbrev pub open_count : List Token → ℕ
+open_count [] = 0
+open_count (Open ∷ before) = suc (open_count before)
+open_count (Close ∷ before) = open_count before - 1
+open_count (_ ∷ before) = open_count before
+
+abbrev pub power_limit : List Token → ℕ
+power_limit (Name name ∷ before) = greatest_exponent
+power_limit before = greatest_power
+
+abbrev pub number_fault : List Token → ℕ → ℕ → Option TextFault
+number_fault (Caret ∷ before) place n = if nat_lt (power_limit before) n then Some (PowerTooLarge place) else None
+number_fault (Slash ∷ before) place n =
+    if nat_eq n 0 then Some (ZeroDenominator place) else if nat_lt greatest_number n then Some (NumberTooWide place) else None
+number_fault before place n = if nat_lt greatest_number n then Some (NumberTooWide place) else None
+
+abbrev pub name_fault : ℕ → Option ℕ → Option TextFault
+name_fault place None = Some (UnknownName place)
+name_fault place (Some index) = None
+
+abbrev pub own_fault : List (List ℕ) → List Token → ℕ → Token → Option TextFault
+own_fault names before place (Number digits) = number_fault before place (digits_value 10 digits)
+own_fault names before place (Name name) = name_fault place (index_of names name)
+own_fault names before place Open = if nat_lt (open_count before) greatest_depth then None else Some (TooDeep place)
+own_fault names before place token = None
+
+module _ (names : List (List ℕ)) where
+  pub record IsSoundAt (before : List Token) (x : Lexeme) : Type 0 where
+    pub begins : Begins (reverse before ++ x.token ∷ [])
+    pub own : own_fault names before x.place x.token ≡ None
+
+  abbrev pub IsFaultAt : List Token → Lexeme → TextFault → Type 0
+  IsFaultAt before x fault =
+      ((¬ Begins (reverse before ++ x.token ∷ [])) × (fault ≡ Syntax x.place))
+      ⊎ (Begins (reverse before ++ x.token ∷ []) × (own_fault names before x.place x.token ≡ Some fault))
+
+  abbrev pub IsSound : List Token → List Lexeme → Type 0
+  IsSound before [] = Unit {0}
+  IsSound before (x ∷ xs) = (own_fault names before x.place x.token ≡ None) × IsSound (x.token ∷ before) xs
+
+  -- behind the last token the text ends too early, at its length
+  abbrev pub IsFirstFault : ℕ → List Token → List Lexeme → TextFault → Type 0
+  IsFirstFault end before [] fault = (¬ IsSentence (reverse before)) × (fault ≡ Syntax end)
+  IsFirstFault end before (x ∷ xs) fault = IsFaultAt before x fault ⊎ (IsSoundAt before x × IsFirstFault end (x.token ∷ before) xs fault)
+
+  pub record IsExpression (text : List ℕ) (e : Expression) : Type 0 where
+    pub spelled : tokens_of (lexemes text) ≡ expression_tokens e
+    pub sound : IsSound [] (lexemes text)
+
+  abbrev pub IsFault : List ℕ → TextFault → Type 0
+  IsFault text fault = IsFirstFault (length text) [] (lexemes text) fault

@@ -1,0 +1,59 @@
+-- The laws of texts of operators.
+--     ReadsExpressions     what is read is an expression, with the value of its instructions; and each expression is read
+--     FindsFaults          a fault that is found is that of the table, and the fault of the table is found
+--     IsStorable           the numbers and degrees of an operator are in the program's ranges
+--     CanonicalIsRead      the canonical text of an operator of the signature is an expression whose value is the operator
+--     CanonicalIsUnique    no text is the canonical text of two operators
+use Rattle.std.specs.Prelude.{◌≡◌, ◌≤◌, ◌<◌, ◌^◌, ℕ, List, length, nat_abs}
+use Rattle.std.specs.List.{AllByRecursion}
+use Rattle.std.specs.declared.result.Result.TheVariants.{Ok, Err}
+use Rattle.ore_algebra.specs.Free.{terms}
+use Rattle.ore_algebra.specs.Limits.{Limits, program}
+use Rattle.ore_rational.proofs.FractionLaws.{rationals}
+use Rattle.ore_monomial.specs.Monomial.{degree, plain_cmp}
+use Rattle.ore_monomial.specs.Signature.{Signature}
+use Rattle.ore_monomial.specs.LetterRule.{Operator}
+use Rattle.ore_ring.specs.Belongs.{OperatorOf}
+use Rattle.ore_ring.specs.Terms.{Term}
+use Rattle.ore_expr.specs.declared.fault.TextFault.{TextFault}
+use Rattle.ore_expr.specs.declared.instruction.Instruction.{Instruction}
+use Rattle.ore_expr.specs.Grammar.{Expression}
+use Rattle.ore_expr.specs.Faults.{IsExpression, IsFault}
+use Rattle.ore_expr.specs.Values.{expression_value}
+use Rattle.ore_expr.specs.Parsing.{parse}
+use Rattle.ore_expr.specs.Evaluation.{value_of}
+use Rattle.ore_expr.specs.CanonicalText.{operator_text}
+use Rattle.ore_expr.specs.Names.{AreNames}
+
+-- the instructions have the value of the expression
+abbrev pub HaveValue : List (List ℕ) → List Instruction → Expression → Type 0
+HaveValue names instructions e = (l : Limits) (s : Signature) → value_of l s instructions ≡ expression_value l s names e
+
+pub record ReadsExpressions : Type 0 where
+  pub found : (names : List (List ℕ)) (text : List ℕ) (p : List Instruction) → parse names text ≡ Ok p → (e : Expression) × IsExpression names text e × HaveValue names p e
+  pub only : (names : List (List ℕ)) (text : List ℕ) (e : Expression) → IsExpression names text e → (p : List Instruction) × (parse names text ≡ Ok p) × HaveValue names p e
+
+pub record FindsFaults : Type 0 where
+  pub found : (names : List (List ℕ)) (text : List ℕ) (f : TextFault) → parse names text ≡ Err f → IsFault names text f
+  pub only : (names : List (List ℕ)) (text : List ℕ) (f : TextFault) → IsFault names text f → parse names text ≡ Err f
+
+pub record IsStorableTerm (t : Term) : Type 0 where
+  pub numerator : nat_abs t.1.num < 2 ^ 127
+  pub denominator : t.1.den < 2 ^ 127
+  pub degree : degree t.0 ≤ 32767
+
+abbrev pub IsStorable : Operator rationals → Type 0
+IsStorable f = AllByRecursion IsStorableTerm (terms rationals plain_cmp f)
+
+pub record IsPrintable (s : Signature) (names : List (List ℕ)) (f : Operator rationals) : Type 0 where
+  pub names_fit : AreNames names
+  pub count : length names ≡ length s.kinds
+  pub variables : OperatorOf rationals s f
+  pub storable : IsStorable f
+
+abbrev pub CanonicalIsRead : Type 0
+CanonicalIsRead = (s : Signature) (names : List (List ℕ)) (f : Operator rationals) → IsPrintable s names f →
+    (e : Expression) × IsExpression names (operator_text names s.order f) e × (expression_value program s names e ≡ Ok f)
+
+abbrev pub CanonicalIsUnique : Type 0
+CanonicalIsUnique = (s : Signature) (names : List (List ℕ)) (f g : Operator rationals) → IsPrintable s names f → IsPrintable s names g → operator_text names s.order f ≡ operator_text names s.order g → f ≡ g

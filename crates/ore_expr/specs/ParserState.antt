@@ -1,0 +1,8 @@
+-- The code that reads an expression, as a state of the reading.
+--     state_of          its state; the levels outside stand outermost first in the code
+use Rattle.std.specs.Prelude.{reverse}
+use Rattle.ore_expr.specs.declared.parser.Parser.{Parser}
+use Rattle.ore_expr.specs.Parsing.{State}
+
+abbrev pub state_of : Parser → State
+state_of p = record { due = p.due; level = p.level; outside = reverse p.outside.items; made = p.made.items }

@@ -1,0 +1,43 @@
+-- What reading a text of an operator answers.
+--     Reads            a call answered what a reading function gives, unless memory ran out
+--     stop_of          a cause of a stop as a fault of a text
+--     IsValue          the text is an expression, and its value is this, or it stops with this cause
+--     IsRead           what a text of an operator is read as, or its fault
+use Rattle.std.specs.Prelude.{◌≡◌, ℕ, List}
+use Rattle.std.specs.declared.result.Result.{Result}
+use Rattle.std.specs.declared.result.Result.TheVariants.{Ok, Err}
+use Rattle.ore_algebra.specs.Limits.{Cause, program}
+use Rattle.ore_algebra.specs.Limits as cause
+use Rattle.ore_rational.proofs.FractionLaws.{rationals}
+use Rattle.ore_monomial.specs.Signature.{Signature}
+use Rattle.ore_monomial.specs.LetterRule.{Operator}
+use Rattle.ore_monomial.specs.declared.stop.RingStop.TheVariants as stop
+use Rattle.ore_ring.specs.Ordered.{Ordered}
+use Rattle.ore_expr.specs.declared.fault.TextFault.{TextFault}
+use Rattle.ore_expr.specs.declared.fault.TextFault.TheVariants as fault
+use Rattle.ore_expr.specs.Grammar.{Expression}
+use Rattle.ore_expr.specs.Faults.{IsExpression, IsFault}
+use Rattle.ore_expr.specs.Values.{expression_value}
+
+-- of want of memory it says nothing
+abbrev pub FaultReads : {Y : Type 0} → TextFault → Result Y TextFault → Type 0
+FaultReads (fault.Stop stop.Memory) given = Unit {0}
+FaultReads f given = given ≡ Err f
+
+abbrev pub Reads : {X Y : Type 0} → (X → Y) → Result X TextFault → Result Y TextFault → Type 0
+Reads view (Ok x) given = given ≡ Ok (view x)
+Reads view (Err f) given = FaultReads f given
+
+abbrev pub stop_of : Cause → TextFault
+stop_of cause.Overflow = fault.Stop stop.Overflow
+stop_of cause.Degree = fault.Stop stop.Degree
+
+abbrev pub IsValue : Signature → List (List ℕ) → List ℕ → Result (Operator rationals) Cause → Type 0
+IsValue s names text value = (e : Expression) × IsExpression names text e × (expression_value program s names e ≡ value)
+
+abbrev pub IsRead : Signature → List (List ℕ) → List ℕ → Result Ordered TextFault → Type 0
+IsRead s names text (Ok f) = IsValue s names text (Ok f.sum)
+IsRead s names text (Err (fault.Stop stop.Overflow)) = IsValue s names text (Err cause.Overflow)
+IsRead s names text (Err (fault.Stop stop.Degree)) = IsValue s names text (Err cause.Degree)
+IsRead s names text (Err (fault.Stop stop.Memory)) = Unit {0}
+IsRead s names text (Err f) = IsFault names text f

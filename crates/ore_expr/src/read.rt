@@ -1,0 +1,135 @@
+//! Reads operators.
+
+ghost use Rattle.std.specs.Prelude.{◌≡◌, ◌<◌, length, IfOk};
+ghost use Rattle.std.specs.List.{All};
+ghost use Rattle.ore_ring.specs.Belongs.{Belongs};
+ghost use Rattle.ore_expr.specs.Evaluation.{IsOf};
+ghost use Rattle.ore_expr.specs.Parsing.{parse as parse_of};
+ghost use Rattle.ore_expr.specs.ParserState.{state_of};
+ghost use Rattle.ore_expr.specs.ReadStep.{IsStep};
+ghost use Rattle.ore_expr.specs.Reading.{Reads, IsRead};
+
+use crate::evaluation::evaluate;
+use crate::fault::TextFault;
+use crate::instruction::Instruction;
+use crate::names::Names;
+use crate::parser::Parser;
+use crate::token::token_at;
+use ore_monomial::RingStop;
+use ore_ring::{Op, OreRing};
+use std::alloc::Global;
+
+/// The instructions of an expression, in the order in which its operations are formed.
+///
+/// # Errors
+/// The fault of the first token that has one, and want of memory, as a stop.
+pub fn parse(alloc: Global, names: &Names, text: &[u8]) -> Result<Vec<Instruction>, TextFault>
+    ensures reads { Reads (λ p. p.items) result (parse_of names.now text.now) }
+    ensures of { IfOk result (λ p. All (IsOf (length names.now)) p.items) }
+{
+    let mut parser = Parser::new(alloc);
+    let mut skipped = 0;
+    for place in 0..text.len() {
+        skipped = step(&mut parser, names, text, place, skipped)?;
+    }
+    parser.finish(text.len())
+}
+
+// A byte more: a space, a byte of a token that is taken already, or a token. The number of bytes
+// after it that the token has; so many bytes are passed over first.
+fn step(
+    parser: &mut Parser,
+    names: &Names,
+    text: &[u8],
+    place: usize,
+    skipped: usize,
+) -> Result<usize, TextFault>
+    requires { place < length text.now }
+    ensures { IsStep names.now text.now place skipped (state_of parser.old) (state_of parser.new) result }
+{
+    if skipped > 0 {
+        return Ok(skipped - 1);
+    }
+    if text[place] == b' ' {
+        return Ok(0);
+    }
+    let token = token_at(&text[place..]);
+    parser.take(names, place, token)?;
+    Ok(token.more_bytes())
+}
+
+/// The operator that a text spells as an expression.
+///
+/// # Errors
+/// The fault of the text where it is no expression, else the stop of the first operation that stops.
+pub fn read_operator<R: OreRing>(
+    ring: &R,
+    alloc: Global,
+    names: &Names,
+    text: &[u8],
+) -> Result<Op, TextFault>
+    requires { length names.now ≡ length (R.signature_of ring.now).kinds }
+    ensures read { IsRead (R.signature_of ring.now) names.now text.now result }
+    ensures of { IfOk result (Belongs (R.signature_of ring.now)) }
+{
+    let instructions = parse(alloc, names, text)?;
+    let value = evaluate(ring, alloc, &instructions)?;
+    Ok(value)
+}
+
+#[cfg(test)]
+mod tests {
+    use super::*;
+    use std::test::Fail;
+
+    #[test]
+    fn faults_stand_at_their_places(rt: HostRuntime) -> Result<(), Fail> {
+        let names = Names::new(rt.alloc());
+        for (text, fault) in [
+            ("", TextFault::Syntax(0)),
+            ("1 +", TextFault::Syntax(3)),
+            (" x", TextFault::UnknownName(1)),
+            ("2^65", TextFault::PowerTooLarge(2)),
+            ("1/0", TextFault::ZeroDenominator(2)),
+            ("3\t", TextFault::Syntax(1)),
+            ("1 2", TextFault::Syntax(2)),
+            ("(1", TextFault::Syntax(2)),
+            ("1)", TextFault::Syntax(1)),
+            ("--1", TextFault::Syntax(1)),
+            (
+                "170141183460469231731687303715884105728",
+                TextFault::NumberTooWide(0),
+            ),
+            (
+                "(((((((((((((((((((((((((((((((((((((((((((((((((((((((((((((((((",
+                TextFault::TooDeep(64),
+            ),
+        ] {
+            let read = parse(rt.alloc(), &names, text.as_bytes());
+            assert_eq!(rt; read.err(), Some(fault));
+        }
+        Ok(())
+    }
+
+    #[test]
+    fn expressions_have_their_operations(rt: HostRuntime) -> Result<(), Fail> {
+        let mut names = Names::new(rt.alloc());
+        names.add(b"t")?;
+        names.add(b"d")?;
+        for (text, operations) in [
+            ("d*t - 1/2*(t + 1)^2", 10),
+            (" -007 ", 3),
+            ("t^00032767", 1),
+            (
+                "((((((((((((((((((((((((((((((((((((((((((((((((((((((((((((((((2))))))))))))))))))))))))))))))))))))))))))))))))))))))))))))))))",
+                1,
+            ),
+        ] {
+            let read = parse(rt.alloc(), &names, text.as_bytes())?;
+            assert_eq!(rt; read.len(), operations);
+        }
+        let read = parse(rt.alloc(), &names, b"t^32768");
+        assert_eq!(rt; read.err(), Some(TextFault::PowerTooLarge(2)));
+        Ok(())
+    }
+}
