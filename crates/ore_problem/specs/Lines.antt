@@ -1,0 +1,56 @@
+-- The lines of a text. A line ends with the byte 10, which the last one may lack; one byte 13 directly before it belongs to
+-- the end too. Where a line is due, comments are passed over and counted.
+--     raw_lines, split_at      the lines with their ends; the pieces of a text between bytes of one value (ore_expr)
+--     content          a line without its end
+--     is_comment       a line begins with `#`
+--     Cursor           how many lines and bytes were passed, and the lines that are left
+--     passed           the cursor behind one line more
+--     next             the content of the next line that is no comment, and the cursor behind it
+--     words            what stands between the spaces of a line
+use Rattle.std.specs.Prelude.{ℕ, suc, ◌+◌, Bool, true, false, ◌&&◌, nat_eq, if◌then◌else◌, List, [], ◌∷◌, length}
+use Rattle.std.specs.List.{filter}
+use Rattle.std.specs.declared.option.Option.{Option}
+use Rattle.std.specs.declared.option.Option.TheVariants.{None, Some}
+pub use Rattle.ore_expr.specs.Lines.{onto_first}
+unfoldable pub use Rattle.ore_expr.specs.Lines.{split_at, raw_lines}
+
+abbrev pub is_line_end : List ℕ → Bool
+is_line_end (b ∷ []) = nat_eq b 10
+is_line_end (b ∷ c ∷ []) = nat_eq b 13 && nat_eq c 10
+is_line_end bytes = false
+
+unfoldable pub content : List ℕ → List ℕ
+content [] = []
+content (b ∷ bs) = if is_line_end (b ∷ bs) then [] else b ∷ content bs
+
+abbrev pub is_comment : List ℕ → Bool
+is_comment [] = false
+is_comment (b ∷ bs) = nat_eq b 35
+
+pub record Cursor : Type 0 where
+  pub line : ℕ
+  pub used : ℕ
+  pub left : List (List ℕ)
+
+abbrev pub at_start : List ℕ → Cursor
+at_start text = record { line = 0; used = 0; left = raw_lines text }
+
+abbrev pub passed : Cursor → List ℕ → List (List ℕ) → Cursor
+passed c raw left = record { line = suc c.line; used = c.used + length raw; left = left }
+
+unfoldable pub next_of : ℕ → ℕ → List (List ℕ) → Option (List ℕ × Cursor)
+next_of line used [] = None
+next_of line used (raw ∷ left) =
+    if is_comment raw then next_of (suc line) (used + length raw) left
+    else Some (content raw, record { line = suc line; used = used + length raw; left = left })
+
+abbrev pub next : Cursor → Option (List ℕ × Cursor)
+next c = next_of c.line c.used c.left
+
+abbrev pub is_some_byte : List ℕ → Bool
+is_some_byte [] = false
+is_some_byte (b ∷ bs) = true
+
+-- several spaces count as one, and those at the front and the end are dropped
+unfoldable pub words : List ℕ → List (List ℕ)
+words line = filter is_some_byte (split_at 32 line)

@@ -1,0 +1,51 @@
+-- The text of a problem: single spaces, no comments, the byte 10 after every line, and canonical entries.
+--     line               words with a space between, and a line end
+--     order_word, kind_words, declaration_text      of an order, of a kind, of one variable
+--     matrix_text        the sizes, and a line for each row
+--     problem_text       all lines
+use Rattle.std.specs.Prelude.{ℕ, List, [], ◌∷◌, ◌++◌, length, get_or, codes, decimal}
+use Rattle.std.specs.List.{join_with_byte, flat_map, zip}
+use Rattle.ore_rational.proofs.FractionLaws.{rationals}
+use Rattle.ore_monomial.specs.declared.order.Order.{Order}
+use Rattle.ore_monomial.specs.declared.order.Order.TheVariants.{DegLex, DegRevLex}
+use Rattle.ore_monomial.specs.declared.signature.VarKind.{VarKind}
+use Rattle.ore_monomial.specs.declared.signature.VarKind.TheVariants.{Coordinate, Constant, Plain, Differential, Shift, Delay}
+use Rattle.ore_expr.specs.RowText.{row_text}
+use Rattle.ore_rows.specs.Rows.{Row}
+use Rattle.ore_problem.specs.Problems.{System}
+
+abbrev pub line : List (List ℕ) → List ℕ
+line ws = join_with_byte 32 ws ++ 10 ∷ []
+
+abbrev pub order_word : Order → List ℕ
+order_word DegLex = codes "deglex"
+order_word DegRevLex = codes "degrevlex"
+
+-- the kind's word before the name, and the words behind it
+abbrev pub kind_word : VarKind → List ℕ
+kind_word Coordinate = codes "coordinate"
+kind_word Constant = codes "constant"
+kind_word Plain = codes "plain"
+kind_word (Differential on) = codes "differential"
+kind_word (Shift on step) = codes "shift"
+kind_word (Delay on step) = codes "delay"
+
+abbrev pub kind_words : List (List ℕ) → VarKind → List (List ℕ)
+kind_words names (Differential on) = get_or names on [] ∷ []
+kind_words names (Shift on step) = get_or names on [] ∷ decimal step ∷ []
+kind_words names (Delay on step) = get_or names on [] ∷ decimal step ∷ []
+kind_words names kind = []
+
+abbrev pub declaration_text : List (List ℕ) → List ℕ × VarKind → List ℕ
+declaration_text names d = line (kind_word d.1 ∷ d.0 ∷ kind_words names d.1)
+
+-- the sizes, and a line for each row
+abbrev pub matrix_text : List (List ℕ) → Order → ℕ → List (Row rationals) → List ℕ
+matrix_text names o cols rows = line (codes "matrix" ∷ decimal (length rows) ∷ decimal cols ∷ []) ++ flat_map (row_text names o) rows
+
+unfoldable pub problem_text : System → List ℕ
+problem_text p =
+    codes "ore 1\n"
+    ++ (line (codes "order" ∷ order_word p.signature.order ∷ [])
+    ++ (flat_map (declaration_text p.names) (zip p.names p.signature.kinds)
+    ++ (matrix_text p.names p.signature.order p.cols p.rows ++ codes "end\n")))

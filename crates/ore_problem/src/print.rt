@@ -1,0 +1,163 @@
+//! Prints problem texts.
+
+ghost use Rattle.std.specs.Prelude.{◌≡◌, [], ◌∷◌, ◌++◌, codes, decimal, get_or, length, IfOk, OnOk};
+ghost use Rattle.std.specs.List.{All, flat_map, zip};
+ghost use Rattle.ore_ring.specs.Belongs.{Belongs};
+ghost use Rattle.ore_rows.specs.Stored.{rows_of};
+ghost use Rattle.ore_problem.specs.ProblemText.{line, order_word as order_word_of, kind_word as kind_word_of, kind_words, declaration_text, matrix_text, problem_text};
+ghost use Rattle.ore_problem.specs.Stored.{system_of, IsProblem};
+
+use crate::problem::Problem;
+use itoa::Buffer;
+use ore_expr::{Names, append_row};
+use ore_monomial::{NoMemory, Order, Signature, VarKind};
+use ore_rows::Matrix;
+use std::alloc::{AllocError, Global};
+
+/// The text of a problem, in its one printed form.
+#[tactic(auto, unfolding(crate::specs::ProblemText::problem_text))]
+pub fn print_problem(alloc: Global, problem: &Problem) -> Result<Vec<u8>, NoMemory>
+    requires { IsProblem problem.now }
+    ensures { IfOk result (λ text. text.items ≡ problem_text (system_of problem.now)) }
+{
+    let order = problem.signature.order();
+    let mut text = Vec::new(alloc);
+    text.extend_from_slice(b"ore 1\n")?;
+    append_order(&mut text, order)?;
+    append_declarations(&mut text, &problem.names, &problem.signature)?;
+    append_matrix(&mut text, problem)?;
+    text.extend_from_slice(b"end\n")?;
+    Ok(text)
+}
+
+fn append_order(text: &mut Vec<u8>, order: Order) -> Result<(), AllocError>
+    ensures { OnOk result (text.new.items ≡ text.old.items ++ line (codes "order" ∷ order_word_of order ∷ [])) }
+{
+    text.extend_from_slice(b"order ")?;
+    text.extend_from_slice(order_word(order))?;
+    text.push(b'\n')?;
+    Ok(())
+}
+
+fn order_word(order: Order) -> &'static [u8]
+    ensures { result.now ≡ order_word_of order }
+{
+    match order {
+        Order::DegLex => b"deglex",
+        Order::DegRevLex => b"degrevlex",
+    }
+}
+
+fn append_declarations(
+    text: &mut Vec<u8>,
+    names: &Names,
+    signature: &Signature,
+) -> Result<(), AllocError>
+    requires { length names.now ≡ length signature.now.kinds }
+    ensures { OnOk result (text.new.items ≡ text.old.items ++ flat_map (declaration_text names.now) (zip names.now signature.now.kinds)) }
+{
+    for k in 0..names.len() {
+        append_declaration(text, names, names.name(k), signature.kind(k))?;
+    }
+    Ok(())
+}
+
+fn append_declaration(
+    text: &mut Vec<u8>,
+    names: &Names,
+    name: &[u8],
+    kind: VarKind,
+) -> Result<(), AllocError>
+    ensures { OnOk result (text.new.items ≡ text.old.items ++ declaration_text names.now (name.now, kind)) }
+{
+    text.extend_from_slice(kind_word(kind))?;
+    text.push(b' ')?;
+    text.extend_from_slice(name)?;
+    append_kind(text, names, kind)?;
+    text.push(b'\n')?;
+    Ok(())
+}
+
+fn kind_word(kind: VarKind) -> &'static [u8]
+    ensures { result.now ≡ kind_word_of kind }
+{
+    match kind {
+        VarKind::Coordinate => b"coordinate",
+        VarKind::Constant => b"constant",
+        VarKind::Plain => b"plain",
+        VarKind::Differential { on: _ } => b"differential",
+        VarKind::Shift { on: _, step: _ } => b"shift",
+        VarKind::Delay { on: _, step: _ } => b"delay",
+    }
+}
+
+// The words behind the name, each with a space before it.
+fn append_kind(text: &mut Vec<u8>, names: &Names, kind: VarKind) -> Result<(), AllocError>
+    ensures { OnOk result (text.new.items ≡ text.old.items ++ flat_map (λ w. 32 ∷ w) (kind_words names.now kind)) }
+{
+    match kind {
+        VarKind::Coordinate => Ok(()),
+        VarKind::Constant => Ok(()),
+        VarKind::Plain => Ok(()),
+        VarKind::Differential { on } => append_coordinate(text, names, on),
+        VarKind::Shift { on, step } => append_step(text, names, on, step),
+        VarKind::Delay { on, step } => append_step(text, names, on, step),
+    }
+}
+
+fn append_step(text: &mut Vec<u8>, names: &Names, on: u8, step: u16) -> Result<(), AllocError>
+    ensures { OnOk result (text.new.items ≡ text.old.items ++ 32 ∷ (get_or names.now on [] ++ 32 ∷ decimal step)) }
+{
+    append_coordinate(text, names, on)?;
+    text.push(b' ')?;
+    append_number(text, u64::from(step))
+}
+
+fn append_coordinate(text: &mut Vec<u8>, names: &Names, on: u8) -> Result<(), AllocError>
+    ensures { OnOk result (text.new.items ≡ text.old.items ++ 32 ∷ get_or names.now on []) }
+{
+    text.push(b' ')?;
+    text.extend_from_slice(name_at(names, on as usize))?;
+    Ok(())
+}
+
+fn name_at(names: &Names, k: usize) -> &[u8]
+    ensures { result.now ≡ get_or names.now k [] }
+{
+    if k < names.len() { names.name(k) } else { b"" }
+}
+
+fn append_number(text: &mut Vec<u8>, number: u64) -> Result<(), AllocError>
+    ensures { OnOk result (text.new.items ≡ text.old.items ++ decimal number) }
+{
+    let mut buffer = Buffer::new();
+    text.extend_from_slice(buffer.format(number).as_bytes())
+}
+
+fn append_matrix(text: &mut Vec<u8>, problem: &Problem) -> Result<(), NoMemory>
+    requires { IsProblem problem.now }
+    ensures { OnOk result (text.new.items ≡ text.old.items ++ matrix_text problem.now.names problem.now.signature.order problem.now.matrix.cols (rows_of problem.now.matrix)) }
+{
+    let matrix = &problem.matrix;
+    append_sizes(text, matrix.rows(), matrix.cols())?;
+    for k in 0..matrix.rows() {
+        append_row(
+            text,
+            &problem.signature,
+            &problem.names,
+            matrix.row(k).entries(),
+        )?;
+    }
+    Ok(())
+}
+
+fn append_sizes(text: &mut Vec<u8>, rows: usize, cols: usize) -> Result<(), AllocError>
+    ensures { OnOk result (text.new.items ≡ text.old.items ++ line (codes "matrix" ∷ decimal rows ∷ decimal cols ∷ [])) }
+{
+    text.extend_from_slice(b"matrix ")?;
+    append_number(text, rows as u64)?;
+    text.push(b' ')?;
+    append_number(text, cols as u64)?;
+    text.push(b'\n')?;
+    Ok(())
+}
