@@ -1,0 +1,48 @@
+-- Numbers that are read from their one text.
+--     utf8_number         the text of a number is a text
+--     number_read         what parsing it gives
+--     same_number, no_error, no_number     what two answers of one call say
+--     some_of             of what is found
+--     numbers_cancel      two numbers with a space between
+use Rattle.std.proofs.Common.{◌≡◌, ℕ, ◌<◌, ◌^◌, List, ◌∷◌, ◌++◌, Option, None, Some, Ok, Err, Result, sym, subst, arith}
+use Rattle.std.specs.Prelude.{decimal, MatchOption, IfSome}
+use Rattle.std.specs.Str.{IsUtf8, IsAscii}
+use Rattle.std.specs.Str.Parse.{ParsesUnsigned}
+use Rattle.std.proofs.lemmas.Fmt.{IsAscii-decimal, parse-decimal, decimal_injective}
+use Rattle.std.proofs.lemmas.Str.{IsUtf8-from_ascii}
+use Rattle.ore_cert.specs.CertificateText.{number_bound}
+use Rattle.ore_cert.proofs.Bytes.{LacksByte-decimal, byte_cancel}
+
+small : (n : ℕ) → n < number_bound → n < 2 ^ 64
+small n h = omega arith
+
+pub utf8_number : (n : ℕ) (text : List ℕ) → n < number_bound → text ≡ decimal n → IsUtf8 text
+utf8_number n text h e = IsUtf8-from_ascii text (subst IsAscii (sym e) (IsAscii-decimal n (small n h)))
+
+pub number_read : {E : Type 0} (n : ℕ) (text : List ℕ) (r : Result ℕ E) → n < number_bound → text ≡ decimal n → ParsesUnsigned 64 10 text r → r ≡ Ok n
+number_read n text r h e p = parse-decimal 64 n text r (small n h) (small n h) e p
+
+pub same_number : {E : Type 0} {m n : ℕ} {r : Result ℕ E} → r ≡ Ok m → r ≡ Ok n → m ≡ n
+same_number e f = cc
+
+pub no_error : {E : Type 0} {x : E} {n : ℕ} {r : Result ℕ E} → r ≡ Err x → r ≡ Ok n → ⊥
+no_error e f = cc
+
+pub no_number : {A : Type 0} {x : A} {o : Option A} → o ≡ None → o ≡ Some x → ⊥
+no_number e f = cc
+
+pub same_some : {A : Type 0} {x y : A} {o : Option A} → o ≡ Some x → o ≡ Some y → x ≡ y
+same_some e f = cc
+
+pub some_of : {X : Type 0} (r : Option X) (A : Type 0) (B C : X → Type 0) → MatchOption r A B → ((x : X) → B x → C x) → IfSome r C
+some_of None A B C m f = tt
+some_of (Some x) A B C m f = f x m
+
+pub numbers_cancel : (m n : ℕ) (u v : List ℕ) → decimal m ++ 32 ∷ u ≡ decimal n ++ 32 ∷ v → (decimal m ≡ decimal n) × (u ≡ v)
+numbers_cancel m n u v e = byte_cancel 32 (decimal m) (decimal n) u v (LacksByte-decimal 32 m (omega arith)) (LacksByte-decimal 32 n (omega arith)) e
+
+pub same_decimal : (m n : ℕ) → m < number_bound → n < number_bound → decimal m ≡ decimal n → m ≡ n
+same_decimal m n h k e = decimal_injective m n (small m h) (small n k) e
+
+pub none_found : {A : Type 0} (o : Option A) (P : A → Type 0) → o ≡ None → MatchOption o ⊥ P → ⊥
+none_found o P e m = subst (λ o. MatchOption o ⊥ P) e m

@@ -1,0 +1,27 @@
+-- The faulty line of a text that isn't in a set of texts: the first line that no text of the set with the same lines
+-- before it has there. A text that ends too early is faulty at the line behind its last, and one that goes on is faulty
+-- at the first line too many.
+--     AgreeOn           two texts have the same first so many lines, ends included, or end at the same place before that
+--     IsFaultyLine      the faulty line, from 1
+--     HasOneFaultyLine  a text has at most one faulty line, and none where it is in the set
+--     FollowedBy        a text of a set, and then this text
+--     IsFaultyStart     the faulty line of a text that begins with none of a set, whatever were to follow
+use Rattle.std.specs.Prelude.{◌≡◌, ◌<◌, ◌-◌, ◌++◌, ℕ, List, slice_get}
+use Rattle.ore_cert.specs.Lines.{raw_lines}
+
+abbrev pub AgreeOn : ℕ → List ℕ → List ℕ → Type 0
+AgreeOn count text other = (k : ℕ) → k < count → slice_get (raw_lines text) k ≡ slice_get (raw_lines other) k
+
+pub record IsFaultyLine (T : List ℕ → Type 0) (text : List ℕ) (line : ℕ) : Type 0 where
+  pub follows : (other : List ℕ) × T other × AgreeOn (line - 1) text other
+  pub differs : (other : List ℕ) → T other → ¬ AgreeOn line text other
+
+pub record HasOneFaultyLine (T : List ℕ → Type 0) : Type 0 where
+  pub one : (text : List ℕ) (j k : ℕ) → IsFaultyLine T text j → IsFaultyLine T text k → j ≡ k
+  pub none : (text : List ℕ) (k : ℕ) → T text → ¬ IsFaultyLine T text k
+
+abbrev pub FollowedBy : (List ℕ → Type 0) → List ℕ → List ℕ → Type 0
+FollowedBy T after text = (front : List ℕ) × T front × (text ≡ front ++ after)
+
+abbrev pub IsFaultyStart : (List ℕ → Type 0) → List ℕ → ℕ → Type 0
+IsFaultyStart T text line = (after : List ℕ) → IsFaultyLine (FollowedBy T after) text line

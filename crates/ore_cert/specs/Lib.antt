@@ -1,0 +1,4 @@
+pub mod Lines
+pub mod FaultyLine
+pub mod CertificateText
+pub mod Reading

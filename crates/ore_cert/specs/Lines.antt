@@ -1,0 +1,24 @@
+-- The lines of a text. Each ends with the byte 10, which the last one may lack.
+--     LacksByte       no byte of a text is this one
+--     IsLine          one whole line with its end
+--     raw_lines       the lines of a text, each with its end (ore_expr)
+--     Unread          the text that is left, and the number of its first line
+--     unread_code     a code of this value as numbers
+use Rattle.std.specs.Prelude.{◌≡◌, ℕ, true, not, nat_eq, List, [], ◌∷◌, ◌++◌, refl}
+use Rattle.std.specs.List.{list_all}
+pub use Rattle.ore_expr.specs.Lines.{onto_first}
+unfoldable pub use Rattle.ore_expr.specs.Lines.{raw_lines}
+use Rattle.std.specs.Coded.{Coded, coded×, coded_list, coded_ℕ, code_by}
+
+abbrev pub LacksByte : ℕ → List ℕ → Type 0
+LacksByte byte text = list_all (λ b. not (nat_eq b byte)) text ≡ true
+
+abbrev pub IsLine : List ℕ → Type 0
+IsLine line = (bytes : List ℕ) × LacksByte 10 bytes × (line ≡ bytes ++ 10 ∷ [])
+
+pub record Unread : Type 0 where
+  pub at : ℕ
+  pub left : List ℕ
+
+abbrev pub unread_code : Coded Unread
+unread_code = code_by (ℕ × List ℕ) (coded× coded_ℕ (coded_list coded_ℕ)) (λ u. (u.at, u.left)) (λ p. record { at = p.0; left = p.1 }) (λ _. refl)

@@ -1,0 +1,72 @@
+//! The line that a matrix begins with.
+
+ghost use Rattle.std.specs.Prelude.{◌≡◌, ℕ, ◌<◌, List, ◌∷◌, ◌++◌, IfSome, Some, MatchOption, codes, decimal};
+ghost use Rattle.ore_cert.specs.CertificateText.{matrix_words, number_bound};
+
+use crate::lines::cut_at;
+use itoa::Buffer;
+use std::str;
+
+// The numbers of rows and columns, if the line says them of a matrix of this name.
+pub fn sizes_in(line: &[u8], name: &[u8]) -> Option<(usize, usize)>
+    ensures found { IfSome result (λ s. (s.0 < number_bound) × (s.1 < number_bound) × (line.now ≡ matrix_words name.now s.0 s.1)) }
+    ensures only { (rows cols : ℕ) → rows < number_bound → cols < number_bound → line.now ≡ matrix_words name.now rows cols → result ≡ Some (rows, cols) }
+{
+    let Some(sizes) = after_name(line, name) else {
+        return None
+    };
+    pair_in(sizes)
+}
+
+// What follows the word `matrix` and the name.
+fn after_name<'a>(line: &'a [u8], name: &[u8]) -> Option<&'a [u8]>
+    ensures found { IfSome result (λ sizes. line.now ≡ codes "matrix " ++ (name.now ++ 32 ∷ sizes.now)) }
+    ensures only { (sizes : List ℕ) → line.now ≡ codes "matrix " ++ (name.now ++ 32 ∷ sizes) → MatchOption result ⊥ (λ rest. rest.now ≡ sizes) }
+{
+    let Some(named) = line.strip_prefix(b"matrix ") else {
+        return None
+    };
+    let Some(spaced) = named.strip_prefix(name) else {
+        return None
+    };
+    spaced.strip_prefix(b" ")
+}
+
+// Two numbers with a space between.
+fn pair_in(text: &[u8]) -> Option<(usize, usize)>
+    ensures found { IfSome result (λ s. (s.0 < number_bound) × (s.1 < number_bound) × (text.now ≡ decimal s.0 ++ 32 ∷ decimal s.1)) }
+    ensures only { (rows cols : ℕ) → rows < number_bound → cols < number_bound → text.now ≡ decimal rows ++ 32 ∷ decimal cols → result ≡ Some (rows, cols) }
+{
+    let Some((first, second)) = cut_at(text, b' ') else {
+        return None
+    };
+    let Some(rows) = number_in(first) else {
+        return None
+    };
+    let Some(cols) = number_in(second) else {
+        return None
+    };
+    Some((rows, cols))
+}
+
+// The number that a text spells without a leading zero.
+fn number_in(text: &[u8]) -> Option<usize>
+    ensures found { IfSome result (λ n. (n < number_bound) × (text.now ≡ decimal n)) }
+    ensures only { (n : ℕ) → n < number_bound → text.now ≡ decimal n → result ≡ Some n }
+{
+    let Ok(digits) = str::from_utf8(text) else {
+        return None
+    };
+    let Ok(number) = digits.parse::<usize>() else {
+        return None
+    };
+    if number >= 1 << 63 {
+        return None;
+    }
+    let mut buffer = Buffer::new();
+    if buffer.format(number) == digits {
+        Some(number)
+    } else {
+        None
+    }
+}
