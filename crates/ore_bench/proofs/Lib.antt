@@ -1,11 +1,8 @@
-pub mod Entries
-pub mod EntryLaws
-pub mod Parsed
-pub mod Forms
-pub mod ReadForm
 pub mod Pieces
 pub mod Reading
-pub mod Canonical
-pub mod Verdicts
 pub mod KnownWords
+pub mod SameFronts
+pub mod SameRows
+pub mod Verdicts
+pub mod CertificateTexts
 pub mod OneVerdict

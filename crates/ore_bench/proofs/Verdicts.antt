@@ -1,81 +1,91 @@
--- The verdict on bytes, from the form that was read.
-use Rattle.std.proofs.Common.{◌≡◌, ℕ, Bool, true, false, true≢false, List, sym, ap, ◌∙◌, subst, Some, Ok, Err}
-use Rattle.std.specs.Prelude.{IfSome, IsTrue, ◌↔◌, MatchResult}
-use Rattle.std.specs.declared.result.Result.{Result}
+-- What a reply to bytes says.
+--     done_holds      a reply that is due on bytes with the status Done calls a right inverse one that is one
+--     known_holds     what holds of the bytes that were read holds of a source's bytes, where it tells them
+use Rattle.std.proofs.Common.{◌≡◌, ℕ, ◌+◌, List, length, drop, refl, sym, ap, ◌∙◌, subst, inl, inr}
+use Rattle.std.specs.Prelude.{codes, IfSome, [], ◌∷◌}
+use Rattle.std.specs.List.{AllByRecursion}
 use Rattle.std.specs.declared.option.Option.{Option}
-use Rattle.ore_algebra.specs.Free.{plus}
-use Rattle.ore_algebra.specs.Limits.{program}
+use Rattle.std.specs.declared.option.Option.TheVariants.{None, Some}
+use Rattle.std.specs.declared.result.Result.{Result}
+use Rattle.std.specs.declared.result.Result.TheVariants.{Ok, Err}
+use Rattle.ore_algebra.specs.Limits.{Cause, program}
+use Rattle.ore_algebra.specs.Limits as cause
 use Rattle.ore_rational.proofs.FractionLaws.{rationals}
-use Rattle.ore_monomial.specs.Gives.{Gives}
-use Rattle.ore_monomial.specs.Monomial.{plain_cmp}
-use Rattle.ore_monomial.specs.declared.stop.RingStop.{RingStop}
+use Rattle.ore_rows.specs.Rows.{Row, AreLong, matrix_times, identity_rows}
+use Rattle.ore_rows.proofs.WithinValues.{product_value}
 use Rattle.ore_monomial.specs.declared.stop.RingStop.TheVariants as stop
-use Rattle.ore_monomial.specs.LetterRule.{Operator}
-use Rattle.ore_ring.specs.Small.{IsSmall, HasSmallNumbers}
-use Rattle.ore_ring.specs.Within.{plus_within}
-use Rattle.ore_ring.proofs.SmallSums.{small_sum_gives}
-use Rattle.ore_ring.specs.Ordered.{Ordered}
-use Rattle.ore_bench.specs.declared.entry.Entry.{Entry}
-use Rattle.ore_bench.specs.declared.form.Form.{Form}
-use Rattle.ore_bench.specs.Answer.{SomeForm}
-use Rattle.ore_bench.specs.Entries.{operator_of}
-use Rattle.ore_bench.specs.EntryText.{entry_text, IsWithin}
-use Rattle.ore_bench.specs.Form.{IsForm, form_text, text_of}
-use Rattle.ore_bench.specs.FormText.{AreWithin, lines_of}
-use Rattle.ore_bench.proofs.Canonical.{canonical, operator_small, as_entry}
+use Rattle.ore_expr.specs.declared.fault.TextFault.TheVariants as text
+use Rattle.ore_problem.specs.declared.fault.ProblemReason.{ProblemReason}
+use Rattle.ore_problem.specs.declared.fault.ProblemReason.TheVariants as reason
+use Rattle.ore_problem.specs.Problems.{System, Read, prefix_sizes}
+use Rattle.ore_cert.specs.CertificateText.{right_inverse_text, IsRowOf, IsWritten}
+use Rattle.ore_bench.specs.declared.status.Status.TheVariants.{Done}
+use Rattle.ore_bench.specs.Answer.{Reply, IsVerdict, IsReplyTo, IsProductReply, IsInverseReply, HoldsRightInverse, invalid_at, malformed_at, stopped_at, fault_reply}
 
-pub small_operator : (f : Ordered) (entry : Entry) → IsWithin entry → f.sum ≡ operator_of entry → IsSmall f.sum
-small_operator f entry w e = subst IsSmall (sym e) (operator_small entry w)
+-- the status of a reply that is another's
+other_status : (reply made : Reply) → reply ≡ made → reply.status ≡ Done → made.status ≡ Done
+other_status reply made e d = sym (ap (λ r. r.status) e) ∙ d
 
-same_texts : (a b c d a' b' c' d' : List ℕ) → a ≡ a' → b ≡ b' → c ≡ c' → d ≡ d' → form_text a b c d ≡ form_text a' b' c' d'
-same_texts a b c d a' b' c' d' p q r s = λ i. form_text (p i) (q i) (r i) (s i)
+stopped_not_done : (line : ℕ) (c : Cause) → (stopped_at line c).status ≡ Done → ⊥
+stopped_not_done line cause.Overflow e = cc
+stopped_not_done line cause.Degree e = cc
 
--- what was read is the form of its operators
-pub is_form : (bytes : List ℕ) (form : Form) → AreWithin form → bytes ≡ lines_of form → IsForm bytes (operator_of form.first) (operator_of form.second) (operator_of form.third) (operator_of form.fourth)
-is_form bytes form w e = record {
-  first = operator_small form.first w.first;
-  second = operator_small form.second w.second;
-  third = operator_small form.third w.third;
-  fourth = operator_small form.fourth w.fourth;
-  spelled = e ∙ sym (same_texts _ _ _ _ _ _ _ _ (canonical form.first w.first) (canonical form.second w.second) (canonical form.third w.third) (canonical form.fourth w.fourth));
-}
+fault_not_done : (line : ℕ) (r : ProblemReason) → (fault_reply line r).status ≡ Done → ⊥
+fault_not_done line reason.Header e = cc
+fault_not_done line reason.BadDeclaration e = cc
+fault_not_done line reason.NameTwice e = cc
+fault_not_done line (reason.Signature f) e = cc
+fault_not_done line reason.BadMatrix e = cc
+fault_not_done line reason.TooManyRows e = cc
+fault_not_done line reason.TooManyColumns e = cc
+fault_not_done line reason.BadRow e = cc
+fault_not_done line reason.WrongLength e = cc
+fault_not_done line (reason.Text (text.Syntax k)) e = cc
+fault_not_done line (reason.Text (text.UnknownName k)) e = cc
+fault_not_done line (reason.Text (text.NumberTooWide k)) e = cc
+fault_not_done line (reason.Text (text.ZeroDenominator k)) e = cc
+fault_not_done line (reason.Text (text.PowerTooLarge k)) e = cc
+fault_not_done line (reason.Text (text.TooDeep k)) e = cc
+fault_not_done line (reason.Text (text.Stop stop.Overflow)) e = cc
+fault_not_done line (reason.Text (text.Stop stop.Degree)) e = cc
+fault_not_done line (reason.Text (text.Stop stop.Memory)) e = cc
+fault_not_done line reason.NoEnd e = cc
+fault_not_done line reason.AfterEnd e = cc
+fault_not_done line reason.Memory e = cc
 
-pub some_form : (bytes : List ℕ) (form : Form) (P : Operator rationals → Operator rationals → Operator rationals → Operator rationals → Type 0) → AreWithin form × (bytes ≡ lines_of form)
-    → P (operator_of form.first) (operator_of form.second) (operator_of form.third) (operator_of form.fourth) → SomeForm bytes P
-some_form bytes form P w p = (operator_of form.first, operator_of form.second, operator_of form.third, operator_of form.fourth, is_form bytes form w.0 w.1, p)
+invalid_not_done : (line : ℕ) (word : List ℕ) → (invalid_at line word).status ≡ Done → ⊥
+invalid_not_done line word e = cc
 
--- the text of a small operator is that of its entry
-spelled_as : (f : Operator rationals) (s : IsSmall f) → text_of f ≡ entry_text (as_entry f s).0
-spelled_as f s = ap text_of (as_entry f s).2 ∙ canonical (as_entry f s).0 (as_entry f s).1
+malformed_not_done : (line : ℕ) (word : List ℕ) → (malformed_at line word).status ≡ Done → ⊥
+malformed_not_done line word e = cc
 
--- the form of four operators, whose operators they are
-pub form_of : (bytes : List ℕ) (e1 e2 e3 e4 : Operator rationals) → IsForm bytes e1 e2 e3 e4
-    → (form : Form) × AreWithin form × (bytes ≡ lines_of form) × ((e1 ≡ operator_of form.first) × (e2 ≡ operator_of form.second) × (e3 ≡ operator_of form.third) × (e4 ≡ operator_of form.fourth))
-form_of bytes e1 e2 e3 e4 h = (
-  record { first = (as_entry e1 h.first).0; second = (as_entry e2 h.second).0; third = (as_entry e3 h.third).0; fourth = (as_entry e4 h.fourth).0 },
-  record { first = (as_entry e1 h.first).1; second = (as_entry e2 h.second).1; third = (as_entry e3 h.third).1; fourth = (as_entry e4 h.fourth).1 },
-  h.spelled ∙ same_texts _ _ _ _ _ _ _ _ (spelled_as e1 h.first) (spelled_as e2 h.second) (spelled_as e3 h.third) (spelled_as e4 h.fourth),
-  ((as_entry e1 h.first).2, (as_entry e2 h.second).2, (as_entry e3 h.third).2, (as_entry e4 h.fourth).2),
-)
+-- a product that was formed is the one that is due
+product_done : (line : ℕ) (product : Result (List (Row rationals)) Cause) (rows : List (Row rationals)) (reply : Reply) → reply.status ≡ Done → IsProductReply line product rows reply → product ≡ Ok rows
+product_done line (Ok product) rows reply d (inl h) = ap Ok h.0
+product_done line (Ok product) rows reply d (inr h) = absurd (invalid_not_done line (codes " identity") (other_status reply _ h.1 d))
+product_done line (Err c) rows reply d h = absurd (stopped_not_done line c (other_status reply _ h d))
 
-pub form_read : (text : List ℕ) (form : Form) (o : Option Form) → o ≡ Some form → IfSome o (λ form. AreWithin form × (text ≡ lines_of form)) → AreWithin form × (text ≡ lines_of form)
-form_read text form o e m = subst (λ o. IfSome o (λ form. AreWithin form × (text ≡ lines_of form))) e m
+lengths_of : (p : System) (cols : ℕ) (rows : List (Row rationals)) → AllByRecursion (IsRowOf p.signature p.names cols) rows → AreLong rationals cols rows
+lengths_of p cols [] h = tt
+lengths_of p cols (r ∷ rows) h = (h.0.width, lengths_of p cols rows h.1)
 
--- a sum of operators with small numbers stops for want of memory alone
-pub sum_stop : (f g : Operator rationals) → HasSmallNumbers f → HasSmallNumbers g → (r : Result Ordered RingStop) → Gives (λ h. h.sum) r (plus_within program f g) → (e : RingStop) → r ≡ Err e → e ≡ stop.Memory
-sum_stop f g sf sg r h e k = subst (λ r. MatchResult r (λ h. h.sum ≡ plus rationals plain_cmp f g) (λ e. e ≡ stop.Memory)) k (small_sum_gives f g sf sg r h)
+module _ (bytes : List ℕ) (reply : Reply) (d : reply.status ≡ Done) where
+  inverse_done : (p : System) (lines used cols : ℕ) (rows : List (Row rationals)) → prefix_sizes bytes ≡ Ok (p, (used, lines)) → IsWritten p.signature p.names cols rows → drop used bytes ≡ right_inverse_text p.names p.signature.order cols rows
+      → IsInverseReply p lines cols rows reply → HoldsRightInverse bytes
+  inverse_done p lines used cols rows e w t (inl h) =
+      let product = product_done _ _ _ reply d h.1 in
+      let inverse : matrix_times rationals p.signature cols p.rows rows ≡ identity_rows rationals (length p.rows) = sym (product_value program p.signature cols p.rows rows (identity_rows rationals (length p.rows)) (lengths_of p cols rows w.fits) product) in
+      (p, lines, used, cols, rows, record { problem = e; written = w; certificate = t; shape = h.0; inverse = inverse })
+  inverse_done p lines used cols rows e w t (inr h) = absurd (invalid_not_done (lines + 3) (codes " shape") (other_status reply _ h.1 d))
 
-pub sum_value : (f g : Operator rationals) → HasSmallNumbers f → HasSmallNumbers g → (r : Result Ordered RingStop) → Gives (λ h. h.sum) r (plus_within program f g) → (s : Ordered) → r ≡ Ok s → s.sum ≡ plus rationals plain_cmp f g
-sum_value f g sf sg r h s k = subst (λ r. MatchResult r (λ h. h.sum ≡ plus rationals plain_cmp f g) (λ e. e ≡ stop.Memory)) k (small_sum_gives f g sf sg r h)
+  reply_done : (r : Read (System × (ℕ × ℕ))) → prefix_sizes bytes ≡ r → IsReplyTo bytes r reply → HoldsRightInverse bytes
+  reply_done (Ok x) e (inl h) = inverse_done x.0 x.1.1 x.1.0 h.0 h.1 e h.2 h.3 h.4
+  reply_done (Ok x) e (inr h) = absurd (malformed_not_done (x.1.1 + h.0) (codes " certificate") (other_status reply _ h.2 d))
+  reply_done (Err f) e h = absurd (fault_not_done f.line f.reason (other_status reply _ h d))
 
-pub not_overflow : {e : RingStop} → e ≡ stop.Memory → e ≡ stop.Overflow → ⊥
-not_overflow m o = cc
+pub done_holds : (bytes : List ℕ) (reply : Reply) → IsVerdict bytes reply → reply.status ≡ Done → HoldsRightInverse bytes
+done_holds bytes reply v d = reply_done bytes reply d (prefix_sizes bytes) refl v
 
-pub not_degree : {e : RingStop} → e ≡ stop.Memory → e ≡ stop.Degree → ⊥
-not_degree m o = cc
-
-pub answer_true : {P : Type 0} (b : Bool) → IsTrue b ↔ P → b ≡ true → P
-answer_true b h e = h.0 e
-
-pub answer_false : {P : Type 0} (b : Bool) → IsTrue b ↔ P → b ≡ false → P → ⊥
-answer_false b h e p = true≢false (sym (h.1 p) ∙ e)
+pub known_holds : (known : Option (List ℕ)) (bytes : List ℕ) (P : List ℕ → Type 0) → IfSome known (λ left. bytes ≡ left) → P bytes → IfSome known P
+known_holds None bytes P e h = tt
+known_holds (Some left) bytes P e h = subst P e h

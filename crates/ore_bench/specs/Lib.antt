@@ -1,8 +1,4 @@
-pub mod CanonicalText
-pub mod EntryText
-pub mod Form
-pub mod FormText
-pub mod Entries
 pub mod InputEnd
 pub mod Prefix
 pub mod Answer
+pub mod MadeReply

@@ -6,13 +6,14 @@ ghost use Rattle.ore_bench.specs.InputEnd.{CountsFault, Takes};
 ghost use Rattle.ore_bench.specs.declared.input.InputEnd.TheVariants.{Memory};
 
 use ore_io::{Failed, Source};
+use ore_monomial::NoMemory;
 use std::alloc::{AllocError, Global};
 
 /// How many bytes are read at most in one call.
 const PIECE: usize = 4096;
 
 /// Why the input wasn't read to its end.
-#[derive(Clone, Copy, Debug, PartialEq, Eq)]
+#[derive(Clone, Copy, Debug, PartialEq, Eq, Drop)]
 pub enum InputEnd {
     Fault,
     TooLong,
@@ -23,6 +24,14 @@ impl From<AllocError> for InputEnd {
     ghost from_gives = { λ _ e. e ≡ Memory };
 
     fn from(_: AllocError) -> InputEnd {
+        InputEnd::Memory
+    }
+}
+
+impl From<NoMemory> for InputEnd {
+    ghost from_gives = { λ _ e. e ≡ Memory };
+
+    fn from(_: NoMemory) -> InputEnd {
         InputEnd::Memory
     }
 }

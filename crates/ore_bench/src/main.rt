@@ -5,29 +5,32 @@
 //! and bytes, over every source and every sink. `main` hands it the arguments and the standard
 //! streams, and ends with the status as a number.
 //!
-//! One command is built, `check`, for one form of input: the 13 lines of a problem with the row
-//! `e1, e2` over a coordinate `t` and its differential operator `d`, and of the certificate that
-//! the column `e3`, `e4` is a right inverse. Each entry is the canonical text of an operator with at
-//! most one term, whose coefficient is a whole number up to 999 and whose exponents are up to 9.
+//! One command is built, `check`, for one kind of certificate: the input is a problem, that is a
+//! system as a matrix of operators, and behind it the text of a right inverse of that matrix. The
+//! reply says whether it is one, or which line has a fault or fails a condition, or that a number or
+//! a degree leaves the program's range.
 //!
 //!  * `args`: the words.
 //!  * `input`, `output`: the loops that read the source and write to the sink.
-//!  * `entry`, `form`: the texts of an entry and of the 13 lines, read.
-//!  * `check`: the verdict on the bytes, by the product of operators.
+//!  * `reply`, `fault`: a reply with its text; the words of the faults of a problem.
+//!  * `equal`, `verify`: matrices compared; the conditions of a right inverse, in the ring that the
+//!    signature has.
+//!  * `check`: the reply to the bytes.
 //!  * `top`: the top call.
 //!
-//! The definitions are in `specs/`: `CanonicalText` and `Form` say what a text is, `Answer` what
-//! the program answers.
+//! `specs/Answer` says what the program answers.
 #![tactic(auto)]
 
 mod args;
 mod check;
-mod entry;
-mod form;
+mod equal;
+mod fault;
 mod input;
 mod output;
+mod reply;
 mod status;
 mod top;
+mod verify;
 
 use args::ArgList;
 use ore_io::{StreamSink, StreamSource};

@@ -9,8 +9,12 @@ pub enum Status {
     Invalid = 1,
     /// The words are no command.
     Words = 2,
-    /// The input isn't of the form that is read.
+    /// The input is no problem with a certificate behind it.
     Malformed = 3,
+    /// A number leaves the range of fractions.
+    Overflow = 4,
+    /// A degree is greater than 32,767.
+    Degree = 5,
     /// The source failed.
     ReadFault = 7,
     /// The sink failed.

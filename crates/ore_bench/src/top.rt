@@ -1,17 +1,18 @@
 //! The top call.
 
-ghost use Rattle.std.specs.Prelude.{◌≡◌, ◌≢◌, ◌<◌, ◌↔◌, IsTrue};
+ghost use Rattle.std.specs.Prelude.{◌≡◌, ◌≢◌, ◌⊎◌, ◌<◌, ◌↔◌, [], IsTrue, IfOk, IfSome};
 ghost use Rattle.ore_io.specs.Faults.{Rose};
-ghost use Rattle.ore_bench.specs.declared.status.Status.{Status as StatusOf};
-ghost use Rattle.ore_bench.specs.Answer.{IsKnown, IsDue, IsDueOnInput, IsAnswered, answer_text};
+ghost use Rattle.ore_bench.specs.Answer.{Reply as ReplyOf, IsKnown, IsDue, IsDueOnInput, IsAnswered, HoldsRightInverse};
+ghost use Rattle.ore_bench.specs.InputEnd.{CountsFault};
+ghost use Rattle.ore_bench.specs.MadeReply.{end_reply, given_reply, IsOfBytes};
 
 use crate::args::ArgList;
-use crate::check::verdict;
+use crate::check::check_reply;
 use crate::input::{InputEnd, read_input};
 use crate::output::write_text;
+use crate::reply::Reply;
 use crate::status::Status;
 use ore_io::{Failed, Sink, Source};
-use ore_monomial::NoMemory;
 use std::alloc::Global;
 
 /// How many bytes `check` reads at most: 32 MiB.
@@ -25,9 +26,12 @@ pub fn bench<S: Source, K: Sink>(
     sink: &mut K,
 ) -> Status
     // What is due is answered, by its status and its whole text, or the sink failed after a front of it.
-    ensures answer { (due : StatusOf) × IsDue words.now (S.left source.old) (S.left source.new) due
+    ensures answer { (due : ReplyOf) × IsDue words.now (S.left source.old) (S.left source.new) due
         × IsAnswered due result (K.written sink.old) (K.written sink.new) }
     ensures unread { ¬ IsKnown words.now → source.new ≡ source.old }
+
+    // A certificate that is called valid is one, over numbers of any size.
+    ensures valid { result ≡ Status.Done → IfSome (S.left source.old) HoldsRightInverse }
 
     ensures read_fault_only { result ≡ Status.ReadFault → Rose (S.faults source.old) (S.faults source.new) }
     ensures read_fault_where { S.faults source.old < S.faults source.new → result ≡ Status.ReadFault }
@@ -35,10 +39,12 @@ pub fn bench<S: Source, K: Sink>(
     ensures write_fault_where { K.faults sink.old < K.faults sink.new → result ≡ Status.WriteFault }
 {
     if !is_check(words) {
-        return respond(sink, Status::Words);
+        return respond(sink, Status::Words, b"unknown words\n");
     }
-    let due = due_on_input(alloc, source);
-    respond(sink, due)
+    match input_reply(alloc, source) {
+        Ok(reply) => respond(sink, reply.status, &reply.text),
+        Err(end) => respond(sink, end_status(end), end_text(end)),
+    }
 }
 
 fn is_check(words: &ArgList) -> bool
@@ -47,48 +53,49 @@ fn is_check(words: &ArgList) -> bool
     words.len() == 1 && words.word(0) == b"check".as_slice()
 }
 
-// The status that the input calls for.
-fn due_on_input<S: Source>(alloc: Global, source: &mut S) -> Status
-    ensures due { IsDueOnInput (S.left source.old) (S.left source.new) result }
-    ensures fault_only { result ≡ Status.ReadFault → Rose (S.faults source.old) (S.faults source.new) }
-    ensures fault_where { S.faults source.old < S.faults source.new → result ≡ Status.ReadFault }
-    ensures input_status { (result ≢ Status.Words) × (result ≢ Status.WriteFault) }
+// The reply that the input calls for, or why it wasn't read to its end.
+fn input_reply<S: Source>(alloc: Global, source: &mut S) -> Result<Reply, InputEnd>
+    ensures due { IsDueOnInput (S.left source.old) (S.left source.new) (given_reply result) }
+    ensures valid { IfOk result (λ r. r.status ≡ Status.Done → IfSome (S.left source.old) HoldsRightInverse) }
+    ensures of_bytes { IfOk result (λ r. IsOfBytes r.status) }
+    ensures fault { CountsFault result (S.faults source.old) (S.faults source.new) }
 {
-    match read_input(alloc, source, LIMIT) {
-        Ok(bytes) => match verdict(alloc, &bytes) {
-            Ok(status) => status,
-            Err(NoMemory) => Status::Memory,
-        },
-        Err(InputEnd::Fault) => Status::ReadFault,
-        Err(InputEnd::TooLong) => Status::TooLong,
-        Err(InputEnd::Memory) => Status::Memory,
+    let bytes = read_input(alloc, source, LIMIT)?;
+    let reply = check_reply(alloc, &bytes)?;
+    Ok(reply)
+}
+
+fn end_status(end: InputEnd) -> Status
+    ensures { result ≡ (end_reply end).status }
+{
+    match end {
+        InputEnd::Fault => Status::ReadFault,
+        InputEnd::TooLong => Status::TooLong,
+        InputEnd::Memory => Status::Memory,
+    }
+}
+
+fn end_text(end: InputEnd) -> &'static [u8]
+    ensures { result.now ≡ (end_reply end).text }
+{
+    match end {
+        InputEnd::TooLong => b"too long\n",
+        InputEnd::Fault | InputEnd::Memory => b"",
     }
 }
 
 // Writes the text of a status. Where the sink fails, the status is that of the failure.
-fn respond<K: Sink>(sink: &mut K, due: Status) -> Status
-    requires { due ≢ Status.WriteFault }
-    ensures answer { IsAnswered due result (K.written sink.old) (K.written sink.new) }
+fn respond<K: Sink>(sink: &mut K, status: Status, text: &[u8]) -> Status
+    requires { status ≢ Status.WriteFault }
+    ensures answer { IsAnswered (record { status = status; text = text.now }) result (K.written sink.old) (K.written sink.new) }
+    ensures either { (result ≡ status) ⊎ (result ≡ Status.WriteFault) }
     ensures fault_only { result ≡ Status.WriteFault → Rose (K.faults sink.old) (K.faults sink.new) }
     ensures fault_where { K.faults sink.old < K.faults sink.new → result ≡ Status.WriteFault }
-    ensures read_fault { due ≡ Status.ReadFault → result ≡ Status.ReadFault }
+    ensures nothing { text.now ≡ [] → result ≡ status }
 {
-    match write_text(sink, text_of(due)) {
-        Ok(()) => due,
+    match write_text(sink, text) {
+        Ok(()) => status,
         Err(Failed) => Status::WriteFault,
-    }
-}
-
-fn text_of(status: Status) -> &'static [u8]
-    ensures { result.now ≡ answer_text status }
-{
-    match status {
-        Status::Done => b"valid right-inverse\n",
-        Status::Invalid => b"invalid 13 identity\n",
-        Status::Words => b"unknown words\n",
-        Status::Malformed => b"malformed not-built\n",
-        Status::TooLong => b"too long\n",
-        Status::ReadFault | Status::WriteFault | Status::Memory => b"",
     }
 }
 

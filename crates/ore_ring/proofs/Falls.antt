@@ -4,16 +4,17 @@
 --     falls_none, falls_tail, falls_snoc     no terms, all but the first, one more at the end
 --     below_more, below_snoc  what is below all terms of a list
 --     falling-none            the operator zero has no terms
+--     single_falling          the one term of an operator
 use Rattle.std.proofs.Common.{◌≡◌, ◌≢◌, true≢false, Bool, true, false, ◌&&◌, T, [], ◌∷◌, ◌++◌, pos, refl, sym, subst}
 use Rattle.std.specs.declared.cmp.Ordering.{Ordering}
 use Rattle.std.specs.declared.cmp.Ordering.TheVariants.{Less, Equal, Greater}
 use Rattle.std.specs.Ordering.{is_lt}
 use Rattle.std.specs.FinMap.{is_sorted}
 use Rattle.std.specs.FinMap.Entries.{below_all}
-use Rattle.ore_rational.specs.Fraction.{whole}
+use Rattle.ore_rational.specs.Fraction.{Fraction, whole}
 use Rattle.ore_monomial.specs.Monomial.{Monomial, order_cmp, plain_cmp}
 use Rattle.ore_monomial.specs.declared.order.Order.{Order}
-use Rattle.ore_algebra.specs.Free.{none}
+use Rattle.ore_algebra.specs.Free.{none, single}
 use Rattle.ore_monomial.proofs.Monomials.{order_total}
 use Rattle.ore_rational.proofs.FractionLaws.{rationals}
 use Rattle.ore_ring.specs.Terms.{Term, Terms, falling, AreApart, IsFalling, IsBelowLast}
@@ -82,3 +83,7 @@ falls_snoc o ts t h b n = record { falls = sorted_snoc o ts t h.falls b; apart =
 pub falling-none : (o : Order) → falling o (none rationals plain_cmp) ≡ []
 unfolding none
 falling-none o = falling-collect o [] (falls_none o)
+
+pub single_falling : (o : Order) (m : Monomial) (x : Fraction) → x ≢ whole (pos 0) → falling o (single rationals plain_cmp m x) ≡ (m, x) ∷ []
+unfolding single
+single_falling o m x n = falling-collect o ((m, x) ∷ []) (falls_snoc o [] (m, x) (falls_none o) tt n)

@@ -27,9 +27,3 @@ pub mod AddTerm
 pub mod Wholes
 pub mod GatherSteps
 pub mod ProductSteps
-pub mod SmallProduct
-pub mod SmallNumbers
-pub mod SmallFalls
-pub mod SmallSteps
-pub mod OnlyTerm
-pub mod SmallSums

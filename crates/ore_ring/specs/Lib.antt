@@ -11,6 +11,3 @@ pub mod Place
 pub mod Gathered
 pub mod IsGathered
 pub mod Products
-pub mod Small
-pub mod SmallTerms
-pub mod OnlyTerm

@@ -28,7 +28,6 @@
 
 mod fraction;
 pub mod gather;
-pub mod letters;
 mod merge;
 pub mod multiply;
 pub mod op;
@@ -38,7 +37,6 @@ pub mod ring;
 pub mod sum;
 
 pub use gather::Gather;
-pub use letters::letter_product;
 pub use multiply::{Pass, times};
 pub use op::{Op, lead};
 pub use reverse::adjoint;

@@ -1,0 +1,79 @@
+//! Replies: a status, and what is written with it.
+
+ghost use Rattle.std.specs.Prelude.{◌≡◌, [], IfOk};
+ghost use Rattle.ore_bench.specs.Answer as answer;
+ghost use Rattle.ore_bench.specs.MadeReply.{reply_of};
+
+use crate::status::Status;
+use itoa::Buffer;
+use ore_monomial::NoMemory;
+use std::alloc::Global;
+
+/// A status and its text.
+#[derive(Drop)]
+pub struct Reply {
+    pub status: Status,
+    pub text: Vec<u8>,
+}
+
+/// The certificate is valid.
+pub fn valid(alloc: Global) -> Result<Reply, NoMemory>
+    ensures { IfOk result (λ r. reply_of r ≡ answer.valid) }
+{
+    Ok(Reply {
+        status: Status::Done,
+        text: Vec::from_slice(alloc, b"valid right-inverse\n")?,
+    })
+}
+
+/// The condition that is looked at on this line fails.
+pub fn invalid_at(alloc: Global, line: u128, word: &[u8]) -> Result<Reply, NoMemory>
+    ensures { IfOk result (λ r. reply_of r ≡ answer.invalid_at line word.now) }
+{
+    Ok(Reply {
+        status: Status::Invalid,
+        text: at_line(alloc, b"invalid ", line, word)?,
+    })
+}
+
+/// The input has a fault on this line.
+pub fn malformed_at(alloc: Global, line: u128, word: &[u8]) -> Result<Reply, NoMemory>
+    ensures { IfOk result (λ r. reply_of r ≡ answer.malformed_at line word.now) }
+{
+    Ok(Reply {
+        status: Status::Malformed,
+        text: at_line(alloc, b"malformed ", line, word)?,
+    })
+}
+
+/// A number leaves the range on this line.
+pub fn overflow_at(alloc: Global, line: u128) -> Result<Reply, NoMemory>
+    ensures { IfOk result (λ r. reply_of r ≡ answer.overflow_at line) }
+{
+    Ok(Reply {
+        status: Status::Overflow,
+        text: at_line(alloc, b"overflow ", line, b"")?,
+    })
+}
+
+/// A degree is too great on this line.
+pub fn degree_at(alloc: Global, line: u128) -> Result<Reply, NoMemory>
+    ensures { IfOk result (λ r. reply_of r ≡ answer.degree_at line) }
+{
+    Ok(Reply {
+        status: Status::Degree,
+        text: at_line(alloc, b"degree ", line, b"")?,
+    })
+}
+
+// A word, the number of a line, perhaps a word behind it, and a line end.
+fn at_line(alloc: Global, word: &[u8], line: u128, more: &[u8]) -> Result<Vec<u8>, NoMemory>
+    ensures { IfOk result (λ text. text.items ≡ answer.at_line word.now line more.now) }
+{
+    let mut buffer = Buffer::new();
+    let mut text = Vec::from_slice(alloc, word)?;
+    text.extend_from_slice(buffer.format(line).as_bytes())?;
+    text.extend_from_slice(more)?;
+    text.push(b'\n')?;
+    Ok(text)
+}
