@@ -6,9 +6,13 @@ ghost use Rattle.ore_ring.specs.Belongs.{Belongs};
 
 use crate::operators::{Term, mixed, operator};
 use ore_mixed::MixedRing;
-use ore_monomial::{Order, Signature};
+use ore_monomial::{Exps, Order, Signature};
+use ore_rational::Rational;
 use ore_ring::OreRing;
-use ore_rows::{Matrix, Row, combine, row_add, row_copy, row_sub, scale, times};
+use ore_rows::{
+    Matrix, Row, combine, identity, row_add, row_copy, row_lead, row_sub, scale, stack, times,
+    unit_row,
+};
 use std::alloc::Global;
 use std::test::Fail;
 
@@ -116,5 +120,38 @@ fn rows_and_matrices(rt: HostRuntime) -> Result<(), Fail> {
     assert_eq!(rt; product.rows(), 2);
     assert!(rt; equal(product.row(0), &combined));
     assert!(rt; equal(product.row(1), &other));
+    Ok(())
+}
+
+#[test]
+fn a_row_above_the_identity(rt: HostRuntime) -> Result<(), Fail> {
+    let ring = MixedRing::new(mixed(Order::DegRevLex)?);
+    let signature = OreRing::signature(&ring);
+    let z = row_of(signature, rt.alloc(), &[T], &[D])?;
+    let one = identity(rt.alloc(), signature, 2)?;
+    let m = stack(&ring, rt.alloc(), &z, &one)?;
+    assert_eq!(rt; m.rows(), 3);
+    assert_eq!(rt; m.cols(), 2);
+    assert!(rt; equal(m.row(0), &z));
+    let first = row_of(signature, rt.alloc(), &[ONE], &[])?;
+    assert!(rt; equal(m.row(1), &first));
+    assert!(rt; equal(&unit_row(rt.alloc(), signature, 2, 0)?, &first));
+    let second = row_of(signature, rt.alloc(), &[], &[ONE])?;
+    assert!(rt; equal(m.row(2), &second));
+    Ok(())
+}
+
+#[test]
+fn leads_of_rows(rt: HostRuntime) -> Result<(), Fail> {
+    let signature = mixed(Order::DegRevLex)?;
+    let t = Exps::from_list(&T.1)?;
+    // t is greater than d
+    let row = row_of(&signature, rt.alloc(), &[D], &[T])?;
+    assert!(rt; row_lead(&signature, &row) == Some((1, t, Rational::one())));
+    // of t and -t the first is greater
+    let row = row_of(&signature, rt.alloc(), &[T], &[MINUS_T])?;
+    assert!(rt; row_lead(&signature, &row) == Some((0, t, Rational::one())));
+    let zeros = row_of(&signature, rt.alloc(), &[], &[])?;
+    assert!(rt; row_lead(&signature, &zeros) == None);
     Ok(())
 }
