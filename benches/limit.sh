@@ -3,7 +3,7 @@
 # Run by hand: benches/limit.sh
 set -u
 here=$(cd "$(dirname "$0")/.." && pwd)
-"$here/orebench" check <"$here/examples/right-inverse.txt" >/dev/null || exit 1
+"$here/orebench" check <"$here/examples/differential.txt" >/dev/null || exit 1
 program=$here/crates/ore_bench/out/ore_bench
 input=$(mktemp)
 trap 'rm -f "$input"' EXIT
