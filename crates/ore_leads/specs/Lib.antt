@@ -1,0 +1,2 @@
+pub mod FirstDivisor
+pub mod StoredLeads
