@@ -3,10 +3,14 @@ pub mod Pairs
 pub mod Dots
 pub mod Columns
 pub mod RowLeads
+pub mod GreatestTerms
 pub mod LeadAppend
 pub mod LeadSteps
 pub mod Differences
 pub mod UnitRows
 pub mod RowModules
 pub mod StoredRows
+pub mod StoredBases
 pub mod WithinValues
+pub mod SoundArithmetic
+pub mod BasisParts

@@ -1,5 +1,6 @@
 -- What operations on rows and matrices within limits give.
 --     map_unlimited, most_map          of each item of a list: the values without limits; no further than without
+--     plus_most, times_most            sums and products of operators give what they give without limits, or stop
 --     scale_unlimited, sum_unlimited, difference_unlimited, dot_unlimited, combine_unlimited, product_unlimited
 --                                      without limits they give the values of `specs/Rows.antt`
 --     scale_at_most, sum_at_most, difference_at_most, dot_at_most, combine_at_most, product_at_most
@@ -46,10 +47,10 @@ in_words : {A : Type 0} (r t : Result A Cause) → Ring.IsAtMost r t → IsAtMos
 in_words (Ok x) t h = h
 in_words (Err e) t h = tt
 
-plus_most : (l : Limits) (f g : Operator rationals) → IsAtMost (plus_within l f g) (plus_within unlimited f g)
+pub plus_most : (l : Limits) (f g : Operator rationals) → IsAtMost (plus_within l f g) (plus_within unlimited f g)
 plus_most l f g = in_words (plus_within l f g) (plus_within unlimited f g) (Ring.plus_at_most l f g)
 
-times_most : (l : Limits) (s : Signature) (f g : Operator rationals) → IsAtMost (times_within l s f g) (times_within unlimited s f g)
+pub times_most : (l : Limits) (s : Signature) (f g : Operator rationals) → IsAtMost (times_within l s f g) (times_within unlimited s f g)
 times_most l s f g = in_words (times_within l s f g) (times_within unlimited s f g) (Ring.times_at_most l s f g)
 
 -- ---- sums and differences

@@ -1,6 +1,11 @@
 pub mod Rows
 pub mod Stored
+pub mod Arithmetic
 pub mod RowsWithin
 pub mod RowLead
 pub mod LeadFound
+pub mod Reduction
+pub mod StoredSteps
+pub mod StoredBasis
+pub mod Run
 pub mod Laws

@@ -16,20 +16,21 @@ use Rattle.ore_monomial.specs.Monomial.{plain_cmp}
 use Rattle.ore_monomial.specs.Signature.{Signature}
 use Rattle.ore_monomial.specs.LetterRule.{Operator}
 use Rattle.ore_ring.specs.Within.{plus_within, minus_within, times_within}
+use Rattle.ore_rows.specs.Arithmetic.{within, entry_by_entry, scaled}
 use Rattle.ore_rows.specs.Rows.{Row, column}
 
 -- the sums of the entries at one place, in order
 abbrev pub sum_within : Limits → Row rationals → Row rationals → Result (Row rationals) Cause
-sum_within l r q = map_within (λ p. plus_within l p.0 p.1) (zip r q)
+sum_within l r q = entry_by_entry (plus_within l) r q
 
 -- the differences of the entries at one place, in order
 abbrev pub difference_within : Limits → Row rationals → Row rationals → Result (Row rationals) Cause
-difference_within l r q = map_within (λ p. minus_within l p.0 p.1) (zip r q)
+difference_within l r q = entry_by_entry (minus_within l) r q
 
 module _ (l : Limits) (s : Signature) where
   -- f times each entry, in order
   abbrev pub scale_within : Operator rationals → Row rationals → Result (Row rationals) Cause
-  scale_within f r = map_within (times_within l s f) r
+  scale_within f r = scaled rationals (within l s) f r
 
   -- a product is added to a sum
   unfoldable pub product_added : Operator rationals → Operator rationals × Operator rationals → Result (Operator rationals) Cause

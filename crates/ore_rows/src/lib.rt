@@ -12,6 +12,9 @@
 //! is the one answer beside it. [`row_copy`] and [`stack`], which puts a row above a matrix, stop for want of
 //! memory alone.
 //!
+//! A [`Basis`] keeps rows with lead coefficient 1, each with a cofactor row and beside its lead. What it is seen as
+//! stands in `specs/StoredBasis.antt`.
+//!
 //! Contracts see a row as the list of its entries, and a matrix as its number of columns beside the list
 //! of its rows (`specs/Stored.antt`). Whoever holds a matrix can learn from [`Matrix::cols`] that its rows
 //! fit.
@@ -26,23 +29,35 @@
 //! lead and any other has one, what the lead of a multiple is, and that two rows with one lead and one
 //! coefficient differ by what is below it. `proofs/UnitRows.antt` has the laws of the identity.
 //!
+//! `specs/Reduction.antt` and `specs/Run.antt` define lead reduction and runs, over the arithmetic of
+//! `specs/Arithmetic.antt`, which is exact or stops at limits. The crates above meet these definitions. [`Steps`],
+//! [`Choices`] and [`Runs`] are the lists that they give and take. `proofs/GreatestTerms.antt` proves that the
+//! function `row_lead` of the definitions finds the lead, and `proofs/SoundArithmetic.antt` that within limits each
+//! operation on rows gives the exact value or stops.
+//!
 //! The law functions of [`laws`] say what the limits do: without limits a definition gives the value of
 //! `specs/Rows.antt`, and within limits it gives that value or stops.
 //!
-//! The crate stands on `ore_ring` for operators.
+//! The crate stands on `ore_ring` for operators, and on `ore_leads` for the first lead that divides a term.
 #![tactic(auto)]
 
+pub mod basis;
+pub mod choices;
 pub mod laws;
 pub mod lead;
 pub mod matrix;
 pub mod matrix_ops;
 pub mod row;
 pub mod row_ops;
+pub mod steps;
 pub mod units;
 
+pub use basis::Basis;
+pub use choices::{Choice, Choices, Runs};
 pub use lead::row_lead;
 pub use matrix::Matrix;
 pub use matrix_ops::{combine, stack, times};
 pub use row::Row;
 pub use row_ops::{row_add, row_copy, row_sub, scale};
+pub use steps::{Step, Steps};
 pub use units::{identity, unit_row};

@@ -1,0 +1,116 @@
+-- How the parts of a stored basis lie beside each other.
+--     length-with_leads, rows-with_leads, cofactors-with_leads, leads-with_leads
+--                            the parts of rows that stand beside their leads
+--     widths-with_leads      the widths that they have
+--     with_leads-push        one more row beside its lead
+--     no_lead_of_zeros       a row of zeros has no lead
+--     entry_at, width_at     what is read at a place; it has the widths that all have
+--     are_monic-push, all_belong-push    one more row with lead coefficient 1; one more of the signature
+--     stored_same, stored_push, basis_push    the same rows and leads; one more of each, and what is seen then
+use Rattle.std.proofs.Common.{◌≡◌, ℕ, zero, suc, pred, ◌+◌, ◌<◌, List, [], ◌∷◌, ◌++◌, length, map, get_or, refl, sym, ap, ◌∙◌, subst, arith}
+use Rattle.std.specs.List.{All, slice_get}
+use Rattle.std.specs.Option.{option_map}
+use Rattle.std.specs.declared.option.Option.TheVariants.{Some}
+use Rattle.std.proofs.lemmas.List.{length_push, map-append}
+use Rattle.std.proofs.lemmas.Option.{slice_get-map, slice_get-get_or}
+use Rattle.std.proofs.lemmas.List.Elements.{All-nil, All-cons, All-head, All-tail, All-push}
+use Rattle.ore_algebra.specs.Free.{none, coefficient}
+use Rattle.ore_rational.proofs.FractionLaws.{rationals}
+use Rattle.ore_rational.specs.Fraction.{Fraction}
+use Rattle.ore_monomial.specs.Monomial.{plain_cmp}
+use Rattle.ore_monomial.specs.Signature.{Signature}
+use Rattle.ore_monomial.specs.Term.{Term}
+use Rattle.ore_monomial.specs.declared.order.Order.{Order}
+use Rattle.ore_monomial.proofs.Operators
+use Rattle.ore_ring.specs.Belongs.{Belongs}
+use Rattle.ore_ring.specs.Ordered.{Ordered}
+use Rattle.ore_rows.specs.Reduction.{Monic, IsMonic, AreMonic, rows_of, cofactors_of, leads_of}
+use Rattle.ore_rows.specs.RowLead.{IsRowLead}
+use Rattle.ore_rows.specs.Stored.{IsZeroRow, sums_of}
+use Rattle.ore_rows.specs.StoredBasis.{StoredBasis, HaveWidths, AllBelong, monic_of, monics, with_leads, IsStored}
+use Rattle.ore_rows.specs.declared.basis.Entry.{Entry}
+
+pub length-with_leads : (es : List Entry) (ls : List Term) → length ls ≡ length es → length (with_leads es ls) ≡ length es
+length-with_leads [] [] h = refl
+length-with_leads [] (t ∷ ls) h = absurd (omega arith)
+length-with_leads (e ∷ es) [] h = absurd (omega arith)
+length-with_leads (e ∷ es) (t ∷ ls) h = ap suc (length-with_leads es ls (ap pred h))
+
+pub rows-with_leads : (es : List Entry) (ls : List Term) → length ls ≡ length es → rows_of (with_leads es ls) ≡ map (λ (e : Entry). e.row) es
+rows-with_leads [] [] h = refl
+rows-with_leads [] (t ∷ ls) h = absurd (omega arith)
+rows-with_leads (e ∷ es) [] h = absurd (omega arith)
+rows-with_leads (e ∷ es) (t ∷ ls) h = λ i. e.row ∷ rows-with_leads es ls (ap pred h) i
+
+pub cofactors-with_leads : (es : List Entry) (ls : List Term) → length ls ≡ length es → cofactors_of (with_leads es ls) ≡ map (λ (e : Entry). e.cofactor) es
+cofactors-with_leads [] [] h = refl
+cofactors-with_leads [] (t ∷ ls) h = absurd (omega arith)
+cofactors-with_leads (e ∷ es) [] h = absurd (omega arith)
+cofactors-with_leads (e ∷ es) (t ∷ ls) h = λ i. e.cofactor ∷ cofactors-with_leads es ls (ap pred h) i
+
+pub leads-with_leads : (es : List Entry) (ls : List Term) → length ls ≡ length es → leads_of (with_leads es ls) ≡ ls
+leads-with_leads [] [] h = refl
+leads-with_leads [] (t ∷ ls) h = absurd (omega arith)
+leads-with_leads (e ∷ es) [] h = absurd (omega arith)
+leads-with_leads (e ∷ es) (t ∷ ls) h = λ i. t ∷ leads-with_leads es ls (ap pred h) i
+
+pub with_leads-push : (es : List Entry) (ls : List Term) (e : Entry) (t : Term) → length ls ≡ length es → with_leads (es ++ e ∷ []) (ls ++ t ∷ []) ≡ with_leads es ls ++ record { row = e.row; cofactor = e.cofactor; lead = t } ∷ []
+with_leads-push [] [] e t h = refl
+with_leads-push [] (u ∷ ls) e t h = absurd (omega arith)
+with_leads-push (f ∷ es) [] e t h = absurd (omega arith)
+with_leads-push (f ∷ es) (u ∷ ls) e t h = λ i. record { row = f.row; cofactor = f.cofactor; lead = u } ∷ with_leads-push es ls e t (ap pred h) i
+
+pub no_lead_of_zeros : (o : Order) (r : List Ordered) (t : Term) (k : Fraction) → IsZeroRow r → IsRowLead rationals o (sums_of r) t k → ⊥
+no_lead_of_zeros o r t k z a = a.apart (sym a.stands ∙ ap (λ f. coefficient rationals plain_cmp f t.monomial) (zero_entry r t.column z) ∙ Operators.coefficient-none rationals t.monomial)
+  where
+    zero_entry : (r : List Ordered) (j : ℕ) → IsZeroRow r → get_or (sums_of r) j (none rationals plain_cmp) ≡ none rationals plain_cmp
+    zero_entry [] j z = refl
+    zero_entry (f ∷ r) zero z = All-head (λ (g : Ordered). g.sum ≡ none rationals plain_cmp) f r z
+    zero_entry (f ∷ r) (suc j) z = zero_entry r j (All-tail (λ (g : Ordered). g.sum ≡ none rationals plain_cmp) f r z)
+
+-- the rows that stand beside leads have the widths of the rows
+pub widths-with_leads : (n m : ℕ) (es : List Entry) (ls : List Term) → IsStored n m es ls → HaveWidths n m (with_leads es ls)
+widths-with_leads n m es ls a = by es ls a.long a.widths
+  where
+    Wide : Entry → Type 0
+    Wide e = (length e.row ≡ n) × (length e.cofactor ≡ m)
+
+    by : (es : List Entry) (ls : List Term) → length ls ≡ length es → All Wide es → HaveWidths n m (with_leads es ls)
+    by [] [] h w = All-nil (λ b. (length b.row ≡ n) × (length b.cofactor ≡ m))
+    by [] (t ∷ ls) h w = absurd (omega arith)
+    by (e ∷ es) [] h w = absurd (omega arith)
+    by (e ∷ es) (t ∷ ls) h w = All-cons (λ b. (length b.row ≡ n) × (length b.cofactor ≡ m)) _ _ (All-head Wide e es w) (by es ls (ap pred h) (All-tail Wide e es w))
+
+-- ---- reading an entry
+
+pub entry_at : {B : Type 0} (f : Entry → B) (es : List Entry) (k : ℕ) (e : Entry) → k < length es → e ≡ get_or es k e → slice_get (map f es) k ≡ Some (f e)
+entry_at f es k e l h = slice_get-map f es k ∙ ap (option_map f) (slice_get-get_or es k e l ∙ ap Some (sym h))
+
+pub width_at : (n m : ℕ) (es : List Entry) (k : ℕ) (e : Entry) → k < length es → e ≡ get_or es k e → All (λ e. (length e.row ≡ n) × (length e.cofactor ≡ m)) es → (length e.row ≡ n) × (length e.cofactor ≡ m)
+width_at n m es k e l h a = subst (λ (x : Entry). (length x.row ≡ n) × (length x.cofactor ≡ m)) (sym h) (a k e l)
+
+-- ---- one more entry
+
+pub stored_same : (n m : ℕ) (es fs : List Entry) (ls us : List Term) → fs ≡ es → us ≡ ls → IsStored n m es ls → IsStored n m fs us
+stored_same n m es fs ls us h k a = subst (λ (x : List Entry). IsStored n m x us) (sym h) (subst (λ (x : List Term). IsStored n m es x) (sym k) a)
+
+pub stored_push : (n m : ℕ) (es : List Entry) (ls : List Term) (e : Entry) (t : Term) → length e.row ≡ n → length e.cofactor ≡ m → IsStored n m es ls → IsStored n m (es ++ e ∷ []) (ls ++ t ∷ [])
+stored_push n m es ls e t h k a = record {
+  long = length_push ls t ∙ ap (λ j. j + 1) a.long ∙ sym (length_push es e);
+  widths = All-push (λ (x : Entry). (length x.row ≡ n) × (length x.cofactor ≡ m)) es e a.widths (h, k);
+}
+
+pub basis_push : (b : StoredBasis) (n m : ℕ) (es fs : List Entry) (ls us : List Term) (e : Entry) (t : Term) → record { cols = n; width = m; items = with_leads es ls } ≡ b → fs ≡ es ++ e ∷ [] → us ≡ ls ++ t ∷ [] → length ls ≡ length es
+    → record { cols = n; width = m; items = with_leads fs us } ≡ record b { items = b.items ++ record { row = e.row; cofactor = e.cofactor; lead = t } ∷ [] }
+basis_push b n m es fs ls us e t v h k l =
+    (λ i. record { cols = n; width = m; items = with_leads (h i) (k i) })
+    ∙ (λ i. record { cols = n; width = m; items = with_leads-push es ls e t l i })
+    ∙ (λ i. record (v i) { items = (v i).items ++ record { row = e.row; cofactor = e.cofactor; lead = t } ∷ [] })
+
+-- a basis stays one of rows with lead coefficient 1
+pub are_monic-push : (o : Order) (b : StoredBasis) (m : Monic (List Ordered)) → AreMonic rationals o (monics b) → IsMonic rationals o (monic_of m) → AreMonic rationals o (monics (record b { items = b.items ++ m ∷ [] }))
+are_monic-push o b m a h = subst (AreMonic rationals o) (sym (map-append monic_of b.items (m ∷ []))) (All-push (IsMonic rationals o) (monics b) (monic_of m) a h)
+
+-- and of rows of a signature
+pub all_belong-push : (s : Signature) (b : StoredBasis) (m : Monic (List Ordered)) → AllBelong s b.items → All (Belongs s) m.row → All (Belongs s) m.cofactor → AllBelong s (b.items ++ m ∷ [])
+all_belong-push s b m a h k = All-push (λ (x : Monic (List Ordered)). All (Belongs s) x.row × All (Belongs s) x.cofactor) b.items m a (h, k)

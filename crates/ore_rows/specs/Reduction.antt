@@ -1,0 +1,135 @@
+-- Lead reduction of a row by rows with lead coefficient 1: always by the least index whose lead divides.
+-- (Buchberger 1965; in algebras of this kind Kandri-Rody and Weispfenning 1990.)
+--     Monic                        a row of a basis, its cofactor row and its lead; R is what its rows are
+--     IsMonic, AreMonic            the lead has the coefficient 1
+--     rows_of, cofactors_of, leads_of    the parts of some such rows
+--     origin, row_at, lead_at      a term; the row, and the lead, at a place
+--     Step                         a fraction times a monomial times the row at an index
+--     step_operator                the fraction times the monomial
+--     Work                         a row, its cofactor row, and the steps that made them
+--     after                        what is left of a row when steps are taken from it
+--     next_step                    the step that a row calls for, if a lead divides its lead
+--     less_multiple                a row less a multiple of another
+--     subtract                     a row and its cofactor row, less a step
+--     reduce_once                  the step that the row calls for, if there is one
+--     reduce_in                    so many times
+--     room                         more steps than a row can call for
+--     reduce                       until the row calls for none
+use Rattle.std.specs.Prelude.{ℕ, zero, suc, ◌+◌, ◌^◌, List, [], ◌∷◌, ◌++◌, length, map, get_or}
+use Rattle.std.specs.List.{All}
+use Rattle.std.specs.Option.{option_map}
+use Rattle.std.specs.declared.option.Option.{Option}
+use Rattle.std.specs.declared.option.Option.TheVariants.{None, Some}
+use Rattle.std.specs.declared.result.Result.{Result}
+use Rattle.std.specs.declared.result.Result.TheVariants.{Ok}
+use Rattle.ore_algebra.specs.Domain.{Domain}
+use Rattle.ore_algebra.specs.Free.{single}
+use Rattle.ore_algebra.specs.Limits.{Cause, ◌>>=◌}
+use Rattle.ore_monomial.specs.Monomial.{Monomial, degree, unit, quotient, plain_cmp}
+use Rattle.ore_monomial.specs.Signature.{Signature}
+use Rattle.ore_monomial.specs.Term.{Term}
+use Rattle.ore_monomial.specs.declared.order.Order.{Order}
+use Rattle.ore_monomial.specs.LetterRule.{Operator}
+use Rattle.ore_leads.specs.FirstDivisor.{first_divisor}
+use Rattle.ore_rows.specs.Rows.{Row, row_minus, row_scale}
+use Rattle.ore_rows.specs.RowLead.{coefficient_at, IsRowLead, row_lead}
+use Rattle.ore_rows.specs.Arithmetic.{Arithmetic, scaled, less}
+
+-- ---- rows with lead coefficient 1
+
+pub record Monic (R : Type 0) : Type 0 where
+  pub row : R
+  pub cofactor : R
+  pub lead : Term
+
+-- the lead of the row is the one that is noted, and its coefficient is 1
+abbrev pub IsMonic : (K : Domain) → Order → Monic (Row K) → Type 0
+IsMonic K o b = IsRowLead K o b.row b.lead K.one
+
+abbrev pub AreMonic : (K : Domain) → Order → List (Monic (Row K)) → Type 0
+AreMonic K o basis = All (IsMonic K o) basis
+
+abbrev pub rows_of : {R : Type 0} → List (Monic R) → List R
+rows_of basis = map (λ b. b.row) basis
+
+abbrev pub cofactors_of : {R : Type 0} → List (Monic R) → List R
+cofactors_of basis = map (λ b. b.cofactor) basis
+
+abbrev pub leads_of : {R : Type 0} → List (Monic R) → List Term
+leads_of basis = map (λ b. b.lead) basis
+
+-- the monomial 1 in the first column
+abbrev pub origin : Term
+origin = record { monomial = unit; column = 0 }
+
+-- the row at place i, and the empty row past the last
+abbrev pub row_at : {K : Domain} → List (Row K) → ℕ → Row K
+row_at rows i = get_or rows i []
+
+-- the lead at place i
+abbrev pub lead_at : {R : Type 0} → List (Monic R) → ℕ → Term
+lead_at basis i = get_or (leads_of basis) i origin
+
+-- ---- steps
+
+pub record Step (K : Domain) : Type 0 where
+  pub index : ℕ
+  pub monomial : Monomial
+  pub number : K.Number
+
+pub record Work (K : Domain) : Type 0 where
+  pub row : Row K
+  pub cofactor : Row K
+  pub steps : List (Step K)
+
+-- the operator that a step multiplies with
+abbrev pub step_operator : (K : Domain) → Step K → Operator K
+step_operator K t = single K plain_cmp t.monomial t.number
+
+-- z less each step times its row, in order
+unfoldable pub after : (K : Domain) → Signature → List (Row K) → List (Step K) → Row K → Row K
+after K s rows [] z = z
+after K s rows (t ∷ ts) z = after K s rows ts (row_minus K z (row_scale K s (step_operator K t) (row_at rows t.index)))
+
+module _ (K : Domain) (o : Order) where
+  -- the step that takes the term u of the row r away, by the basis row at place i
+  abbrev pub step_by : List (Monic (Row K)) → Row K → Term → ℕ → Step K
+  step_by basis r u i = record { index = i; monomial = quotient u.monomial (lead_at basis i).monomial; number = coefficient_at K r u }
+
+  -- the step that takes the lead away, by the first basis row whose lead divides it
+  unfoldable pub next_step : List (Monic (Row K)) → Row K → Option (Step K)
+  next_step basis r = elim (row_lead K o r) [ None ↦ None | Some u ↦ option_map (step_by basis r u) (first_divisor (leads_of basis) u) ]
+
+  -- how many terms there may be that are not above the lead of a row
+  unfoldable pub room : Row K → ℕ
+  room r = elim (row_lead K o r) [ None ↦ 0 | Some u ↦ (degree u.monomial + length r + 1) ^ 14 ]
+
+module _ (K : Domain) (A : Arithmetic K) where
+  -- d times the row b is taken from the row r
+  unfoldable pub less_multiple : Operator K → Row K → Row K → Result (Row K) Cause
+  less_multiple d b r = do
+    multiple ← scaled K A d b
+    less K A r multiple
+
+  -- the step times the basis row is taken from the row, and then the step times its cofactor row from the cofactor row
+  unfoldable pub subtract : List (Monic (Row K)) → Step K → Work K → Result (Work K) Cause
+  subtract basis t w = do
+    row ← less_multiple (step_operator K t) (row_at (rows_of basis) t.index) w.row
+    cofactor ← less_multiple (step_operator K t) (row_at (cofactors_of basis) t.index) w.cofactor
+    Ok (record { row = row; cofactor = cofactor; steps = w.steps ++ t ∷ [] })
+
+module _ (K : Domain) (o : Order) (A : Arithmetic K) where
+  -- the step that the row calls for; nothing where it calls for none
+  unfoldable pub reduce_once : List (Monic (Row K)) → Work K → Result (Work K) Cause
+  reduce_once basis w = elim (next_step K o basis w.row) [ None ↦ Ok w | Some t ↦ subtract K A basis t w ]
+
+  -- n such steps
+  unfoldable pub reduce_in : ℕ → List (Monic (Row K)) → Work K → Result (Work K) Cause
+  reduce_in zero basis w = Ok w
+  reduce_in (suc n) basis w = do
+    next ← reduce_once basis w
+    reduce_in n basis next
+
+  -- each step makes the lead smaller, so in that many steps the row comes to call for none
+  unfoldable pub reduce : List (Monic (Row K)) → Work K → Result (Work K) Cause
+  reduce basis w = reduce_in (room K o w.row) basis w

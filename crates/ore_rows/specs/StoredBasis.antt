@@ -1,0 +1,59 @@
+-- What contracts see of a stored basis: rows and cofactor rows beside their leads.
+--     StoredBasis             the numbers of columns and of cofactors, and the basis rows
+--     monics                  the basis rows, of plain operators: what the definitions of reduction speak of
+--     HaveWidths              each row has one entry a column, and each cofactor row its number of entries
+--     AllBelong               each entry belongs to a signature
+--     with_leads              rows and cofactor rows, each beside its lead
+--     IsStored                there is a lead for each row, and the rows have their widths
+--     basis_code              the code of a basis as lists of numbers
+use Rattle.std.specs.Prelude.{◌≡◌, ℕ, List, map, length, refl}
+use Rattle.std.specs.List.{All, zip}
+use Rattle.std.specs.Coded.{Coded, coded×, coded_list, coded_ℕ, code_by}
+use Rattle.ore_rational.proofs.FractionLaws.{rationals}
+use Rattle.ore_monomial.specs.Monomial.{Monomial}
+use Rattle.ore_monomial.specs.MonomialCode.{monomial_code}
+use Rattle.ore_monomial.specs.Signature.{Signature}
+use Rattle.ore_monomial.specs.Term.{Term}
+use Rattle.ore_ring.specs.Ordered.{Ordered}
+use Rattle.ore_ring.specs.Belongs.{Belongs}
+use Rattle.ore_rows.specs.Rows.{Row}
+use Rattle.ore_rows.specs.Reduction.{Monic}
+use Rattle.ore_rows.specs.Stored.{sums_of, row_code}
+use Rattle.ore_rows.specs.declared.basis.Entry.{Entry}
+
+pub record StoredBasis : Type 0 where
+  pub cols : ℕ
+  pub width : ℕ
+  pub items : List (Monic (List Ordered))
+
+-- a basis row without the orders
+abbrev pub monic_of : Monic (List Ordered) → Monic (Row rationals)
+monic_of b = record { row = sums_of b.row; cofactor = sums_of b.cofactor; lead = b.lead }
+
+-- the basis rows, without the orders
+abbrev pub monics : StoredBasis → List (Monic (Row rationals))
+monics b = map monic_of b.items
+
+-- a row has n entries, and its cofactor row m
+abbrev pub HaveWidths : ℕ → ℕ → List (Monic (List Ordered)) → Type 0
+HaveWidths n m items = All (λ b. (length b.row ≡ n) × (length b.cofactor ≡ m)) items
+
+-- each entry of a row and of a cofactor row belongs to the signature
+abbrev pub AllBelong : Signature → List (Monic (List Ordered)) → Type 0
+AllBelong s items = All (λ b. All (Belongs s) b.row × All (Belongs s) b.cofactor) items
+
+-- ---- how it is stored
+
+-- each row and its cofactor row with the lead at their place
+abbrev pub with_leads : List Entry → List Term → List (Monic (List Ordered))
+with_leads rows leads = map (λ p. record { row = p.0.row; cofactor = p.0.cofactor; lead = p.1 }) (zip rows leads)
+
+pub record IsStored (cols width : ℕ) (rows : List Entry) (leads : List Term) : Type 0 where
+  pub long : length leads ≡ length rows
+  pub widths : All (λ e. (length e.row ≡ cols) × (length e.cofactor ≡ width)) rows
+
+abbrev pub monic_code : Coded (Monic (List Ordered))
+monic_code = code_by ((List Ordered × List Ordered) × (Monomial × ℕ)) (coded× (coded× row_code row_code) (coded× monomial_code coded_ℕ)) (λ b. ((b.row, b.cofactor), (b.lead.monomial, b.lead.column))) (λ p. record { row = p.0.0; cofactor = p.0.1; lead = record { monomial = p.1.0; column = p.1.1 } }) (λ _. refl)
+
+abbrev pub basis_code : Coded StoredBasis
+basis_code = code_by ((ℕ × ℕ) × List (Monic (List Ordered))) (coded× (coded× coded_ℕ coded_ℕ) (coded_list monic_code)) (λ b. ((b.cols, b.width), b.items)) (λ p. record { cols = p.0.0; width = p.0.1; items = p.1 }) (λ _. refl)
