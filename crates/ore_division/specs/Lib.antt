@@ -1,0 +1,2 @@
+pub mod StoredWork
+pub mod Laws
