@@ -1,0 +1,17 @@
+pub mod RowSums
+pub mod Places
+pub mod Tails
+pub mod Near
+pub mod Close
+pub mod Products
+pub mod Top
+pub mod Moved
+pub mod Central
+pub mod PairCount
+pub mod Syzygies
+pub mod Generate
+pub mod Bases
+pub mod Exact
+pub mod Outside
+pub mod Examples
+pub mod StoredPairs

@@ -1,0 +1,5 @@
+pub mod Steps
+pub mod PairList
+pub mod Blocks
+pub mod Laws
+pub mod Listed

@@ -1,0 +1,59 @@
+-- A monic basis beside its leads, the steps of a reduction by it, and the row of a pair of its rows. Each is said of
+-- any matrix m that has a row for each basis row: at m = basis it is a row of the module, at unit rows it is the row
+-- of cofactors of that.
+-- (S-polynomials and syzygies from them: Buchberger 1965, Schreyer 1980; for modules Kreuzer and Robbiano 2000.)
+--     row_at, lead_at            row i of a matrix (of ore_rows), and the lead of basis row i
+--     AreLeads                   terms that are the leads of a basis, row by row, each with coefficient 1
+--     Step, after                a term by which a basis row is multiplied and then taken away, and what such steps
+--                                leave of a row (of ore_rows)
+--     step_row                   what one step takes away
+--     pair_term                  the common multiple of a pair: the least of its two leads, in their column
+--     raised                     a row of m times the monomial that takes its lead to a multiple of it
+--     s_row                      the raised rows of a pair, one less the other
+--     syzygy                     what steps leave of the pair's row of cofactors
+--     AreStepsOf                 the monomials of steps are of a signature
+use Rattle.std.specs.Prelude.{◌≡◌, ℕ, ◌<◌, List, length, get_or}
+use Rattle.std.specs.List.{AllByRecursion}
+use Rattle.ore_algebra.specs.Domain.{Domain}
+use Rattle.ore_algebra.specs.Free.{single}
+use Rattle.ore_monomial.specs.Monomial.{Monomial, unit, plain_cmp, lcm, quotient}
+use Rattle.ore_monomial.specs.Term.{Term}
+use Rattle.ore_monomial.specs.declared.order.Order.{Order}
+use Rattle.ore_monomial.specs.Signature.{Signature, MonomialOf}
+use Rattle.ore_rows.specs.Rows.{Row, row_minus, row_scale, identity_rows}
+use Rattle.ore_rows.specs.RowLead.{IsRowLead}
+pub use Rattle.ore_rows.specs.Reduction.{Step, row_at}
+unfoldable pub use Rattle.ore_rows.specs.Reduction.{after}
+
+abbrev pub lead_at : List Term → ℕ → Term
+lead_at leads i = get_or leads i (record { monomial = unit; column = 0 })
+
+-- there is one lead for each row, and the lead of a row has the coefficient 1
+pub record AreLeads (K : Domain) (o : Order) (basis : List (Row K)) (leads : List Term) : Type 0 where
+  pub long : length leads ≡ length basis
+  pub monic : (i : ℕ) → i < length basis → IsRowLead K o (row_at basis i) (lead_at leads i) K.one
+
+-- each step's monomial is of the signature
+abbrev pub AreStepsOf : (K : Domain) → Signature → List (Step K) → Type 0
+AreStepsOf K s steps = AllByRecursion (λ (t : Step K). MonomialOf s t.monomial) steps
+
+-- the least common multiple of the leads of rows i and j, in the column of the first
+abbrev pub pair_term : List Term → ℕ → ℕ → Term
+pair_term leads i j = record { monomial = lcm (lead_at leads i).monomial (lead_at leads j).monomial; column = (lead_at leads i).column }
+
+module _ (K : Domain) (s : Signature) where
+  -- the step's term times the row of m at its index: what the step takes away
+  abbrev pub step_row : List (Row K) → Step K → Row K
+  step_row m t = row_scale K s (single K plain_cmp t.monomial t.number) (row_at m t.index)
+
+  -- row i of m times the monomial that takes the lead of basis row i to c
+  abbrev pub raised : List Term → List (Row K) → Monomial → ℕ → Row K
+  raised leads m c i = row_scale K s (single K plain_cmp (quotient c (lead_at leads i).monomial) K.one) (row_at m i)
+
+  -- row i less row j of m, both raised to the pair's common multiple
+  unfoldable pub s_row : List Term → List (Row K) → ℕ → ℕ → Row K
+  s_row leads m i j = row_minus K (raised leads m (pair_term leads i j).monomial i) (raised leads m (pair_term leads i j).monomial j)
+
+  -- what the steps leave of the pair's row, at the n unit rows
+  abbrev pub syzygy : ℕ → List Term → ℕ → ℕ → List (Step K) → Row K
+  syzygy n leads i j steps = after K s (identity_rows K n) steps (s_row leads (identity_rows K n) i j)

@@ -1,0 +1,39 @@
+//! Pairs of rows of a Gröbner basis, and what a list of them proves.
+//!
+//! A basis here is a list of rows whose lead coefficients are 1, beside their leads
+//! (`specs/Steps.antt`). Two of its rows with leads in one column are a pair. Raised to the common
+//! multiple of their leads and subtracted, they are the pair's row. A list of pairs is lawful
+//! (`specs/PairList.antt`) where each pair in it was treated, which means that multiples of basis
+//! rows below the common multiple were taken from its row until nothing was left, or skipped via a
+//! third row whose lead divides the common multiple and whose pairs with both are listed before.
+//! The cofactors of what was taken are the pair's syzygy.
+//!
+//! Proved of a lawful list in which each pair stands, over any domain of numbers, for either order
+//! of monomials, where the basis and the steps are of a signature (`proofs/Generate.antt`):
+//!
+//! - the syzygies of the treated pairs generate all rows of cofactors of the signature that take the
+//!   basis to zeros (`syzygies_generate`), and so any module that has them has all (`kernel_member`);
+//! - the lead of each member of the basis's row module is divided by a basis lead of its column
+//!   (`leads_divide`).
+//!
+//! That each pair stands in a list is seen by counting (`proofs/PairCount.antt`). A certificate shows
+//! such a list in a block (`specs/Blocks.antt`): an exact block shows that the rows which take a
+//! matrix to zeros are the row module of another, an outside block that a row is not in the row
+//! module of a matrix. The law functions of [`laws`] say so of every block that meets its conditions.
+//! `proofs/Examples.antt` has blocks that do.
+//!
+//! The code is what a run needs of pairs. [`common`] is the least common multiple of two leads,
+//! [`s_row`] the combination of a pair with its cofactor row, [`may_skip`] the test whether a pair may
+//! be skipped by way of a third row. They meet the definitions of `ore_rows/specs/Run.antt`, `s_row`
+//! at the limits of the program. [`Listed`] keeps the pairs that were dealt with in an ordered set.
+//!
+//! The crate stands on `ore_rows` for rows, row modules, their leads and bases, on `ore_leads` for the
+//! leads of a basis, and on `ore_ring` for operators.
+#![tactic(auto)]
+
+pub mod laws;
+pub mod listed;
+pub mod pairs;
+
+pub use listed::Listed;
+pub use pairs::{common, may_skip, s_row};

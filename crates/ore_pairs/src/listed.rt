@@ -1,0 +1,57 @@
+//! The pairs that a run has dealt with.
+
+ghost use Rattle.std.specs.Prelude.{◌≡◌, ◌<◌, ◌&&◌, ◌||◌, ℕ, [], nat_eq, IfOk, IfErr};
+ghost use Rattle.ore_pairs.specs.Listed.{is_in};
+
+use ore_monomial::NoMemory;
+use std::alloc::Global;
+use std::collections::BTreeSet;
+use std::marker::Model;
+
+/// The pairs of basis rows that a run has treated or skipped, each by the places of its rows, the lesser first.
+#[derive(Drop)]
+pub struct Listed {
+    pairs: BTreeSet<(usize, usize)>,
+}
+
+impl Model for Listed {
+    ghost use Rattle.std.specs.Prelude.{List, ℕ};
+    ghost use Rattle.ore_pairs.specs.Listed.{pairs_code};
+
+    ghost Value = { List (ℕ × ℕ) };
+
+    ghost coded = { pairs_code };
+
+    ghost view = { λ a. a.pairs.keys };
+}
+
+impl Listed {
+    /// No pairs.
+    pub fn new(alloc: Global) -> Listed
+        ensures { result ≡ [] }
+    {
+        Listed {
+            pairs: BTreeSet::new(alloc),
+        }
+    }
+
+    /// Whether the pair is listed.
+    pub fn has(&self, i: usize, j: usize) -> bool
+        ensures { result ≡ is_in i j self.now }
+    {
+        self.pairs.contains(&(i, j))
+    }
+
+    /// The pair is listed, if it wasn't before.
+    ///
+    /// # Errors
+    /// Want of memory. Then nothing has changed.
+    pub fn add(&mut self, i: usize, j: usize) -> Result<(), NoMemory>
+        requires { i < j }
+        ensures added { IfOk result (λ _. (x y : ℕ) → is_in x y self.new ≡ ((nat_eq x i && nat_eq y j) || is_in x y self.old)) }
+        ensures kept { IfErr result (λ _. self.new ≡ self.old) }
+    {
+        self.pairs.insert((i, j))?;
+        Ok(())
+    }
+}
