@@ -1,0 +1,160 @@
+-- What is said of the first rows of a basis is said of a longer one.
+--     SameRows, SameLeads      the first of some rows, and of their leads, are those of others
+--     within_steps             steps below a term are by rows that are there
+--     combined, s_row_is       the combination of two rows with their leads is the row of a pair
+--     after_same, s_row_same, left_same    steps, pairs, and what steps leave of a pair, by the first rows
+--     pair_same, new_same, below_same, skipped_same, treated_same    pairs of the first rows
+--     lawful_same, shown_same  lists of pairs, and what they show of cofactor rows
+--     inside_map, map_inside, map_longer, map_grow, map_last    places in what is made of each item of a list
+--     module_more, module_added    a row module with more rows has all that it had, and these rows
+use Rattle.std.proofs.Common.{◌≡◌, ℕ, zero, suc, ◌<◌, ◌≤◌, List, [], ◌∷◌, ◌++◌, length, map, get_or, refl, sym, ap, ◌∙◌, subst, arith}
+use Rattle.std.specs.List.{AllByRecursion}
+use Rattle.std.proofs.ByRecursion.{All-append, All-from_get_or, All-get_or}
+use Rattle.std.proofs.lemmas.List.{length-append, length-map}
+use Rattle.ore_algebra.specs.Domain.{Domain}
+use Rattle.ore_algebra.specs.Free.{single}
+use Rattle.ore_monomial.specs.Monomial.{Divides, lcm, quotient, plain_cmp}
+use Rattle.ore_monomial.specs.Signature.{Signature, IsLawful}
+use Rattle.ore_monomial.specs.Term.{Term, term_cmp, shift}
+use Rattle.ore_monomial.specs.declared.order.Order.{Order}
+use Rattle.ore_rows.specs.Rows.{Row, AreLong, row_minus, row_scale, InRowModule}
+use Rattle.ore_rows.specs.Reduction.{Step, row_at, step_operator, after}
+use Rattle.ore_rows.proofs.RowModules.{module_row, module_combine}
+use Rattle.ore_pairs.specs.Steps.{lead_at, pair_term, s_row}
+use Rattle.ore_pairs.specs.PairList.{Entry, Pair, Skip, IsNewPair, IsBelowStep, IsTreated, IsSkipped, AreLawful}
+use Rattle.ore_pairs.proofs.Syzygies.{AreStepsWithin, IsWithin}
+use Rattle.ore_groebner.specs.RunLaws.{IsShown}
+
+abbrev pub SameRows : {K : Domain} → ℕ → List (Row K) → List (Row K) → Type 0
+SameRows n rows more = (i : ℕ) → i < n → row_at more i ≡ row_at rows i
+
+abbrev pub SameLeads : ℕ → List Term → List Term → Type 0
+SameLeads n leads more = (i : ℕ) → i < n → lead_at more i ≡ lead_at leads i
+
+pub within_steps : (K : Domain) (o : Order) (leads : List Term) (t : Term) (steps : List (Step K)) → AllByRecursion (IsBelowStep K o leads t) steps → AreStepsWithin K (length leads) steps
+within_steps K o leads t [] h = tt
+within_steps K o leads t (step ∷ steps) h = (h.0.within, within_steps K o leads t steps h.1)
+
+module _ (K : Domain) (s : Signature) where
+  pub after_same : (n : ℕ) (rows more : List (Row K)) → SameRows n rows more → (steps : List (Step K)) (z : Row K) → AreStepsWithin K n steps → after K s more steps z ≡ after K s rows steps z
+  unfolding after
+  after_same n rows more same [] z h = refl
+  after_same n rows more same (t ∷ ts) z h = ap (λ r. after K s more ts (row_minus K z (row_scale K s (step_operator K t) r))) (same t.index h.0) ∙ after_same n rows more same ts _ h.1
+
+  -- the combination of two rows with these leads
+  abbrev pub combined : Term → Term → Row K → Row K → Row K
+  combined t u r q = row_minus K (row_scale K s (single K plain_cmp (quotient (lcm t.monomial u.monomial) t.monomial) K.one) r) (row_scale K s (single K plain_cmp (quotient (lcm t.monomial u.monomial) u.monomial) K.one) q)
+
+  pub s_row_is : (rows : List (Row K)) (leads : List Term) (i j : ℕ) → s_row K s leads rows i j ≡ combined (lead_at leads i) (lead_at leads j) (row_at rows i) (row_at rows j)
+  unfolding s_row
+  s_row_is rows leads i j = refl
+
+  pub s_row_same : (n : ℕ) (rows more : List (Row K)) (leads longer : List Term) → SameRows n rows more → SameLeads n leads longer → (i j : ℕ) → i < n → j < n → s_row K s longer more i j ≡ s_row K s leads rows i j
+  unfolding s_row
+  s_row_same n rows more leads longer same_rows same_leads i j il jl = λ k. combined (same_leads i il k) (same_leads j jl k) (same_rows i il k) (same_rows j jl k)
+
+  -- steps and a pair together
+  pub left_same : (n : ℕ) (rows more : List (Row K)) (leads longer : List Term) → SameRows n rows more → SameLeads n leads longer → (i j : ℕ) (steps : List (Step K)) → i < n → j < n → AreStepsWithin K n steps
+      → after K s more steps (s_row K s longer more i j) ≡ after K s rows steps (s_row K s leads rows i j)
+  left_same n rows more leads longer same_rows same_leads i j steps il jl h =
+      ap (after K s more steps) (s_row_same n rows more leads longer same_rows same_leads i j il jl) ∙ after_same n rows more same_rows steps _ h
+
+  module _ (leads longer : List Term) (same_leads : SameLeads (length leads) leads longer) (long : length leads ≤ length longer) where
+    pub pair_same : (i j : ℕ) → i < length leads → j < length leads → pair_term longer i j ≡ pair_term leads i j
+    pair_same i j il jl = λ k. record { monomial = lcm (same_leads i il k).monomial (same_leads j jl k).monomial; column = (same_leads i il k).column }
+
+    pub new_same : (before : List (Entry K)) (i j : ℕ) → IsNewPair K leads before i j → IsNewPair K longer before i j
+    new_same before i j new =
+        let il : i < length leads = let a = new.ordered in let b = new.within in omega arith in
+        record {
+          ordered = new.ordered;
+          within = let b = new.within in omega arith;
+          columns = ap (λ (t : Term). t.column) (same_leads i il) ∙ new.columns ∙ ap (λ (t : Term). t.column) (sym (same_leads j new.within));
+          unlisted = new.unlisted;
+        }
+
+    skipped_same : (before : List (Entry K)) (i j via : ℕ) → i < length leads → j < length leads → IsSkipped K leads before i j via → IsSkipped K longer before i j via
+    skipped_same before i j via il jl h = record {
+      within = let b = h.within in omega arith;
+      other = h.other;
+      column = ap (λ (t : Term). t.column) (same_leads via h.within) ∙ h.column ∙ ap (λ (t : Term). t.column) (sym (same_leads i il));
+      divides = subst (λ (t : Term). Divides t.monomial (pair_term longer i j).monomial) (sym (same_leads via h.within)) (subst (λ (t : Term). Divides (lead_at leads via).monomial t.monomial) (sym (pair_same i j il jl)) h.divides);
+      listed = h.listed;
+    }
+
+    module _ (o : Order) where
+      pub below_same : (t : Term) (steps : List (Step K)) → AllByRecursion (IsBelowStep K o leads t) steps → AllByRecursion (IsBelowStep K o longer t) steps
+      below_same t [] h = tt
+      below_same t (step ∷ steps) h = (
+        record { within = let b = h.0.within in omega arith; low = ap (λ (u : Term). term_cmp o (shift step.monomial u) t) (same_leads step.index h.0.within) ∙ h.0.low },
+        below_same t steps h.1,
+      )
+
+      module _ (n : ℕ) (rows more : List (Row K)) (same_rows : SameRows (length leads) rows more) where
+        treated_same : (i j : ℕ) (steps : List (Step K)) → i < length leads → j < length leads → IsTreated K s o n rows leads i j steps → IsTreated K s o n more longer i j steps
+        treated_same i j steps il jl h = record {
+          low = subst (λ t. AllByRecursion (IsBelowStep K o longer t) steps) (sym (pair_same i j il jl)) (below_same (pair_term leads i j) steps h.low);
+          nothing = left_same (length leads) rows more leads longer same_rows same_leads i j steps il jl (within_steps K o leads (pair_term leads i j) steps h.low) ∙ h.nothing;
+        }
+
+        pub lawful_same : (before es : List (Entry K)) → AreLawful K s o n rows leads before es → AreLawful K s o n more longer before es
+        lawful_same before [] h = tt
+        lawful_same before (Pair i j steps ∷ es) h =
+            let new = h.0.0 in
+            let il : i < length leads = let a = new.ordered in let b = new.within in omega arith in
+            ((new_same before i j new, treated_same i j steps il new.within h.0.1), lawful_same (Pair i j steps ∷ before) es h.1)
+        lawful_same before (Skip i j via ∷ es) h =
+            let new = h.0.0 in
+            let il : i < length leads = let a = new.ordered in let b = new.within in omega arith in
+            ((new_same before i j new, skipped_same before i j via il new.within h.0.1), lawful_same (Skip i j via ∷ before) es h.1)
+
+    pub shown_same : (q : ℕ) (cofactors more : List (Row K)) (syzygies others : List (Row K)) → SameRows (length leads) cofactors more → ((z : Row K) → InRowModule K s q syzygies z → InRowModule K s q others z)
+        → (es : List (Entry K)) → AllByRecursion (IsWithin K (length leads)) es → AllByRecursion (IsShown K s q leads cofactors syzygies) es → AllByRecursion (IsShown K s q longer more others) es
+    shown_same q cofactors more syzygies others same wider [] w h = tt
+    shown_same q cofactors more syzygies others same wider (Pair i j steps ∷ es) w h = (
+      subst (InRowModule K s q others) (sym (left_same (length leads) cofactors more leads longer same same_leads i j steps w.0.0 w.0.1 w.0.2)) (wider _ h.0),
+      shown_same q cofactors more syzygies others same wider es w.1 h.1,
+    )
+    shown_same q cofactors more syzygies others same wider (Skip i j via ∷ es) w h = (tt, shown_same q cofactors more syzygies others same wider es w.1 h.1)
+
+-- ---- a list with more behind it
+
+pub inside_map : {X Y : Type 0} (f : X → Y) (xs : List X) (i : ℕ) → i < length xs → i < length (map f xs)
+inside_map f xs i h = let e = length-map xs f in omega arith
+
+pub map_inside : {X Y : Type 0} (f : X → Y) (xs : List X) (i : ℕ) → i < length (map f xs) → i < length xs
+map_inside f xs i h = let e = length-map xs f in omega arith
+
+pub map_longer : {X Y : Type 0} (f : X → Y) (xs more : List X) → length (map f xs) ≤ length (map f (xs ++ more))
+map_longer f xs more = let e = length-map xs f in let g = length-map (xs ++ more) f in let l = length-append xs more in omega arith
+
+pub map_grow : {X Y : Type 0} (f : X → Y) (d : Y) (xs more : List X) (i : ℕ) → i < length xs → get_or (map f (xs ++ more)) i d ≡ get_or (map f xs) i d
+map_grow f d [] more i l = absurd (omega arith)
+map_grow f d (x ∷ xs) more zero l = refl
+map_grow f d (x ∷ xs) more (suc i) l = map_grow f d xs more i (omega arith)
+
+pub map_last : {X Y : Type 0} (f : X → Y) (d : Y) (xs : List X) (x : X) → get_or (map f (xs ++ x ∷ [])) (length xs) d ≡ f x
+map_last f d [] x = refl
+map_last f d (y ∷ xs) x = map_last f d xs x
+
+all_left : {X : Type 0} (P : X → Type 0) (xs ys : List X) → AllByRecursion P (xs ++ ys) → AllByRecursion P xs
+all_left P [] ys h = tt
+all_left P (x ∷ xs) ys h = (h.0, all_left P xs ys h.1)
+
+all_right : {X : Type 0} (P : X → Type 0) (xs ys : List X) → AllByRecursion P (xs ++ ys) → AllByRecursion P ys
+all_right P [] ys h = h
+all_right P (x ∷ xs) ys h = all_right P xs ys h.1
+
+module _ (K : Domain) (s : Signature) (lawful : IsLawful s) (q : ℕ) (rows others : List (Row K)) (long : AreLong K q rows) (long_others : AreLong K q others) where
+  long_all : AreLong K q (rows ++ others)
+  long_all = All-append (λ (r : Row K). length r ≡ q) rows others long long_others
+
+  own : AllByRecursion (InRowModule K s q (rows ++ others)) (rows ++ others)
+  own = All-from_get_or (InRowModule K s q (rows ++ others)) (rows ++ others) [] (module_row K s lawful q (rows ++ others) long_all)
+
+  pub module_more : (z : Row K) → InRowModule K s q rows z → InRowModule K s q (rows ++ others) z
+  unfolding InRowModule
+  module_more z (c, lc, oc, e) = subst (InRowModule K s q (rows ++ others)) e (module_combine K s lawful q (rows ++ others) long_all c rows oc (all_left _ rows others own))
+
+  pub module_added : (i : ℕ) → i < length others → InRowModule K s q (rows ++ others) (get_or others i [])
+  module_added i h = All-get_or (InRowModule K s q (rows ++ others)) others i [] h (all_right _ rows others own)

@@ -1,0 +1,12 @@
+pub mod Limited
+pub mod Growing
+pub mod Listing
+pub mod Parts
+pub mod Holding
+pub mod Monics
+pub mod Opening
+pub mod Treating
+pub mod Beginning
+pub mod Running
+pub mod Returning
+pub mod Complete

@@ -1,0 +1,274 @@
+-- What treating or skipping a pair makes of a state.
+--     advance, advance_same    a state with one more line, more basis rows and more syzygies holds; without more rows
+--     skip_holds               so does a state with a skipped pair
+--     Part                     steps lead from the pair's rows to what is left, below their common multiple
+--     part_start, reduced_part    so it is before a reduction and after it
+--     good_x, good_y           the two rows of the pair are rows of the basis
+--     syzygy_holds             where nothing is left, the next state holds
+--     row_holds                where something is left, it does too
+use Rattle.std.proofs.Common.{◌≡◌, ◌⊎◌, inl, inr, ⊎_elim, ℕ, ◌<◌, ◌≤◌, List, [], ◌∷◌, ◌++◌, length, map, get_or, refl, sym, ap, ◌∙◌, subst, append-nil, arith}
+use Rattle.std.specs.declared.option.Option.{Option}
+use Rattle.std.specs.declared.option.Option.TheVariants.{None, Some}
+use Rattle.std.specs.declared.result.Result.TheVariants.{Ok}
+use Rattle.std.specs.List.{AllByRecursion}
+use Rattle.std.proofs.ByRecursion.{All-append, All-push}
+use Rattle.std.proofs.lemmas.List.{length-map, length-append, get_or_push, map-append}
+use Rattle.ore_algebra.specs.Domain.{Domain, HasInverses}
+use Rattle.ore_monomial.specs.Monomial.{unit}
+use Rattle.ore_monomial.specs.Signature.{Signature, MonomialOf, IsLawful}
+use Rattle.ore_monomial.specs.Term.{Term, term_cmp, shift}
+use Rattle.ore_monomial.specs.declared.order.Order.{Order}
+use Rattle.ore_monomial.proofs.Declared.{MonomialOf-unit}
+use Rattle.ore_rows.specs.Rows.{Row, RowOf, AreLong, zero_row, row_minus, row_scale, combine, matrix_times, InRowModule}
+use Rattle.ore_rows.specs.RowLead.{coefficient_at, row_lead}
+use Rattle.ore_rows.specs.Arithmetic.{exact}
+use Rattle.ore_rows.specs.Reduction.{Monic, Step, Work, rows_of, cofactors_of, leads_of, origin, after, reduce}
+use Rattle.ore_rows.specs.Run.{Treated, Skipped, Line, State, constant, common, listing, unless_zero, with_syzygy}
+use Rattle.ore_rows.proofs.Differences.{row_minus_self}
+use Rattle.ore_rows.proofs.GreatestTerms.{row_lead-Some, zero_from}
+use Rattle.ore_rows.proofs.RowModules.{module_zero}
+use Rattle.ore_division.proofs.Reductions.{after-push}
+use Rattle.ore_pairs.specs.Steps.{pair_term, s_row}
+use Rattle.ore_pairs.specs.PairList.{IsBelowStep, IsTreated, IsSkipped, IsLawfulEntry, AreLawful, AreEntriesOf}
+use Rattle.ore_pairs.proofs.Syzygies.{AreStepsWithin, within_lawful, length-after, combine-after, combine-s_row}
+use Rattle.ore_groebner.specs.RunLaws.{IsBasisRow, IsSyzygy, entry, entry_of, entries_of, IsShown}
+use Rattle.ore_groebner.proofs.Limited.{monic_of, start_of, state_with}
+use Rattle.ore_groebner.proofs.Growing.{SameRows, SameLeads, within_steps, left_same, pair_same, new_same, below_same, lawful_same, shown_same, inside_map, map_inside, map_longer, map_grow, module_more, module_added}
+use Rattle.ore_groebner.proofs.Holding.{back_more, Holds, are_monic, are_wide, wide_cofactors, of_rows, of_cofactors, wide_syzygies, to_right, long_at}
+use Rattle.ore_groebner.proofs.Listing.{latest, entries_push, entries_of_push, lawful_push}
+use Rattle.ore_groebner.proofs.Monics.{shift-unit, monic_good, monic_row, monic_cofactor}
+use Rattle.ore_groebner.proofs.Opening.{IsOpen, all_slice, new_pair, first_inside, second_inside, common_is, row_is, cofactor_is, start_of_row, start_of_cofactor, start_long, start_wide, start_below}
+use Rattle.ore_groebner.proofs.Parts.{IsPart, part_reduced}
+
+-- ---- one more line
+
+module _ (K : Domain) (s : Signature) (o : Order) (n : ℕ) (a : List (Row K)) (st : State K) (holds : Holds K s o n a st) where
+  abbrev q : ℕ
+  q = length a
+
+  pub advance : (more : List (Monic (Row K))) (syzygies : List (Row K)) (l : Line K) → ((z : Row K) → InRowModule K s q st.syzygies z → InRowModule K s q syzygies z)
+      → AllByRecursion (IsBasisRow K s o n a) (st.basis ++ more) → AllByRecursion (IsSyzygy K s o n a) syzygies
+      → IsLawfulEntry K s o n (rows_of (st.basis ++ more)) (leads_of (st.basis ++ more)) (latest [] (entries_of st.listed)) (entry_of l)
+      → (AllByRecursion (RowOf K s) a → AreEntriesOf K s (entry_of l ∷ [])) → IsShown K s q (leads_of (st.basis ++ more)) (cofactors_of (st.basis ++ more)) syzygies (entry_of l)
+      → Holds K s o n a (record { basis = st.basis ++ more; listed = st.listed ++ l ∷ []; syzygies = syzygies })
+  advance more syzygies l wider good all entry of shows = record {
+    basis = good;
+    syzygies = all;
+    lines = record {
+      lawful = subst (AreLawful K s o n (rows_of longer) (leads_of longer) []) (sym (entries_push st.listed l))
+          (lawful_push K s o n (rows_of longer) (leads_of longer) [] (entries_of st.listed) (entry_of l)
+          (lawful_same K s (leads_of st.basis) (leads_of longer) same_leads long o n (rows_of st.basis) (rows_of longer) (same (λ b. b.row)) [] (entries_of st.listed) holds.lines.lawful) entry);
+      entries = λ d. subst (AreEntriesOf K s) (sym (entries_push st.listed l)) (entries_of_push K s (entries_of st.listed) (entry_of l) (holds.lines.entries d) (of d));
+      shown = subst (AllByRecursion (IsShown K s q (leads_of longer) (cofactors_of longer) syzygies)) (sym (entries_push st.listed l))
+          (All-push (IsShown K s q (leads_of longer) (cofactors_of longer) syzygies) (entries_of st.listed) (entry_of l)
+          (shown_same K s (leads_of st.basis) (leads_of longer) same_leads long q (cofactors_of st.basis) (cofactors_of longer) st.syzygies syzygies (same (λ b. b.cofactor)) wider (entries_of st.listed)
+          (within_lawful K s o n (rows_of st.basis) (leads_of st.basis) [] (entries_of st.listed) holds.lines.lawful) holds.lines.shown) shows);
+    };
+    back = back_more K s o q st.basis more st.syzygies syzygies wider 0 0 a holds.back;
+  }
+    where
+      longer : List (Monic (Row K))
+      longer = st.basis ++ more
+
+      long : length (leads_of st.basis) ≤ length (leads_of (st.basis ++ more))
+      long = map_longer (λ (b : Monic (Row K)). b.lead) st.basis more
+
+      same_leads : SameLeads (length (leads_of st.basis)) (leads_of st.basis) (leads_of (st.basis ++ more))
+      same_leads i h = map_grow (λ (b : Monic (Row K)). b.lead) origin st.basis more i (map_inside (λ (b : Monic (Row K)). b.lead) st.basis i h)
+
+      same : (f : Monic (Row K) → Row K) → SameRows (length (leads_of st.basis)) (map f st.basis) (map f (st.basis ++ more))
+      same f i h = map_grow f [] st.basis more i (map_inside (λ (b : Monic (Row K)). b.lead) st.basis i h)
+
+  -- with no more basis rows
+  pub advance_same : (syzygies : List (Row K)) (l : Line K) → ((z : Row K) → InRowModule K s q st.syzygies z → InRowModule K s q syzygies z) → AllByRecursion (IsSyzygy K s o n a) syzygies
+      → IsLawfulEntry K s o n (rows_of st.basis) (leads_of st.basis) (latest [] (entries_of st.listed)) (entry_of l)
+      → (AllByRecursion (RowOf K s) a → AreEntriesOf K s (entry_of l ∷ [])) → IsShown K s q (leads_of st.basis) (cofactors_of st.basis) syzygies (entry_of l)
+      → Holds K s o n a (record { basis = st.basis; listed = st.listed ++ l ∷ []; syzygies = syzygies })
+  advance_same syzygies l wider all entry of shows =
+      let e = sym (append-nil st.basis) in
+      subst (λ basis. Holds K s o n a (record { basis = basis; listed = st.listed ++ l ∷ []; syzygies = syzygies })) (append-nil st.basis)
+      (advance [] syzygies l wider
+      (subst (AllByRecursion (IsBasisRow K s o n a)) e holds.basis) all
+      (subst (λ (basis : List (Monic (Row K))). IsLawfulEntry K s o n (rows_of basis) (leads_of basis) (latest [] (entries_of st.listed)) (entry_of l)) e entry) of
+      (subst (λ (basis : List (Monic (Row K))). IsShown K s q (leads_of basis) (cofactors_of basis) syzygies (entry_of l)) e shows))
+
+  pub skip_holds : (i j : ℕ) (x y : Monic (Row K)) (via : ℕ) → IsOpen K st i j x y → IsSkipped K (leads_of st.basis) (latest [] (entries_of st.listed)) i j via
+      → Holds K s o n a (record st { listed = listing K st i j (Skipped via) })
+  skip_holds i j x y via h skipped = advance_same st.syzygies (record { first = i; second = j; account = Skipped via }) (λ z h. h) holds.syzygies (new_pair K st i j x y h, skipped) (λ d. tt) tt
+
+-- ---- a treated pair
+
+module _ (K : Domain) (inverses : HasInverses K) (s : Signature) (lawful : IsLawful s) (o : Order) (n : ℕ) (a : List (Row K)) (st : State K) (holds : Holds K s o n a st) (i j : ℕ) (x y : Monic (Row K)) (open_xy : IsOpen K st i j x y) where
+  abbrev width : ℕ
+  width = length a
+
+  abbrev leads : List Term
+  leads = leads_of st.basis
+
+  abbrev pub Part : Work K → Type 0
+  Part w = IsPart K s lawful o n st.basis (are_monic K s o n a st.basis holds.basis) (are_wide K s o n a st.basis holds.basis) (long_at K s o n a st.basis holds.basis) (AllByRecursion (RowOf K s) a) (of_rows K s o n a st.basis holds.basis) (of_cofactors K s o n a st.basis holds.basis)
+      (start_of K inverses s o x y).row (start_of K inverses s o x y).cofactor (common K x y) w
+
+  pub good_x : IsBasisRow K s o n a x
+  good_x = all_slice (IsBasisRow K s o n a) st.basis i x holds.basis open_xy.first
+
+  pub good_y : IsBasisRow K s o n a y
+  good_y = all_slice (IsBasisRow K s o n a) st.basis j y holds.basis open_xy.second
+
+  none_after : (rows : List (Row K)) (z : Row K) → after K s rows [] z ≡ z
+  unfolding after
+  none_after rows z = refl
+
+  pub part_start : Part (start_of K inverses s o x y)
+  part_start = record {
+    row = none_after (rows_of st.basis) (start_of K inverses s o x y).row;
+    cofactor = none_after (cofactors_of st.basis) (start_of K inverses s o x y).cofactor;
+    of_row = start_of_row K s lawful o n a x y good_x good_y;
+    of_cofactor = start_of_cofactor K s lawful o n a x y good_x good_y;
+    steps_of = λ d. tt;
+    low = tt;
+    below = start_below K s lawful o n a x y good_x good_y open_xy.columns;
+  }
+
+  pub reduced_part : (rest : Work K) → reduce K o (exact K s) st.basis (start_of K inverses s o x y) ≡ Ok rest → (length rest.row ≡ n) × Part rest
+  reduced_part rest = part_reduced K s lawful o n st.basis (are_monic K s o n a st.basis holds.basis) (are_wide K s o n a st.basis holds.basis) (long_at K s o n a st.basis holds.basis) (AllByRecursion (RowOf K s) a) (of_rows K s o n a st.basis holds.basis) (of_cofactors K s o n a st.basis holds.basis)
+      (start_of K inverses s o x y).row (start_of K inverses s o x y).cofactor (common K x y) (start_of K inverses s o x y) rest (start_long K s lawful o n a x y good_x good_y) part_start
+
+  module _ (w : Work K) (long : length w.row ≡ n) (p : Part w) where
+    within : AreStepsWithin K (length leads) w.steps
+    within = within_steps K o leads (common K x y) w.steps p.low
+
+    inside_leads : (k : ℕ) → k < length st.basis → k < length leads
+    inside_leads k h = inside_map (λ (b : Monic (Row K)). b.lead) st.basis k h
+
+    within_cofactors : AreStepsWithin K (length (cofactors_of st.basis)) w.steps
+    within_cofactors = subst (λ k. AreStepsWithin K k w.steps) (length-map st.basis (λ b. b.lead) ∙ sym (length-map st.basis (λ b. b.cofactor))) within
+
+    wide_rows : AreLong K width (cofactors_of st.basis)
+    wide_rows = wide_cofactors K s o n a st.basis holds.basis
+
+    -- what is left, from the row of the pair
+    row_left : after K s (rows_of st.basis) w.steps (s_row K s leads (rows_of st.basis) i j) ≡ w.row
+    row_left = ap (after K s (rows_of st.basis) w.steps) (row_is K st i j x y open_xy s) ∙ p.row
+
+    cofactor_left : after K s (cofactors_of st.basis) w.steps (s_row K s leads (cofactors_of st.basis) i j) ≡ w.cofactor
+    cofactor_left = ap (after K s (cofactors_of st.basis) w.steps) (cofactor_is K st i j x y open_xy s) ∙ p.cofactor
+
+    wide : length w.cofactor ≡ width
+    wide = sym (ap length p.cofactor) ∙ length-after K s lawful width (cofactors_of st.basis) wide_rows w.steps _ (start_wide K s lawful o n a x y good_x good_y) within_cofactors
+
+    made : combine K s n w.cofactor a ≡ w.row
+    made =
+        ap (λ c. combine K s n c a) (sym p.cofactor)
+        ∙ combine-after K s lawful width n (cofactors_of st.basis) a wide_rows w.steps _ (start_wide K s lawful o n a x y good_x good_y) within_cofactors
+        ∙ ap (λ c. after K s (matrix_times K s n (cofactors_of st.basis) a) w.steps (combine K s n c a)) (sym (cofactor_is K st i j x y open_xy s))
+        ∙ ap (after K s (matrix_times K s n (cofactors_of st.basis) a) w.steps) (combine-s_row K s lawful width n (cofactors_of st.basis) a wide_rows leads i j
+        (inside_map (λ (b : Monic (Row K)). b.cofactor) st.basis i (first_inside K st i j x y open_xy)) (inside_map (λ (b : Monic (Row K)). b.cofactor) st.basis j (second_inside K st i j x y open_xy)))
+        ∙ ap (λ m. after K s m w.steps (s_row K s leads m i j)) (to_right K s o n a st.basis holds.basis)
+        ∙ row_left
+
+    low : AllByRecursion (IsBelowStep K o leads (pair_term leads i j)) w.steps
+    low = subst (λ t. AllByRecursion (IsBelowStep K o leads t) w.steps) (sym (common_is K st i j x y open_xy)) p.low
+
+    -- ---- nothing is left
+
+    module _ (nothing : row_lead K o w.row ≡ None) where
+      zeros : w.row ≡ zero_row K n
+      zeros = zero_from K o w.row nothing ∙ ap (zero_row K) long
+
+      syzygy : IsSyzygy K s o n a w.cofactor
+      syzygy = record { wide = wide; vanishes = made ∙ zeros; of_row = p.of_cofactor }
+
+      -- the cofactor row is among the others, or is zeros
+      kept_others : AllByRecursion (IsSyzygy K s o n a) (unless_zero K o w.cofactor) × ((unless_zero K o w.cofactor ≡ w.cofactor ∷ []) ⊎ (w.cofactor ≡ zero_row K width))
+      unfolding unless_zero
+      kept_others = by (row_lead K o w.cofactor) refl
+        where
+          by : (t : Option Term) → row_lead K o w.cofactor ≡ t → AllByRecursion (IsSyzygy K s o n a) (elim t [ None ↦ [] | Some t ↦ w.cofactor ∷ [] ]) × ((elim t [ None ↦ [] | Some t ↦ w.cofactor ∷ [] ] ≡ w.cofactor ∷ []) ⊎ (w.cofactor ≡ zero_row K width))
+          by None e = (tt, inr (zero_from K o w.cofactor e ∙ ap (zero_row K) wide))
+          by (Some t) e = ((syzygy, tt), inl refl)
+
+      all_syzygies : AllByRecursion (IsSyzygy K s o n a) (st.syzygies ++ unless_zero K o w.cofactor)
+      all_syzygies = All-append (IsSyzygy K s o n a) st.syzygies (unless_zero K o w.cofactor) holds.syzygies kept_others.0
+
+      inside : InRowModule K s width (st.syzygies ++ unless_zero K o w.cofactor) w.cofactor
+      inside = ⊎_elim
+          (λ e. subst (λ rows. InRowModule K s width (st.syzygies ++ rows) w.cofactor) (sym e) (module_added K s lawful width st.syzygies (w.cofactor ∷ []) (wide_syzygies K s o n a st.syzygies holds.syzygies) (wide, tt) 0 (omega arith)))
+          (λ e. subst (InRowModule K s width (st.syzygies ++ unless_zero K o w.cofactor)) (sym e) (module_zero K s lawful width _ (wide_syzygies K s o n a _ all_syzygies)))
+          kept_others.1
+
+      pub syzygy_holds : Holds K s o n a (with_syzygy K o st i j w)
+      unfolding with_syzygy
+      syzygy_holds = advance_same K s o n a st holds (st.syzygies ++ unless_zero K o w.cofactor) (record { first = i; second = j; account = Treated w.steps })
+          (module_more K s lawful width st.syzygies (unless_zero K o w.cofactor) (wide_syzygies K s o n a st.syzygies holds.syzygies) (wide_syzygies K s o n a _ kept_others.0))
+          all_syzygies
+          (new_pair K st i j x y open_xy, record { low = low; nothing = row_left ∙ zeros })
+          (λ d. (p.steps_of d, tt))
+          (subst (InRowModule K s width (st.syzygies ++ unless_zero K o w.cofactor)) (sym cofactor_left) inside)
+
+    -- ---- something is left
+
+    module _ (t : Term) (something : row_lead K o w.row ≡ Some t) where
+      abbrev number : K.Number
+      number = coefficient_at K w.row t
+
+      abbrev b : Monic (Row K)
+      b = monic_of K inverses s o w.row w.cofactor t
+
+      abbrev longer : List (Monic (Row K))
+      longer = st.basis ++ b ∷ []
+
+      abbrev last : Step K
+      last = record { index = length st.basis; monomial = unit; number = number }
+
+      good : IsBasisRow K s o n a b
+      good = monic_good K inverses s lawful o w.row w.cofactor t something n a long wide made p.of_row p.of_cofactor
+
+      same_leads : SameLeads (length leads) leads (leads_of longer)
+      same_leads k h = map_grow (λ (b : Monic (Row K)). b.lead) origin st.basis (b ∷ []) k (map_inside (λ (b : Monic (Row K)). b.lead) st.basis k h)
+
+      same : (f : Monic (Row K) → Row K) → SameRows (length leads) (map f st.basis) (map f longer)
+      same f k h = map_grow f [] st.basis (b ∷ []) k (map_inside (λ (b : Monic (Row K)). b.lead) st.basis k h)
+
+      at_last : {Y : Type 0} (f : Monic (Row K) → Y) (d : Y) → get_or (map f longer) (length st.basis) d ≡ f b
+      at_last f d = ap (λ ys. get_or ys (length st.basis) d) (map-append f st.basis (b ∷ [])) ∙ get_or_push (map f st.basis) (f b) d (length st.basis) (length-map st.basis f)
+
+      -- the last step takes away what is left, of rows as of cofactor rows
+      leaves : (f : Monic (Row K) → Row K) (r : Row K) → after K s (map f st.basis) w.steps (s_row K s leads (map f st.basis) i j) ≡ r → row_scale K s (constant K number) (f b) ≡ r
+          → after K s (map f longer) (w.steps ++ last ∷ []) (s_row K s (leads_of longer) (map f longer) i j) ≡ zero_row K (length r)
+      leaves f r e g =
+          after-push K s (map f longer) w.steps last _
+          ∙ (λ k. row_minus K (before k) (row_scale K s (constant K number) (at_last f [] k)))
+          ∙ ap (row_minus K r) g ∙ row_minus_self K r
+        where
+          before : after K s (map f longer) w.steps (s_row K s (leads_of longer) (map f longer) i j) ≡ r
+          before = left_same K s (length leads) (map f st.basis) (map f longer) leads (leads_of longer) (same f) same_leads i j w.steps
+              (inside_leads i (first_inside K st i j x y open_xy)) (inside_leads j (second_inside K st i j x y open_xy)) within ∙ e
+
+      longer_leads : length leads ≤ length (leads_of longer)
+      longer_leads = map_longer (λ (b : Monic (Row K)). b.lead) st.basis (b ∷ [])
+
+      pair_is : pair_term (leads_of longer) i j ≡ pair_term leads i j
+      pair_is = pair_same K s leads (leads_of longer) same_leads longer_leads i j (inside_leads i (first_inside K st i j x y open_xy)) (inside_leads j (second_inside K st i j x y open_xy))
+
+      last_low : IsBelowStep K o (leads_of longer) (pair_term leads i j) last
+      last_low = record {
+        within = let e = length-map longer (λ (b : Monic (Row K)). b.lead) in let l = length-append st.basis (b ∷ []) in omega arith;
+        low = ap (λ (u : Term). term_cmp o (shift unit u) (pair_term leads i j)) (at_last (λ (b : Monic (Row K)). b.lead) origin) ∙ ap (λ (u : Term). term_cmp o u (pair_term leads i j)) (shift-unit t)
+            ∙ ap (term_cmp o t) (common_is K st i j x y open_xy) ∙ p.below t (row_lead-Some K o w.row t something).apart;
+      }
+
+      treated : IsTreated K s o n (rows_of longer) (leads_of longer) i j (w.steps ++ last ∷ [])
+      treated = record {
+        low = subst (λ t. AllByRecursion (IsBelowStep K o (leads_of longer) t) (w.steps ++ last ∷ [])) (sym pair_is)
+            (All-push (IsBelowStep K o (leads_of longer) (pair_term leads i j)) w.steps last (below_same K s leads (leads_of longer) same_leads longer_leads o (pair_term leads i j) w.steps low) last_low);
+        nothing = leaves (λ b. b.row) w.row row_left (monic_row K inverses s lawful o w.row w.cofactor t something) ∙ ap (zero_row K) long;
+      }
+
+      pub row_holds : Holds K s o n a (state_with K inverses s o st i j w t)
+      row_holds = advance K s o n a st holds (b ∷ []) st.syzygies (record { first = i; second = j; account = Treated (w.steps ++ last ∷ []) }) (λ z h. h)
+          (All-push (IsBasisRow K s o n a) st.basis b holds.basis good) holds.syzygies
+          (new_same K s leads (leads_of longer) same_leads longer_leads (latest [] (entries_of st.listed)) i j (new_pair K st i j x y open_xy), treated)
+          (λ d. (All-push (λ (t : Step K). MonomialOf s t.monomial) w.steps last (p.steps_of d) (MonomialOf-unit s), tt))
+          (subst (InRowModule K s width st.syzygies) (sym (leaves (λ b. b.cofactor) w.cofactor cofactor_left (monic_cofactor K inverses s lawful o w.row w.cofactor t something) ∙ ap (zero_row K) wide))
+          (module_zero K s lawful width st.syzygies (wide_syzygies K s o n a st.syzygies holds.syzygies)))
