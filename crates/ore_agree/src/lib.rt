@@ -12,13 +12,16 @@
 //! - a shift `s` by `h` gives `s^c t^a = (t + c h)^a s^c`, and a delay by `h` the same with `-h`;
 //! - products of letters on two coordinates, and of several letters on one, are written out.
 //!
-//! `rows` has one value for each call of `ore_rows`, at `MixedRing`. `expressions` has values and faults of
-//! texts that `ore_expr` reads.
+//! `rows` has one value for each call of `ore_rows`, at `MixedRing`, and `division` one for lead reduction.
+//! `expressions` has values and faults of texts that `ore_expr` reads.
 //!
-//! The crate has nothing but tests, and promises nothing. It stands on the rings, on `ore_rows` and `ore_expr`, and on
+//! The crate has nothing but tests, and promises nothing. It stands on the rings, on `ore_division`, `ore_rows` and
+//! `ore_expr`, and on
 //! `ore_ring`, `ore_monomial`, `ore_rational` and `ore_algebra` for operators and signatures.
 #![tactic(auto)]
 
+#[cfg(test)]
+mod division;
 #[cfg(test)]
 mod expressions;
 #[cfg(test)]

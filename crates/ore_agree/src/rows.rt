@@ -16,26 +16,26 @@ use ore_rows::{
 use std::alloc::Global;
 use std::test::Fail;
 
-const ONE: Term = (1, [0; 12]);
+pub(crate) const ONE: Term = (1, [0; 12]);
 
-const T: Term = (1, [1, 0, 0, 0, 0, 0, 0, 0, 0, 0, 0, 0]);
+pub(crate) const T: Term = (1, [1, 0, 0, 0, 0, 0, 0, 0, 0, 0, 0, 0]);
 
 const T_SQUARED: Term = (1, [2, 0, 0, 0, 0, 0, 0, 0, 0, 0, 0, 0]);
 
-const D: Term = (1, [0, 0, 0, 0, 0, 0, 1, 0, 0, 0, 0, 0]);
+pub(crate) const D: Term = (1, [0, 0, 0, 0, 0, 0, 1, 0, 0, 0, 0, 0]);
 
 const D_SQUARED: Term = (1, [0, 0, 0, 0, 0, 0, 2, 0, 0, 0, 0, 0]);
 
-const T_D: Term = (1, [1, 0, 0, 0, 0, 0, 1, 0, 0, 0, 0, 0]);
+pub(crate) const T_D: Term = (1, [1, 0, 0, 0, 0, 0, 1, 0, 0, 0, 0, 0]);
 
 const TWICE_T_D: Term = (2, [1, 0, 0, 0, 0, 0, 1, 0, 0, 0, 0, 0]);
 
 const MINUS_T: Term = (-1, [1, 0, 0, 0, 0, 0, 0, 0, 0, 0, 0, 0]);
 
-const MINUS_D: Term = (-1, [0, 0, 0, 0, 0, 0, 1, 0, 0, 0, 0, 0]);
+pub(crate) const MINUS_D: Term = (-1, [0, 0, 0, 0, 0, 0, 1, 0, 0, 0, 0, 0]);
 
 // A row of two operators.
-fn row_of(
+pub(crate) fn row_of(
     signature: &Signature,
     alloc: Global,
     first: &[Term],
@@ -68,7 +68,7 @@ fn matrix_of(alloc: Global, signature: &Signature, first: Row, second: Row) -> R
 }
 
 // Whether two rows of two operators are equal.
-fn equal(a: &Row, b: &Row) -> bool {
+pub(crate) fn equal(a: &Row, b: &Row) -> bool {
     if a.len() != 2 || b.len() != 2 {
         return false;
     }
