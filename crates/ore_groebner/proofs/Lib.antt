@@ -10,3 +10,6 @@ pub mod Beginning
 pub mod Running
 pub mod Returning
 pub mod Complete
+pub mod Progresses
+pub mod Begins
+pub mod StoredMonics

@@ -1,7 +1,17 @@
-//! Runs on the rows of a matrix: what they keep, and what a complete one shows.
+//! Runs on the rows of a matrix: by the choices of a chooser, what they keep, and what a complete one shows.
 //!
 //! A run (`ore_rows/specs/Run.antt`) takes choices, one after another, each of which treats or skips a pair of basis
-//! rows. The law functions of [`laws`] say of each state that a run reaches, within whatever limits:
+//! rows. A [`Chooser`] says what comes next: a pair to be treated or skipped, or that nothing is left. Its clauses say
+//! which answers it may give, over the choices that it has given, its budget, and the choices that it keeps
+//! (`specs/Choosing.antt`).
+//!
+//! A [`progress::Progress`] is what a run has made so far. It is seen as a state of a run (`specs/Progressing.antt`).
+//! [`first::begin`] makes the state before the first choice, [`progress::treat`] treats a pair and [`progress::skip`]
+//! skips one. Each gives what its definition gives at the limits of the program, or the cause of the first operation
+//! that stops; want of memory is the one answer beside it. [`entries::entry_row`] makes the rows that say how the rows
+//! of the matrix are multiples of the first basis rows.
+//!
+//! The law functions of [`laws`] say of each state that a run reaches, within whatever limits:
 //!
 //! - the same choices lead there without limits, where nothing but an unlawful choice ends a run;
 //! - each basis row has the lead coefficient 1, and its cofactor row makes it of the rows of the matrix; the first
@@ -14,7 +24,17 @@
 //! `proofs/Running.antt` has the invariant of a run, and `proofs/Complete.antt` goes from it, by what `ore_pairs`
 //! proves of a lawful list, to exactness. All but the law functions is over any field.
 //!
-//! The crate stands on `ore_division` for lead reduction and on `ore_pairs` for lists of pairs.
+//! The crate stands on `ore_pairs` for pairs and lists of them, on `ore_division` for reduction, on `ore_rows` and
+//! `ore_leads` for rows and bases, and on `ore_ring` for operators.
 #![tactic(auto)]
 
+pub mod chooser;
+pub mod entries;
+pub mod first;
 pub mod laws;
+pub mod monic;
+pub mod outcome;
+pub mod progress;
+
+pub use chooser::{Chooser, Next, Rule};
+pub use outcome::{Event, Events, Finished, Halt, Origin, Origins, Outcome, StopAt};

@@ -1,0 +1,138 @@
+-- The first basis of a run.
+--     begin_none, begin_some     a row that is zero, and one that isn't
+--     based_stops, based_gives   one more basis row
+--     begun_lines, monic_kept    what is kept still fits together
+--     rows_start, rows_next, rows_stop, rows_end     the rows from a place on
+--     empty_kept                 before the first row
+use Rattle.std.proofs.Common.{◌≡◌, ℕ, zero, suc, ◌≤◌, ◌+◌, List, [], ◌∷◌, ◌++◌, length, map, drop, refl, sym, ap, ◌∙◌, subst, arith}
+use Rattle.std.specs.List.{All, slice_get}
+use Rattle.std.specs.declared.option.Option.{Option}
+use Rattle.std.specs.declared.option.Option.TheVariants.{None, Some}
+use Rattle.std.specs.declared.result.Result.{Result}
+use Rattle.std.specs.declared.result.Result.TheVariants.{Ok, Err}
+use Rattle.std.proofs.lemmas.List.Elements.{All-nil}
+use Rattle.ore_algebra.specs.Limits.{Cause, program, ◌>>=◌}
+use Rattle.ore_rational.proofs.FractionLaws.{rationals, rational_inverses}
+use Rattle.ore_monomial.specs.Signature.{Signature}
+use Rattle.ore_monomial.specs.Term.{Term}
+use Rattle.ore_ring.specs.Belongs.{Belongs}
+use Rattle.ore_ring.specs.Ordered.{Ordered}
+use Rattle.ore_rows.specs.Arithmetic.{within}
+use Rattle.ore_rows.specs.Reduction.{Monic, AreMonic}
+use Rattle.ore_rows.specs.RowLead.{row_lead}
+use Rattle.ore_rows.specs.Rows.{Row, unit_row}
+use Rattle.ore_rows.specs.Run.{State, is_listed, made_monic}
+use Rattle.ore_rows.specs.Run as run
+use Rattle.ore_rows.specs.Stored.{sums_of}
+use Rattle.ore_rows.specs.StoredBasis.{StoredBasis, AllBelong, monics}
+use Rattle.ore_pairs.specs.Listed.{is_in}
+use Rattle.ore_groebner.specs.Progressing.{lines_from, new_rows, pushed, based, state_of, IsBegun, IsKept}
+use Rattle.ore_groebner.specs.declared.progress.Progress.{Progress}
+
+module _ (s : Signature) (q k : ℕ) (r : Row rationals) (st : State rationals) where
+  abbrev begun : Result (State rationals) Cause
+  begun = run.begin_row rationals rational_inverses s.order (within program s) q k r st
+
+  pub begin_none : row_lead rationals s.order r ≡ None → begun ≡ Ok (record st { syzygies = st.syzygies ++ unit_row rationals q k ∷ [] })
+  unfolding run.begin_row
+  begin_none e = ap (λ (x : Option Term). elim x [ None ↦ Ok (record st { syzygies = st.syzygies ++ unit_row rationals q k ∷ [] }) | Some t ↦ based st (made_monic rationals rational_inverses (within program s) r (unit_row rationals q k) t) ]) e
+
+  pub begin_some : (t : Term) → row_lead rationals s.order r ≡ Some t → begun ≡ based st (made_monic rationals rational_inverses (within program s) r (unit_row rationals q k) t)
+  unfolding run.begin_row
+  begin_some t e = ap (λ (x : Option Term). elim x [ None ↦ Ok (record st { syzygies = st.syzygies ++ unit_row rationals q k ∷ [] }) | Some t ↦ based st (made_monic rationals rational_inverses (within program s) r (unit_row rationals q k) t) ]) e
+
+-- ---- one more basis row
+
+pub based_stops : (st : State rationals) (made : Result (Monic (Row rationals)) Cause) (c : Cause) → pushed st.basis made ≡ Err c → based st made ≡ Err c
+based_stops st (Ok b) c e = absurd (ok_is_err e)
+  where
+    ok_is_err : {A : Type 0} {x : A} → ◌≡◌ {A = Result A Cause} (Ok x) (Err c) → ⊥
+    ok_is_err e = cc
+based_stops st (Err d) c e = ap Err (same_err d c e)
+  where
+    same_err : (x y : Cause) → ◌≡◌ {A = Result (List (Monic (Row rationals))) Cause} (Err x) (Err y) → x ≡ y
+    same_err x y e = cc
+
+pub based_gives : (st : State rationals) (made : Result (Monic (Row rationals)) Cause) (bs : List (Monic (Row rationals))) → pushed st.basis made ≡ Ok bs → based st made ≡ Ok (record st { basis = bs })
+based_gives st (Err d) bs e = absurd (err_is_ok e)
+  where
+    err_is_ok : {A : Type 0} {x : A} → ◌≡◌ {A = Result A Cause} (Err d) (Ok x) → ⊥
+    err_is_ok e = cc
+based_gives st (Ok b) bs e = ap (λ bs. Ok (record st { basis = bs })) (same_ok _ _ e)
+  where
+    same_ok : (x y : List (Monic (Row rationals))) → ◌≡◌ {A = Result (List (Monic (Row rationals))) Cause} (Ok x) (Ok y) → x ≡ y
+    same_ok x y e = cc
+
+-- ---- what is kept
+
+no_lines : (n : ℕ) → lines_from n [] ≡ []
+unfolding lines_from
+no_lines n = refl
+
+none_new : new_rows [] ≡ 0
+unfolding new_rows
+none_new = refl
+
+none_listed : (x y : ℕ) → is_in x y [] ≡ is_listed rationals x y []
+unfolding is_in is_listed
+none_listed x y = refl
+
+pub begun_lines : (p : Progress) (n : ℕ) → IsBegun p → lines_from n p.events.items ≡ []
+begun_lines p n b = ap (lines_from n) b.events ∙ no_lines n
+
+pub monic_kept : (s : Signature) (q : Progress) → IsBegun q → q.first ≡ length q.basis.items → AllBelong s q.basis.items → AreMonic rationals s.order (monics q.basis) → All (λ r. length r ≡ q.basis.width) q.syzygies.items → All (All (Belongs s)) q.syzygies.items → IsKept s q
+monic_kept s q begun first belongs monic wide of = record {
+  belongs = belongs;
+  monic = monic;
+  listed = λ x y. ap (is_in x y) begun.listed ∙ none_listed x y ∙ ap (is_listed rationals x y) (sym (begun_lines q q.first begun));
+  counted = counts (length q.basis.items) q.first (new_rows q.events.items) first (ap new_rows begun.events ∙ none_new);
+  wide = wide;
+  of = of;
+}
+  where
+    counts : (a f n : ℕ) → f ≡ a → n ≡ 0 → a ≡ f + n
+    counts a f n h k = omega arith
+
+-- ---- the rows from a place on
+
+drop_at : {A : Type 0} (xs : List A) (k : ℕ) (x : A) → slice_get xs k ≡ Some x → drop k xs ≡ x ∷ drop (suc k) xs
+drop_at [] k x e = absurd (none_some e)
+  where
+    none_some : {A : Type 0} {x : A} → ◌≡◌ {A = Option A} None (Some x) → ⊥
+    none_some e = cc
+drop_at (y ∷ xs) zero x e = λ n. same_some y x e n ∷ xs
+  where
+    same_some : {A : Type 0} (x y : A) → ◌≡◌ {A = Option A} (Some x) (Some y) → x ≡ y
+    same_some x y e = cc
+drop_at (y ∷ xs) (suc k) x e = drop_at xs k x e
+
+drop_end : {A : Type 0} (xs : List A) (k : ℕ) → length xs ≤ k → drop k xs ≡ []
+drop_end [] zero h = refl
+drop_end [] (suc k) h = refl
+drop_end (y ∷ xs) zero h = absurd (omega arith)
+drop_end (y ∷ xs) (suc k) h = drop_end xs k (omega arith)
+
+module _ (s : Signature) (rows : List (Row rationals)) where
+  abbrev begin_at : ℕ → ℕ → List (Row rationals) → State rationals → Result (State rationals) Cause
+  begin_at q k rs st = run.begin_rows rationals rational_inverses s.order (within program s) q k rs st
+
+  pub rows_end : (q k : ℕ) (st : State rationals) → length rows ≤ k → begin_at q k (drop k rows) st ≡ Ok st
+  unfolding run.begin_rows
+  rows_end q k st h = ap (λ rs. begin_at q k rs st) (drop_end rows k h)
+
+  pub rows_next : (q k : ℕ) (r : Row rationals) (st next : State rationals) → slice_get rows k ≡ Some r → run.begin_row rationals rational_inverses s.order (within program s) q k r st ≡ Ok next → begin_at q k (drop k rows) st ≡ begin_at q (k + 1) (drop (k + 1) rows) next
+  unfolding run.begin_rows
+  rows_next q k r st next e f =
+      let z : suc k ≡ k + 1 = omega arith in
+      ap (λ rs. begin_at q k rs st) (drop_at rows k r e) ∙ (λ n. f n >>= λ st. begin_at q (suc k) (drop (suc k) rows) st) ∙ ap (λ m. begin_at q m (drop m rows) next) z
+
+  pub rows_stop : (q k : ℕ) (r : Row rationals) (st : State rationals) (c : Cause) → slice_get rows k ≡ Some r → run.begin_row rationals rational_inverses s.order (within program s) q k r st ≡ Err c → begin_at q k (drop k rows) st ≡ Err c
+  unfolding run.begin_rows
+  rows_stop q k r st c e f = ap (λ rs. begin_at q k rs st) (drop_at rows k r e) ∙ (λ n. f n >>= λ st. begin_at q (suc k) (drop (suc k) rows) st)
+
+  pub rows_start : (p : Progress) → monics p.basis ≡ [] → IsBegun p → p.syzygies.items ≡ [] → run.begin rationals rational_inverses s.order (within program s) rows ≡ begin_at (length rows) 0 (drop 0 rows) (state_of p)
+  unfolding run.begin
+  rows_start p basis begun syzygies = λ n. begin_at (length rows) 0 rows (record { basis = sym basis n; listed = sym (begun_lines p p.first begun) n; syzygies = map sums_of (sym syzygies n) })
+
+pub empty_kept : (s : Signature) (p : Progress) (n m : ℕ) → p.basis ≡ record { cols = n; width = m; items = [] } → p.first ≡ 0 → IsBegun p → p.syzygies.items ≡ [] → IsKept s p
+empty_kept s p n m basis first begun syzygies = monic_kept s p begun (first ∙ ap (λ (b : StoredBasis). length b.items) (sym basis)) (subst (λ (b : StoredBasis). AllBelong s b.items) (sym basis) (All-nil _)) (subst (λ (b : StoredBasis). AreMonic rationals s.order (monics b)) (sym basis) (All-nil _)) (subst (All (λ (r : List Ordered). length r ≡ p.basis.width)) (sym syzygies) (All-nil _)) (subst (All (All (Belongs s))) (sym syzygies) (All-nil _))

@@ -1,0 +1,246 @@
+-- What is kept of a run, with one more event.
+--     unless_zero-zero, unless_zero-row    a cofactor row that is zero, and one that isn't
+--     is_listed-push             one more line
+--     new_rows-push, lines_from-push     one more event
+--     line_zero, line_row, line_skip     its line
+--     kept_more                  what is kept still fits together
+use Rattle.std.proofs.Common.{◌≡◌, ℕ, suc, ◌+◌, Bool, true, false, List, [], ◌∷◌, ◌++◌, length, map, refl, sym, ap, ◌∙◌, subst, arith}
+use Rattle.std.specs.Prelude.{◌&&◌, ◌||◌, nat_eq}
+use Rattle.std.specs.List.{All}
+use Rattle.std.specs.declared.result.Result.{Result}
+use Rattle.std.specs.declared.result.Result.TheVariants.{Ok, Err}
+use Rattle.std.specs.declared.option.Option.{Option}
+use Rattle.std.specs.declared.option.Option.TheVariants.{None, Some}
+use Rattle.std.proofs.lemmas.List.Elements.{All-nil, All-cons, All-push}
+use Rattle.ore_algebra.specs.Free.{none}
+use Rattle.ore_algebra.specs.Limits.{Cause, program, ◌>>=◌}
+use Rattle.ore_rational.specs.Fraction.{Fraction}
+use Rattle.ore_rational.proofs.FractionLaws.{rationals, rational_inverses}
+use Rattle.ore_monomial.specs.Monomial.{unit, plain_cmp}
+use Rattle.ore_monomial.specs.Signature.{Signature}
+use Rattle.ore_monomial.specs.Term.{Term}
+use Rattle.ore_monomial.specs.declared.order.Order.{Order}
+use Rattle.ore_ring.specs.Belongs.{Belongs}
+use Rattle.ore_ring.specs.Ordered.{Ordered}
+use Rattle.ore_rows.specs.Arithmetic.{within}
+use Rattle.ore_rows.specs.Reduction.{Monic, AreMonic, Step, Work, reduce}
+use Rattle.ore_rows.specs.RowLead.{coefficient_at, row_lead}
+use Rattle.ore_rows.specs.Rows.{Row, zero_row}
+use Rattle.ore_rows.specs.Run.{Account, Line, State, is_listed, unless_zero, made_monic}
+use Rattle.ore_rows.specs.Run as run
+use Rattle.ore_rows.specs.Stored.{IsZeroRow, sums_of}
+use Rattle.ore_rows.specs.StoredBasis.{AllBelong, monics}
+use Rattle.ore_rows.proofs.GreatestTerms.{row_lead-Some, zero_from}
+use Rattle.ore_rows.proofs.StoredBases.{no_lead_of_zeros}
+use Rattle.ore_pairs.specs.Listed.{is_in}
+use Rattle.ore_groebner.specs.Progressing.{lines_from, new_rows, pushed, state_of, Adds, IsKept}
+use Rattle.ore_groebner.specs.declared.outcome.Event.{Event}
+use Rattle.ore_groebner.specs.declared.outcome.Event.TheVariants.{Treated, Skipped}
+use Rattle.ore_groebner.specs.declared.outcome.Outcome.TheVariants.{Zero, NewRow}
+use Rattle.ore_groebner.specs.declared.progress.Progress.{Progress}
+
+pub no_lead : (o : Order) (r : List Ordered) → IsZeroRow r → row_lead rationals o (sums_of r) ≡ None
+no_lead o r z = by (row_lead rationals o (sums_of r)) refl
+  where
+    by : (x : Option Term) → row_lead rationals o (sums_of r) ≡ x → x ≡ None
+    by None e = refl
+    by (Some t) e = absurd (no_lead_of_zeros o r t _ z (row_lead-Some rationals o (sums_of r) t e))
+
+pub unless_zero-zero : (o : Order) (r : List Ordered) → IsZeroRow r → unless_zero rationals o (sums_of r) ≡ []
+unfolding unless_zero
+unless_zero-zero o r z = ap (λ (x : Option Term). elim x [ None ↦ [] | Some t ↦ sums_of r ∷ [] ]) (no_lead o r z)
+
+heads : {A : Type 0} (x y : A) (xs ys : List A) → x ∷ xs ≡ y ∷ ys → x ≡ y
+heads x y xs ys e = cc
+
+tails : {A : Type 0} (x y : A) (xs ys : List A) → x ∷ xs ≡ y ∷ ys → xs ≡ ys
+tails x y xs ys e = cc
+
+zeros : (q : List Ordered) → sums_of q ≡ zero_row rationals (length (sums_of q)) → IsZeroRow q
+unfolding zero_row
+zeros [] e = All-nil (λ (f : Ordered). f.sum ≡ none rationals plain_cmp)
+zeros (f ∷ q) e = All-cons (λ (f : Ordered). f.sum ≡ none rationals plain_cmp) f q (heads _ _ _ _ e) (zeros q (tails _ _ _ _ e))
+
+pub unless_zero-row : (o : Order) (r : List Ordered) → ¬ IsZeroRow r → unless_zero rationals o (sums_of r) ≡ sums_of r ∷ []
+unfolding unless_zero
+unless_zero-row o r n = by (row_lead rationals o (sums_of r)) refl
+  where
+    by : (x : Option Term) → row_lead rationals o (sums_of r) ≡ x → elim x [ None ↦ [] | Some t ↦ sums_of r ∷ [] ] ≡ sums_of r ∷ []
+    by (Some t) e = refl
+    by None e = absurd (n (zeros r (zero_from rationals o (sums_of r) e)))
+
+-- ---- one more line
+
+pub is_listed-push : (x y : ℕ) (ls : List (Line rationals)) (l : Line rationals) → is_listed rationals x y (ls ++ l ∷ []) ≡ ((nat_eq x l.first && nat_eq y l.second) || is_listed rationals x y ls)
+unfolding is_listed
+is_listed-push x y [] l = refl
+is_listed-push x y (m ∷ ls) l = ap (λ b. (nat_eq x m.first && nat_eq y m.second) || b) (is_listed-push x y ls l) ∙ or_turned (nat_eq x m.first && nat_eq y m.second) (nat_eq x l.first && nat_eq y l.second) _
+  where
+    or_turned : (a b c : Bool) → (a || (b || c)) ≡ (b || (a || c))
+    or_turned true true c = refl
+    or_turned true false c = refl
+    or_turned false b c = refl
+
+none_more : (a : ℕ) → a ≡ 0 + a
+none_more a = omega arith
+
+one_more : (a b c : ℕ) → a ≡ b + c → suc a ≡ suc b + c
+one_more a b c h = omega arith
+
+pub new_rows-push : (es : List Event) (e : Event) → new_rows (es ++ e ∷ []) ≡ new_rows es + new_rows (e ∷ [])
+unfolding new_rows
+new_rows-push [] e = none_more (new_rows (e ∷ []))
+new_rows-push (Treated i j steps Zero ∷ es) e = new_rows-push es e
+new_rows-push (Treated i j steps (NewRow k) ∷ es) e = one_more _ (new_rows es) (new_rows (e ∷ [])) (new_rows-push es e)
+new_rows-push (Skipped i j via ∷ es) e = new_rows-push es e
+
+pub lines_from-push : (n : ℕ) (es : List Event) (e : Event) → lines_from n (es ++ e ∷ []) ≡ lines_from n es ++ lines_from (n + new_rows es) (e ∷ [])
+unfolding lines_from new_rows
+lines_from-push n [] e = let z : n + 0 ≡ n = omega arith in ap (λ m. lines_from m (e ∷ [])) (sym z)
+lines_from-push n (Treated i j steps Zero ∷ es) e = λ k. record { first = i; second = j; account = run.Treated steps } ∷ lines_from-push n es e k
+lines_from-push n (Treated i j steps (NewRow c) ∷ es) e =
+    let z : suc n + new_rows es ≡ n + suc (new_rows es) = omega arith in
+    λ k. record { first = i; second = j; account = run.Treated (steps ++ record { index = n; monomial = unit; number = c } ∷ []) } ∷ (lines_from-push (suc n) es e ∙ ap (λ m. lines_from (suc n) es ++ lines_from m (e ∷ [])) z) k
+lines_from-push n (Skipped i j via ∷ es) e = λ k. record { first = i; second = j; account = run.Skipped via } ∷ lines_from-push n es e k
+
+module _ (m : ℕ) (i j : ℕ) where
+  pub line_zero : (steps : List (Step rationals)) → lines_from m (Treated i j steps Zero ∷ []) ≡ record { first = i; second = j; account = run.Treated steps } ∷ []
+  unfolding lines_from
+  line_zero steps = refl
+
+  pub line_row : (steps : List (Step rationals)) (k : Fraction) → lines_from m (Treated i j steps (NewRow k) ∷ []) ≡ record { first = i; second = j; account = run.Treated (steps ++ record { index = m; monomial = unit; number = k } ∷ []) } ∷ []
+  unfolding lines_from
+  line_row steps k = refl
+
+  pub line_skip : (via : ℕ) → lines_from m (Skipped i j via ∷ []) ≡ record { first = i; second = j; account = run.Skipped via } ∷ []
+  unfolding lines_from
+  line_skip via = refl
+
+pub new_rows-zero : (i j : ℕ) (steps : List (Step rationals)) → new_rows (Treated i j steps Zero ∷ []) ≡ 0
+unfolding new_rows
+new_rows-zero i j steps = refl
+
+pub new_rows-row : (i j : ℕ) (steps : List (Step rationals)) (k : Fraction) → new_rows (Treated i j steps (NewRow k) ∷ []) ≡ 1
+unfolding new_rows
+new_rows-row i j steps k = refl
+
+pub new_rows-skip : (i j via : ℕ) → new_rows (Skipped i j via ∷ []) ≡ 0
+unfolding new_rows
+new_rows-skip i j via = refl
+
+pub no_new_rows : (a n : ℕ) → n ≡ 0 → a ≡ a + n
+no_new_rows a n h = omega arith
+
+pub one_new_row : (a b n : ℕ) → a ≡ b + 1 → n ≡ 1 → a ≡ b + n
+one_new_row a b n h k = omega arith
+
+-- ---- what is kept
+
+module _ (p q : Progress) (e : Event) (i j : ℕ) (account : Account rationals) (first : q.first ≡ p.first) (events : q.events.items ≡ p.events.items ++ e ∷ []) (line : lines_from (p.first + new_rows p.events.items) (e ∷ []) ≡ record { first = i; second = j; account = account } ∷ []) where
+  pub lines_more : lines_from q.first q.events.items ≡ lines_from p.first p.events.items ++ record { first = i; second = j; account = account } ∷ []
+  lines_more = (λ k. lines_from (first k) (events k)) ∙ lines_from-push p.first p.events.items e ∙ ap (λ ls. lines_from p.first p.events.items ++ ls) line
+
+  pub kept_more : (s : Signature) → IsKept s p → Adds i j p.listed q.listed → AllBelong s q.basis.items → AreMonic rationals s.order (monics q.basis) → length q.basis.items ≡ length p.basis.items + new_rows (e ∷ []) → q.basis.width ≡ p.basis.width → q.syzygies.items ≡ p.syzygies.items → IsKept s q
+  kept_more s kept adds belongs monic count width syzygies = record {
+    belongs = belongs;
+    monic = monic;
+    listed = λ x y. adds x y ∙ ap (λ b. (nat_eq x i && nat_eq y j) || b) (kept.listed x y) ∙ sym (ap (is_listed rationals x y) lines_more ∙ is_listed-push x y (lines_from p.first p.events.items) (record { first = i; second = j; account = account }));
+    counted = counts (length q.basis.items) (length p.basis.items) p.first (new_rows p.events.items) (new_rows (e ∷ [])) (new_rows q.events.items) count kept.counted (ap new_rows events ∙ new_rows-push p.events.items e) ∙ ap (λ n. n + new_rows q.events.items) (sym first);
+    wide = subst (λ n. All (λ (r : List Ordered). length r ≡ n) q.syzygies.items) (sym width) (subst (λ rs. All (λ (r : List Ordered). length r ≡ p.basis.width) rs) (sym syzygies) kept.wide);
+    of = subst (All (All (Belongs s))) (sym syzygies) kept.of;
+  }
+    where
+      counts : (a b f m d n : ℕ) → a ≡ b + d → b ≡ f + m → n ≡ m + d → a ≡ f + n
+      counts a b f m d n h k l = omega arith
+
+pub append_nil : {A : Type 0} (xs : List A) → xs ++ [] ≡ xs
+append_nil [] = refl
+append_nil (x ∷ xs) = λ k. x ∷ append_nil xs k
+
+pub more_syzygies : (s : Signature) (p q : Progress) (r : List Ordered) → IsKept s p → q.first ≡ p.first → q.basis ≡ p.basis → q.listed ≡ p.listed → q.events.items ≡ p.events.items → q.syzygies.items ≡ p.syzygies.items ++ r ∷ [] → length r ≡ p.basis.width → All (Belongs s) r → IsKept s q
+more_syzygies s p q r kept first basis listed events syzygies wide of = record {
+  belongs = subst (λ b. AllBelong s b.items) (sym basis) kept.belongs;
+  monic = subst (λ b. AreMonic rationals s.order (monics b)) (sym basis) kept.monic;
+  listed = λ x y. ap (is_in x y) listed ∙ kept.listed x y ∙ (λ k. is_listed rationals x y (lines_from (sym first k) (sym events k)));
+  counted = (λ k. length (basis k).items) ∙ kept.counted ∙ (λ k. sym first k + new_rows (sym events k));
+  wide = subst (λ n. All (λ (r : List Ordered). length r ≡ n) q.syzygies.items) (λ k. (sym basis k).width) (subst (λ rs. All (λ (r : List Ordered). length r ≡ p.basis.width) rs) (sym syzygies) (All-push (λ (r : List Ordered). length r ≡ p.basis.width) p.syzygies.items r kept.wide wide));
+  of = subst (All (All (Belongs s))) (sym syzygies) (All-push (All (Belongs s)) p.syzygies.items r kept.of of);
+}
+
+-- ---- the states of a run
+
+pub zero_state : (o : Order) (p q : Progress) (i j : ℕ) (w : Work rationals) → lines_from q.first q.events.items ≡ lines_from p.first p.events.items ++ record { first = i; second = j; account = run.Treated w.steps } ∷ [] → q.basis ≡ p.basis → map sums_of q.syzygies.items ≡ map sums_of p.syzygies.items ++ unless_zero rationals o w.cofactor → state_of q ≡ run.with_syzygy rationals o (state_of p) i j w
+unfolding run.with_syzygy
+zero_state o p q i j w lines basis syzygies = λ k. record { basis = monics (basis k); listed = lines k; syzygies = syzygies k }
+
+module _ (s : Signature) (p : Progress) (i j : ℕ) (w : Work rationals) (t : Term) where
+  abbrev made : Result (Monic (Row rationals)) Cause
+  made = made_monic rationals rational_inverses (within program s) w.row w.cofactor t
+
+  abbrev finish : Monic (Row rationals) → Result (State rationals) Cause
+  finish b = Ok (record { basis = monics p.basis ++ b ∷ []; listed = run.listing rationals (state_of p) i j (run.Treated (w.steps ++ record { index = length (monics p.basis); monomial = unit; number = coefficient_at rationals w.row t } ∷ [])); syzygies = map sums_of p.syzygies.items })
+
+  pub row_stops : (c : Cause) → pushed (monics p.basis) made ≡ Err c → run.with_row rationals rational_inverses (within program s) (state_of p) i j w t ≡ Err c
+  unfolding run.with_row
+  row_stops c e = by made refl e
+    where
+      by : (x : Result (Monic (Row rationals)) Cause) → made ≡ x → pushed (monics p.basis) x ≡ Err c → (made >>= finish) ≡ Err c
+      by (Ok b) f e = absurd (ok_is_err e)
+        where
+          ok_is_err : {A : Type 0} {x : A} → ◌≡◌ {A = Result A Cause} (Ok x) (Err c) → ⊥
+          ok_is_err e = cc
+      by (Err d) f e = ap (λ (x : Result (Monic (Row rationals)) Cause). x >>= finish) f ∙ ap Err (same_err d c e)
+        where
+          same_err : {A : Type 0} (x y : Cause) → ◌≡◌ {A = Result A Cause} (Err x) (Err y) → x ≡ y
+          same_err x y e = cc
+
+  pub row_state : (q : Progress) (k : Fraction) → coefficient_at rationals w.row t ≡ k → length (monics p.basis) ≡ p.first + new_rows p.events.items → lines_from q.first q.events.items ≡ lines_from p.first p.events.items ++ record { first = i; second = j; account = run.Treated (w.steps ++ record { index = p.first + new_rows p.events.items; monomial = unit; number = k } ∷ []) } ∷ [] → q.syzygies.items ≡ p.syzygies.items → pushed (monics p.basis) made ≡ Ok (monics q.basis) → run.with_row rationals rational_inverses (within program s) (state_of p) i j w t ≡ Ok (state_of q)
+  unfolding run.with_row
+  row_state q k stands place lines syzygies e = by made refl e
+    where
+      by : (x : Result (Monic (Row rationals)) Cause) → made ≡ x → pushed (monics p.basis) x ≡ Ok (monics q.basis) → (made >>= finish) ≡ Ok (state_of q)
+      by (Err d) f e = absurd (err_is_ok e)
+        where
+          err_is_ok : {A : Type 0} {x : A} → ◌≡◌ {A = Result A Cause} (Err d) (Ok x) → ⊥
+          err_is_ok e = cc
+      by (Ok b) f e =
+          ap (λ (x : Result (Monic (Row rationals)) Cause). x >>= finish) f
+          ∙ (λ n. Ok (record { basis = same_ok _ _ e n; listed = (as_lines ∙ sym lines) n; syzygies = map sums_of (sym syzygies n) }))
+        where
+          same_ok : (x y : List (Monic (Row rationals))) → ◌≡◌ {A = Result (List (Monic (Row rationals))) Cause} (Ok x) (Ok y) → x ≡ y
+          same_ok x y e = cc
+
+          as_lines : run.listing rationals (state_of p) i j (run.Treated (w.steps ++ record { index = length (monics p.basis); monomial = unit; number = coefficient_at rationals w.row t } ∷ [])) ≡ lines_from p.first p.events.items ++ record { first = i; second = j; account = run.Treated (w.steps ++ record { index = p.first + new_rows p.events.items; monomial = unit; number = k } ∷ []) } ∷ []
+          as_lines = λ n. lines_from p.first p.events.items ++ record { first = i; second = j; account = run.Treated (w.steps ++ record { index = place n; monomial = unit; number = stands n } ∷ []) } ∷ []
+
+module _ (s : Signature) (st : State rationals) (i j : ℕ) (w : Work rationals) where
+  abbrev settled : Result (State rationals) Cause
+  settled = run.settle rationals rational_inverses s.order (within program s) st i j w
+
+  pub settle_none : row_lead rationals s.order w.row ≡ None → settled ≡ Ok (run.with_syzygy rationals s.order st i j w)
+  unfolding run.settle
+  settle_none e = ap (λ (x : Option Term). elim x [ None ↦ Ok (run.with_syzygy rationals s.order st i j w) | Some t ↦ run.with_row rationals rational_inverses (within program s) st i j w t ]) e
+
+  pub settle_some : (t : Term) → row_lead rationals s.order w.row ≡ Some t → settled ≡ run.with_row rationals rational_inverses (within program s) st i j w t
+  unfolding run.settle
+  settle_some t e = ap (λ (x : Option Term). elim x [ None ↦ Ok (run.with_syzygy rationals s.order st i j w) | Some t ↦ run.with_row rationals rational_inverses (within program s) st i j w t ]) e
+
+module _ (s : Signature) (st : State rationals) (i j : ℕ) (a b : Monic (Row rationals)) where
+  abbrev treated : Result (State rationals) Cause
+  treated = run.treat rationals rational_inverses s.order (within program s) st i j a b
+
+  pub treat_first : (c : Cause) → run.s_row rationals (within program s) a b ≡ Err c → treated ≡ Err c
+  unfolding run.treat
+  treat_first c e = λ n. e n >>= λ start. reduce rationals s.order (within program s) st.basis start >>= λ rest. run.settle rationals rational_inverses s.order (within program s) st i j rest
+
+  pub treat_second : (w : Work rationals) (c : Cause) → run.s_row rationals (within program s) a b ≡ Ok w → reduce rationals s.order (within program s) st.basis w ≡ Err c → treated ≡ Err c
+  unfolding run.treat
+  treat_second w c e f =
+      (λ n. e n >>= λ start. reduce rationals s.order (within program s) st.basis start >>= λ rest. run.settle rationals rational_inverses s.order (within program s) st i j rest)
+      ∙ ap (λ (x : Result (Work rationals) Cause). x >>= λ rest. run.settle rationals rational_inverses s.order (within program s) st i j rest) f
+
+  pub treat_last : (w v : Work rationals) → run.s_row rationals (within program s) a b ≡ Ok w → reduce rationals s.order (within program s) st.basis w ≡ Ok v → treated ≡ run.settle rationals rational_inverses s.order (within program s) st i j v
+  unfolding run.treat
+  treat_last w v e f =
+      (λ n. e n >>= λ start. reduce rationals s.order (within program s) st.basis start >>= λ rest. run.settle rationals rational_inverses s.order (within program s) st i j rest)
+      ∙ ap (λ (x : Result (Work rationals) Cause). x >>= λ rest. run.settle rationals rational_inverses s.order (within program s) st i j rest) f

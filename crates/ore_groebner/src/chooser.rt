@@ -1,0 +1,72 @@
+//! Who chooses what a run does next.
+
+ghost use Rattle.std.specs.Prelude.{◌≡◌, ◌≢◌, ℕ, Bool, List, [], ◌∷◌, ◌++◌, IfOk, IfErr};
+ghost use Rattle.ore_monomial.specs.Term.{Term};
+ghost use Rattle.ore_rows.specs.Reduction.{leads_of};
+ghost use Rattle.ore_rows.specs.declared.choices.Choice as rows;
+ghost use Rattle.ore_groebner.specs.Choosing.{present, given_after, BeginsWith, ListsChoices, IsAnswer};
+
+use ore_monomial::NoMemory;
+use ore_pairs::Listed;
+use ore_rows::{Basis, Choice};
+
+/// How something is chosen.
+pub trait Rule {}
+
+/// What a chooser answers.
+#[derive(Clone, Copy, Debug, PartialEq, Eq, Drop)]
+pub enum Next {
+    /// This comes next.
+    Choose(Choice),
+    /// Each pair is dealt with.
+    Complete,
+    /// A pair is left, and the budget is spent.
+    Spent,
+    /// A pair is left, and the next kept choice is absent or not lawful.
+    NoLawful,
+}
+
+/// A source of choices, for one run after another.
+pub trait Chooser: Rule {
+    /// The choices that it gave, run by run. The present run is the last.
+    ghost given: { Self → List (List rows.Choice) };
+
+    /// How many pairs it treats in all its runs.
+    ghost budget: { Self → ℕ };
+
+    /// Whether it gives the choices that it keeps.
+    ghost replays: { Self → Bool };
+
+    /// The choices that it keeps, run by run.
+    ghost kept: { Self → List (List rows.Choice) };
+
+    /// The leads that it was shown last in the present run, in their order.
+    ghost shown: { Self → List Term };
+
+    /// A new run begins.
+    ///
+    /// # Errors
+    /// Want of memory. Then no run has begun.
+    fn start_run(&mut self) -> Result<(), NoMemory>
+        ensures begun { IfOk result (λ _. given self.new ≡ given self.old ++ [] ∷ []) }
+        ensures none_shown { IfOk result (λ _. shown self.new ≡ []) }
+        ensures refused { IfErr result (λ _. given self.new ≡ given self.old) }
+        ensures budget { budget self.new ≡ budget self.old }
+        ensures replays { replays self.new ≡ replays self.old }
+        ensures kept { kept self.new ≡ kept self.old };
+
+    /// What comes next in the present run.
+    ///
+    /// # Errors
+    /// Want of memory. Then it has given nothing.
+    fn next(&mut self, basis: &Basis, listed: &Listed) -> Result<Next, NoMemory>
+        requires begun { given self.old ≢ [] }
+        requires lists { ListsChoices listed.now (present (given self.old)) }
+        requires grown { BeginsWith (leads_of basis.now.items) (shown self.old) }
+        ensures answer { IfOk result (IsAnswer basis.now listed.now (given self.old) (budget self.old) (replays self.old) (kept self.old)) }
+        ensures given { given self.new ≡ given_after (given self.old) result }
+        ensures shown { IfOk result (λ _. shown self.new ≡ leads_of basis.now.items) }
+        ensures budget { budget self.new ≡ budget self.old }
+        ensures replays { replays self.new ≡ replays self.old }
+        ensures kept { kept self.new ≡ kept self.old };
+}
