@@ -2,15 +2,21 @@
 --     begin_none, begin_some     a row that is zero, and one that isn't
 --     based_stops, based_gives   one more basis row
 --     begun_lines, monic_kept    what is kept still fits together
+--     begun_first                the number of rows that is kept
+--     origins_next               the origins of the syzygies after one more row
+--     drop_at, drop_end          a list from a place on, inside it and past its end
 --     rows_start, rows_next, rows_stop, rows_end     the rows from a place on
 --     empty_kept                 before the first row
-use Rattle.std.proofs.Common.{◌≡◌, ℕ, zero, suc, ◌≤◌, ◌+◌, List, [], ◌∷◌, ◌++◌, length, map, drop, refl, sym, ap, ◌∙◌, subst, arith}
-use Rattle.std.specs.List.{All, slice_get}
+use Rattle.std.proofs.Common.{◌≡◌, inl, inr, ℕ, zero, suc, ◌≤◌, ◌+◌, List, [], ◌∷◌, ◌++◌, length, map, drop, refl, sym, ap, ◌∙◌, subst, arith}
+use Rattle.std.specs.List.{All, AllZip, slice_get}
+use Rattle.std.specs.Option.{option_map}
 use Rattle.std.specs.declared.option.Option.{Option}
 use Rattle.std.specs.declared.option.Option.TheVariants.{None, Some}
 use Rattle.std.specs.declared.result.Result.{Result}
 use Rattle.std.specs.declared.result.Result.TheVariants.{Ok, Err}
 use Rattle.std.proofs.lemmas.List.Elements.{All-nil}
+use Rattle.std.proofs.lemmas.Option.{slice_get-map}
+use Rattle.std.proofs.lemmas.Slice.Zip.{all_zipped_more}
 use Rattle.ore_algebra.specs.Limits.{Cause, program, ◌>>=◌}
 use Rattle.ore_rational.proofs.FractionLaws.{rationals, rational_inverses}
 use Rattle.ore_monomial.specs.Signature.{Signature}
@@ -23,10 +29,11 @@ use Rattle.ore_rows.specs.RowLead.{row_lead}
 use Rattle.ore_rows.specs.Rows.{Row, unit_row}
 use Rattle.ore_rows.specs.Run.{State, is_listed, made_monic}
 use Rattle.ore_rows.specs.Run as run
-use Rattle.ore_rows.specs.Stored.{sums_of}
+use Rattle.ore_rows.specs.Stored.{OperatorMatrix, sums_of}
 use Rattle.ore_rows.specs.StoredBasis.{StoredBasis, AllBelong, monics}
 use Rattle.ore_pairs.specs.Listed.{is_in}
-use Rattle.ore_groebner.specs.Progressing.{lines_from, new_rows, pushed, based, state_of, IsBegun, IsKept}
+use Rattle.ore_groebner.specs.Honest.{IsOrigin}
+use Rattle.ore_groebner.specs.Progressing.{lines_from, new_rows, pushed, based, state_of, zero_row_at, IsBegun, IsKept, IsNoted}
 use Rattle.ore_groebner.specs.declared.progress.Progress.{Progress}
 
 module _ (s : Signature) (q k : ℕ) (r : Row rationals) (st : State rationals) where
@@ -93,9 +100,20 @@ monic_kept s q begun first belongs monic wide of = record {
     counts : (a f n : ℕ) → f ≡ a → n ≡ 0 → a ≡ f + n
     counts a f n h k = omega arith
 
+-- what a run begins with counts the rows of its basis
+pub begun_first : (s : Signature) (p : Progress) → IsKept s p → IsBegun p → p.first ≡ length p.basis.items
+begun_first s p kept begun = counts (length p.basis.items) p.first (new_rows p.events.items) kept.counted (ap new_rows begun.events ∙ none_new)
+  where
+    counts : (a f n : ℕ) → a ≡ f + n → n ≡ 0 → f ≡ a
+    counts a f n h k = omega arith
+
+pub origins_next : (s : Signature) (a : OperatorMatrix) (k : ℕ) (row : List Ordered) (p q : Progress) → slice_get a.rows k ≡ Some row → p.basis.width ≡ length a.rows → IsNoted s k row p q → AllZip (IsOrigin s a []) p.origins.items p.syzygies.items → AllZip (IsOrigin s a []) q.origins.items q.syzygies.items
+origins_next s a k row p q at width (inl same) h = rw (same.1, same.0) h
+origins_next s a k row p q at width (inr new) h = rw (new.2, new.1) (all_zipped_more (IsOrigin s a []) p.origins.items p.syzygies.items (zero_row_at k) new.0 h (sums_of row, slice_get-map sums_of a.rows k ∙ ap (option_map sums_of) at, new.3, new.4 ∙ ap (λ n. unit_row rationals n k) width))
+
 -- ---- the rows from a place on
 
-drop_at : {A : Type 0} (xs : List A) (k : ℕ) (x : A) → slice_get xs k ≡ Some x → drop k xs ≡ x ∷ drop (suc k) xs
+pub drop_at : {A : Type 0} (xs : List A) (k : ℕ) (x : A) → slice_get xs k ≡ Some x → drop k xs ≡ x ∷ drop (suc k) xs
 drop_at [] k x e = absurd (none_some e)
   where
     none_some : {A : Type 0} {x : A} → ◌≡◌ {A = Option A} None (Some x) → ⊥
@@ -106,7 +124,7 @@ drop_at (y ∷ xs) zero x e = λ n. same_some y x e n ∷ xs
     same_some x y e = cc
 drop_at (y ∷ xs) (suc k) x e = drop_at xs k x e
 
-drop_end : {A : Type 0} (xs : List A) (k : ℕ) → length xs ≤ k → drop k xs ≡ []
+pub drop_end : {A : Type 0} (xs : List A) (k : ℕ) → length xs ≤ k → drop k xs ≡ []
 drop_end [] zero h = refl
 drop_end [] (suc k) h = refl
 drop_end (y ∷ xs) zero h = absurd (omega arith)

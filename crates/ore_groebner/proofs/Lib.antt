@@ -12,4 +12,13 @@ pub mod Returning
 pub mod Complete
 pub mod Progresses
 pub mod Begins
+pub mod Multiples
 pub mod StoredMonics
+pub mod Opened
+pub mod Given
+pub mod Unlisted
+pub mod Stepping
+pub mod Showing
+pub mod Leading
+pub mod Ending
+pub mod Bounding

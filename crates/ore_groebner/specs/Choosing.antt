@@ -5,7 +5,8 @@
 --     present, with_choice      the choices of the present run; one more of them
 --     next_kept                 of the kept choices the one whose turn it is
 --     given_after               the runs after an answer
---     BeginsWith                a list begins with another
+--     BeginsWith                a list begins with another (Shown)
+--     IsPrefixOfKept            the choices given are some of the first that are kept, run by run
 --     ListsChoices              the pairs that are listed are those of some choices
 --     IsOpen, HasOpen           a pair may be chosen; some pair may
 --     MaySkip                   the definition of a run allows to skip a pair by a third row
@@ -26,6 +27,7 @@ use Rattle.ore_rows.specs.StoredBasis.{StoredBasis, monics}
 use Rattle.ore_rows.specs.declared.choices.Choice.{Choice}
 use Rattle.ore_rows.specs.declared.choices.Choice.TheVariants.{Treat, Skip}
 use Rattle.ore_pairs.specs.Listed.{is_in, AreAt, HasPairsOf}
+pub use Rattle.ore_groebner.specs.Shown.{BeginsWith}
 use Rattle.ore_groebner.specs.declared.chooser.Next.{Next}
 use Rattle.ore_groebner.specs.declared.chooser.Next.TheVariants.{Choose, Complete, Spent, NoLawful}
 
@@ -76,8 +78,10 @@ given_after runs (Ok Spent) = runs
 given_after runs (Ok NoLawful) = runs
 given_after runs (Err e) = runs
 
-abbrev pub BeginsWith : {A : Type 0} → List A → List A → Type 0
-BeginsWith {A} xs front = (rest : List A) × (xs ≡ front ++ rest)
+-- a chooser that doesn't replay keeps nothing; one that does has given, in each run, a front of what it keeps for it
+pub record IsPrefixOfKept (replays : Bool) (kept given : List (List Choice)) : Type 0 where
+  pub keeps_none : replays ≡ false → kept ≡ []
+  pub gives_kept : replays ≡ true → (k : ℕ) → BeginsWith (get_or kept k []) (get_or given k [])
 
 -- the pairs that are listed are those of the choices
 abbrev pub ListsChoices : List (ℕ × ℕ) → List Choice → Type 0

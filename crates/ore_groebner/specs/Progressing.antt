@@ -10,10 +10,13 @@
 --     based               one more basis row that is made
 --     IsBegun             nothing was done with any pair
 --     HasWidthsOf         the widths are the same
+--     zero_row_at         the zero row at a place, as an origin
+--     IsNoted             there is no new syzygy, or that of a zero row with its origin
 --     Adds                one pair is added
 --     IsGrown             there is no new syzygy, or one with its origin
 use Rattle.std.specs.Prelude.{◌≡◌, ◌⊎◌, ◌&&◌, ◌||◌, nat_eq, ℕ, suc, ◌+◌, List, [], ◌∷◌, ◌++◌, length, map}
 use Rattle.std.specs.List.{All}
+use Rattle.std.specs.declared.option.Option.TheVariants.{None}
 use Rattle.std.specs.declared.result.Result.{Result}
 use Rattle.std.specs.declared.result.Result.TheVariants.{Ok}
 use Rattle.ore_algebra.specs.Limits.{Cause, ◌>>=◌}
@@ -24,7 +27,8 @@ use Rattle.ore_monomial.specs.Term.{Term}
 use Rattle.ore_ring.specs.Belongs.{Belongs}
 use Rattle.ore_ring.specs.Ordered.{Ordered}
 use Rattle.ore_rows.specs.Reduction.{Monic, AreMonic}
-use Rattle.ore_rows.specs.Rows.{Row}
+use Rattle.ore_rows.specs.RowLead.{row_lead}
+use Rattle.ore_rows.specs.Rows.{Row, unit_row}
 use Rattle.ore_rows.specs.Run.{Line, State}
 use Rattle.ore_rows.specs.Run as run
 use Rattle.ore_rows.specs.Stored.{sums_of}
@@ -102,3 +106,13 @@ pub record IsBegun (p : Progress) : Type 0 where
 pub record HasWidthsOf (p q : Progress) : Type 0 where
   pub cols : q.basis.cols ≡ p.basis.cols
   pub width : q.basis.width ≡ p.basis.width
+
+-- the zero row of the matrix at a place, as an origin
+abbrev pub zero_row_at : ℕ → Origin
+zero_row_at k = origins.ZeroRow k
+
+-- no syzygy is new, or the row at place k is zero, its unit row is one, and the origin of that is noted
+abbrev pub IsNoted : Signature → ℕ → List Ordered → Progress → Progress → Type 0
+IsNoted s k row p q =
+    ((q.syzygies.items ≡ p.syzygies.items) × (q.origins.items ≡ p.origins.items))
+    ⊎ ((r : List Ordered) × (q.syzygies.items ≡ p.syzygies.items ++ r ∷ []) × (q.origins.items ≡ p.origins.items ++ zero_row_at k ∷ []) × (row_lead rationals s.order (sums_of row) ≡ None) × (sums_of r ≡ unit_row rationals p.basis.width k))

@@ -1,17 +1,23 @@
 //! Who chooses what a run does next.
 
 ghost use Rattle.std.specs.Prelude.{◌≡◌, ◌≢◌, ℕ, Bool, List, [], ◌∷◌, ◌++◌, IfOk, IfErr};
-ghost use Rattle.ore_monomial.specs.Term.{Term};
-ghost use Rattle.ore_rows.specs.Reduction.{leads_of};
 ghost use Rattle.ore_rows.specs.declared.choices.Choice as rows;
-ghost use Rattle.ore_groebner.specs.Choosing.{present, given_after, BeginsWith, ListsChoices, IsAnswer};
+ghost use Rattle.ore_groebner.specs.Choosing.{present, given_after, ListsChoices, IsAnswer, IsPrefixOfKept};
+ghost use Rattle.ore_groebner.specs.Shown.{Shown, shown_of, none_shown, IsGrownFrom};
+ghost use Rattle.ore_groebner.specs.Rules.{IsAllowed};
 
 use ore_monomial::NoMemory;
 use ore_pairs::Listed;
 use ore_rows::{Basis, Choice};
 
-/// How something is chosen.
-pub trait Rule {}
+/// Which choices may come, and whether the budget may be spent, by the leads of the basis and the listed pairs.
+pub trait Rule {
+    /// The choice may come.
+    ghost allows: { Shown → List (ℕ × ℕ) → rows.Choice → Bool };
+
+    /// The answer that the budget is spent may come.
+    ghost allows_spent: { Shown → List (ℕ × ℕ) → Bool };
+}
 
 /// What a chooser answers.
 #[derive(Clone, Copy, Debug, PartialEq, Eq, Drop)]
@@ -40,8 +46,8 @@ pub trait Chooser: Rule {
     /// The choices that it keeps, run by run.
     ghost kept: { Self → List (List rows.Choice) };
 
-    /// The leads that it was shown last in the present run, in their order.
-    ghost shown: { Self → List Term };
+    /// The order of monomials and the leads that it was shown last in the present run.
+    ghost shown: { Self → Shown };
 
     /// A new run begins.
     ///
@@ -49,7 +55,7 @@ pub trait Chooser: Rule {
     /// Want of memory. Then no run has begun.
     fn start_run(&mut self) -> Result<(), NoMemory>
         ensures begun { IfOk result (λ _. given self.new ≡ given self.old ++ [] ∷ []) }
-        ensures none_shown { IfOk result (λ _. shown self.new ≡ []) }
+        ensures none_shown { IfOk result (λ _. shown self.new ≡ none_shown) }
         ensures refused { IfErr result (λ _. given self.new ≡ given self.old) }
         ensures budget { budget self.new ≡ budget self.old }
         ensures replays { replays self.new ≡ replays self.old }
@@ -62,11 +68,15 @@ pub trait Chooser: Rule {
     fn next(&mut self, basis: &Basis, listed: &Listed) -> Result<Next, NoMemory>
         requires begun { given self.old ≢ [] }
         requires lists { ListsChoices listed.now (present (given self.old)) }
-        requires grown { BeginsWith (leads_of basis.now.items) (shown self.old) }
+        requires grown { IsGrownFrom (shown self.old) basis.now }
         ensures answer { IfOk result (IsAnswer basis.now listed.now (given self.old) (budget self.old) (replays self.old) (kept self.old)) }
+        ensures allowed { IfOk result (IsAllowed Self.allows Self.allows_spent (shown_of basis.now) listed.now) }
         ensures given { given self.new ≡ given_after (given self.old) result }
-        ensures shown { IfOk result (λ _. shown self.new ≡ leads_of basis.now.items) }
+        ensures shown { IfOk result (λ _. shown self.new ≡ shown_of basis.now) }
         ensures budget { budget self.new ≡ budget self.old }
         ensures replays { replays self.new ≡ replays self.old }
         ensures kept { kept self.new ≡ kept self.old };
+
+    /// One that doesn't replay keeps no choices; one that does has given, in each run, a front of those that it keeps.
+    ghost keeps: { (x : Self) → IsPrefixOfKept (replays x) (kept x) (given x) };
 }

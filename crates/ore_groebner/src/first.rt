@@ -1,7 +1,7 @@
 //! The first basis of a run.
 
-ghost use Rattle.std.specs.Prelude.{◌≡◌, ◌<◌, ◌++◌, ◌∷◌, [], length, map, IfOk, IfErr};
-ghost use Rattle.std.specs.List.{All};
+ghost use Rattle.std.specs.Prelude.{◌≡◌, ◌≤◌, ◌<◌, ◌+◌, ◌++◌, ◌∷◌, [], length, map, IfOk, IfErr};
+ghost use Rattle.std.specs.List.{All, AllZip};
 ghost use Rattle.ore_algebra.specs.Limits.{program};
 ghost use Rattle.ore_rational.proofs.FractionLaws.{rationals, rational_inverses};
 ghost use Rattle.ore_monomial.specs.Gives.{Gives};
@@ -12,7 +12,8 @@ ghost use Rattle.ore_rows.specs.RowLead.{IsRowLead};
 ghost use Rattle.ore_rows.specs.Rows as rows;
 ghost use Rattle.ore_rows.specs.Run as run;
 ghost use Rattle.ore_rows.specs.Stored.{IsZeroRow, rows_of, sums_of};
-ghost use Rattle.ore_groebner.specs.Progressing.{state_of, based, IsBegun, IsKept, HasWidthsOf};
+ghost use Rattle.ore_groebner.specs.Honest.{IsOrigin};
+ghost use Rattle.ore_groebner.specs.Progressing.{state_of, based, zero_row_at, IsBegun, IsKept, IsNoted, HasWidthsOf};
 
 use crate::monic::push_monic;
 use crate::outcome::Origin;
@@ -36,6 +37,8 @@ pub fn begin<R: OreRing>(ring: &R, alloc: Global, a: &Matrix) -> Result<Progress
     ensures begun { IfOk result IsBegun }
     ensures cols { IfOk result (λ p. p.basis.cols ≡ a.now.cols) }
     ensures width { IfOk result (λ p. p.basis.width ≡ length a.now.rows) }
+    ensures origins { IfOk result (λ p. AllZip (IsOrigin (R.signature_of ring.now) a.now []) p.origins.items p.syzygies.items) }
+    ensures first { IfOk result (λ p. (p.first ≡ length p.basis.items) × (p.first ≤ length a.now.rows)) }
 {
     let mut progress = Progress {
         first: 0,
@@ -67,6 +70,8 @@ fn begin_row<R: OreRing>(
     ensures kept { IfOk result (IsKept (R.signature_of ring.now)) }
     ensures begun { IfOk result IsBegun }
     ensures widths { IfOk result (HasWidthsOf progress) }
+    ensures noted { IfOk result (IsNoted (R.signature_of ring.now) k row.now progress) }
+    ensures count { IfOk result (λ p. length p.basis.items ≤ length progress.basis.items + 1) }
 {
     let unit = unit_row(alloc, ring.signature(), progress.basis.width(), k)?;
     match row_lead(ring.signature(), row) {
@@ -90,6 +95,9 @@ fn begin_zero(
     ensures kept { IfOk result (IsKept sig.now) }
     ensures begun { IfOk result IsBegun }
     ensures widths { IfOk result (HasWidthsOf progress) }
+    ensures added { IfOk result (λ p. p.syzygies.items ≡ progress.syzygies.items ++ unit ∷ []) }
+    ensures noted { IfOk result (λ p. p.origins.items ≡ progress.origins.items ++ zero_row_at k ∷ []) }
+    ensures basis { IfOk result (λ p. p.basis ≡ progress.basis) }
 {
     let _ = sig;
     let mut grown = progress;
@@ -118,6 +126,9 @@ fn begin_monic<R: OreRing>(
     ensures kept { IfOk result (IsKept (R.signature_of ring.now)) }
     ensures begun { IfOk result IsBegun }
     ensures widths { IfOk result (HasWidthsOf progress) }
+    ensures syzygies { IfOk result (λ p. p.syzygies.items ≡ progress.syzygies.items) }
+    ensures origins { IfOk result (λ p. p.origins.items ≡ progress.origins.items) }
+    ensures count { IfOk result (λ p. length p.basis.items ≡ length progress.basis.items + 1) }
 {
     let Progress {
         first: _,

@@ -8,8 +8,13 @@
 //! A [`progress::Progress`] is what a run has made so far. It is seen as a state of a run (`specs/Progressing.antt`).
 //! [`first::begin`] makes the state before the first choice, [`progress::treat`] treats a pair and [`progress::skip`]
 //! skips one. Each gives what its definition gives at the limits of the program, or the cause of the first operation
-//! that stops; want of memory is the one answer beside it. [`entries::entry_row`] makes the rows that say how the rows
-//! of the matrix are multiples of the first basis rows.
+//! that stops; want of memory is the one answer beside it. [`entries::from_matrix`] makes the rows that say how
+//! the rows of the matrix are multiples of the first basis rows.
+//!
+//! [`run::run`] goes from there to the end by the choices of a chooser. What it answers is a complete state to which
+//! these choices lead (`specs/Honest.antt`), each of them allowed by the rule of the chooser; where it halts, its
+//! clauses say at which state and why. It ends, since each choice lists one more pair and the budget bounds how many
+//! basis rows there can be. `specs/Following.antt` has what the loop keeps.
 //!
 //! The law functions of [`laws`] say of each state that a run reaches, within whatever limits:
 //!
@@ -30,11 +35,15 @@
 
 pub mod chooser;
 pub mod entries;
+mod finish;
 pub mod first;
+mod following;
+mod halting;
 pub mod laws;
 pub mod monic;
 pub mod outcome;
 pub mod progress;
+pub mod run;
 
 pub use chooser::{Chooser, Next, Rule};
 pub use outcome::{Event, Events, Finished, Halt, Origin, Origins, Outcome, StopAt};

@@ -38,7 +38,8 @@ impl Matrix {
 
     /// The number of rows.
     pub fn rows(&self) -> usize
-        ensures { result ≡ length self.now.rows }
+        ensures value { result ≡ length self.now.rows }
+        ensures few { result < 2 ^ 63 }
     {
         self.rows.len()
     }

@@ -15,7 +15,7 @@ use Rattle.ore_rows.specs.StoredBasis.{StoredBasis, monics}
 use Rattle.ore_rows.proofs.Dots.{all_at}
 use Rattle.ore_groebner.specs.Progressing.{state_of, IsBegun}
 use Rattle.ore_groebner.specs.declared.progress.Progress.{Progress}
-use Rattle.ore_groebner.proofs.Begins.{rows_start, rows_next, rows_stop, rows_end, empty_kept}
+use Rattle.ore_groebner.proofs.Begins.{begun_first, origins_next, rows_start, rows_next, rows_stop, rows_end, empty_kept}
 use Rattle.ore_groebner.proofs.first.begin.Goals as goal
 
 pub loop-k-init : goal.loop-k-init
@@ -28,7 +28,9 @@ loop-k-init g c =
       kept = empty_kept s p _ _ c.new.ensures refl begun c.new-4.ensures.items;
       begun = begun;
       cols = ap (λ (b : StoredBasis). b.cols) c.new.ensures ∙ c.cols.ensures.value;
-      width = ap (λ (b : StoredBasis). b.width) c.new.ensures ∙ c.rows.ensures;
+      width = ap (λ (b : StoredBasis). b.width) c.new.ensures ∙ c.rows.ensures.value;
+      origins = rw (c.new-5.ensures.items, c.new-4.ensures.items) tt;
+      few = let e = ap (λ (b : StoredBasis). length b.items) c.new.ensures in omega arith;
     }
 
 pub begin_row-requires-clause-row_of : goal.begin_row-requires-clause-row_of
@@ -55,6 +57,8 @@ loop-k-preserved g c =
       begun = e.begun;
       cols = e.widths.cols ∙ i.cols;
       width = e.widths.width ∙ i.width;
+      origins = origins_next s a c.loop-k.k c.row.result.now c.loop-k.progress c.in_ok-progress.progress c.row.ensures.value i.width e.noted i.origins;
+      few = let n = e.count in let m = i.few in omega arith;
     }
 
 pub returns-clause-gives : goal.returns-clause-gives
@@ -62,3 +66,9 @@ returns-clause-gives g c =
     let s = g.R.OreRing.signature_of c.args.ring.now in
     let a = c.args.a.now in
     c.loop-k.invariant.told ∙ rows_end s (rows_of a) (length (rows_of a)) c.loop-k.k (state_of c.loop-k.progress) (subst (λ n. n ≤ c.loop-k.k) (sym (length-map a.rows sums_of)) (grind arith))
+
+pub returns-clause-first : goal.returns-clause-first
+returns-clause-first g c =
+    let i = c.loop-k.invariant in
+    let e = begun_first (g.R.OreRing.signature_of c.args.ring.now) c.loop-k.progress i.kept i.begun in
+    (e, grind (arith, e, i.few, c.rows-k-end.ensures.value))

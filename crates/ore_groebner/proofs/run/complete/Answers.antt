@@ -1,0 +1,85 @@
+use Rattle.std.proofs.Common.{◌≡◌, ◌≢◌, ◌<◌, ◌++◌, ◌∷◌, [], sym, ap, ◌∙◌, subst}
+use Rattle.std.specs.declared.option.Option.{Option}
+use Rattle.std.proofs.lemmas.Result.{err_from_is_err_and}
+use Rattle.ore_rows.specs.declared.choices.Choice.{Choice}
+use Rattle.ore_groebner.specs.Choosing.{present}
+use Rattle.ore_groebner.specs.Following.{earlier, given_with, IsNext, IsNextAllowed, IsLed}
+use Rattle.ore_groebner.specs.Honest.{IsHalted}
+use Rattle.ore_groebner.specs.Progressing.{state_of}
+use Rattle.ore_groebner.specs.Shown.{Shown, shown_of, IsGrownFrom}
+use Rattle.ore_groebner.proofs.Bounding.{rows_left, left_smaller}
+use Rattle.ore_groebner.proofs.Ending.{refusal_halts, stop_halts}
+use Rattle.ore_groebner.proofs.Given.{with_choice-begun, present-with_choice, earlier-with_choice}
+use Rattle.ore_groebner.proofs.Leading.{led_next}
+use Rattle.ore_groebner.proofs.Showing.{grown_shown}
+use Rattle.ore_groebner.proofs.Stepping.{step_longer}
+use Rattle.ore_groebner.proofs.Unlisted.{unlisted}
+use Rattle.ore_groebner.proofs.run.complete.Goals as goal
+
+pub returns-in_err-choice-clause-halted : goal.returns-in_err-choice-clause-halted
+returns-in_err-choice-clause-halted g c =
+    let s = g.R.OreRing.signature_of c.args.ring.now in
+    let a = c.args.a.now in
+    let x = c.loop-progress.chooser in
+    let p = err_from_is_err_and c.from_residual.result c.from_residual.ensures.1 in
+    let h = refusal_halts s a g.C.Rule.allows c.loop-progress.progress (g.C.Chooser.given x) (g.C.Chooser.budget x) (g.C.Chooser.replays x) (g.C.Chooser.kept x) c.loop-progress.invariant.led _ c.in_err-choice.ensures.refusal in
+    rw (p.1, p.2, c.in_err-choice.ensures.same, c.chosen.ensures.budget, c.chosen.ensures.replays, c.chosen.ensures.kept) h
+
+pub returns-in_err-progress-clause-begun : goal.returns-in_err-progress-clause-begun
+returns-in_err-progress-clause-begun g c =
+    let given = g.C.Chooser.given c.loop-progress.chooser in
+    let now = c.in_ok-choice.ensures.given ∙ ap (λ (o : Option Choice). given_with given o) c.in-Some.is in
+    λ e. with_choice-begun given c.in-Some.choice c.loop-progress.invariant.begun (sym now ∙ e)
+
+pub returns-in_err-progress-clause-earlier : goal.returns-in_err-progress-clause-earlier
+returns-in_err-progress-clause-earlier g c =
+    let given = g.C.Chooser.given c.loop-progress.chooser in
+    let now = c.in_ok-choice.ensures.given ∙ ap (λ (o : Option Choice). given_with given o) c.in-Some.is in
+    ap earlier now ∙ earlier-with_choice given c.in-Some.choice ∙ c.loop-progress.invariant.earlier
+
+pub returns-in_err-progress-clause-halted : goal.returns-in_err-progress-clause-halted
+returns-in_err-progress-clause-halted g c =
+    let s = g.R.OreRing.signature_of c.args.ring.now in
+    let i = c.loop-progress.invariant in
+    let given = g.C.Chooser.given c.loop-progress.chooser in
+    let now = c.in_ok-choice.ensures.given ∙ ap (λ (o : Option Choice). given_with given o) c.in-Some.is in
+    let y = c.chosen.new.chooser in
+    let p = err_from_is_err_and c.from_residual-in_err-progress.result c.from_residual-in_err-progress.ensures.1 in
+    rw (p.1, p.2) (stop_halts s c.args.a.now g.C.Rule.allows c.loop-progress.progress (g.C.Chooser.given y) (g.C.Chooser.budget y) (g.C.Chooser.replays y) (g.C.Chooser.kept y) (present given) c.in-Some.choice i.led (ap present now ∙ present-with_choice given c.in-Some.choice i.begun) _ c.in_err-progress.ensures.halted)
+
+pub loop-progress-smaller : goal.loop-progress-smaller
+loop-progress-smaller g c =
+    let s = g.R.OreRing.signature_of c.args.ring.now in
+    let x = c.loop-progress.chooser in
+    let given = g.C.Chooser.given x in
+    let budget = g.C.Chooser.budget x in
+    let p = c.loop-progress.progress in
+    let q = c.in_ok-progress.progress in
+    let e = c.in_ok-choice.ensures in
+    let now = e.given ∙ ap (λ (o : Option Choice). given_with given o) c.in-Some.is in
+    let next = subst (λ (o : Option Choice). IsNext p.basis p.listed given budget o) c.in-Some.is e.next in
+    subst (λ n. n < unlisted p.listed (rows_left p.basis given budget)) (sym (λ k. unlisted q.listed (rows_left q.basis (now k) (c.chosen.ensures.budget k)))) (left_smaller s p q c.in-Some.choice given budget c.loop-progress.invariant.begun next.0 next.1 c.in_ok-progress.ensures.followed)
+
+pub loop-progress-preserved : goal.loop-progress-preserved
+loop-progress-preserved g c =
+    let s = g.R.OreRing.signature_of c.args.ring.now in
+    let a = c.args.a.now in
+    let i = c.loop-progress.invariant in
+    let given = g.C.Chooser.given c.loop-progress.chooser in
+    let p = c.loop-progress.progress in
+    let q = c.in_ok-progress.progress in
+    let d = c.in-Some.choice in
+    let e = c.in_ok-choice.ensures in
+    let f = c.in_ok-progress.ensures.followed in
+    let now = e.given ∙ ap (λ (o : Option Choice). given_with given o) c.in-Some.is in
+    let allowed = subst (λ (o : Option Choice). IsNextAllowed g.C.Rule.allows (shown_of p.basis) p.listed o) c.in-Some.is e.allowed in
+    let longer = step_longer s (state_of p) (state_of q) d f.made in
+    record {
+      begun = λ z. with_choice-begun given d i.begun (sym now ∙ z);
+      led = subst (λ cs. IsLed s a g.C.Rule.allows cs q) (sym (ap present now ∙ present-with_choice given d i.begun)) (led_next s a g.C.Rule.allows (present given) d p q i.led allowed f);
+      grown = subst (λ (shown : Shown). IsGrownFrom shown q.basis) (sym e.shown) (grown_shown s p q longer.0 i.led.kept f.kept longer.1);
+      earlier = ap earlier now ∙ earlier-with_choice given d ∙ i.earlier;
+      budget = c.chosen.ensures.budget ∙ i.budget;
+      replays = c.chosen.ensures.replays ∙ i.replays;
+      kept = c.chosen.ensures.kept ∙ i.kept;
+    }

@@ -1,0 +1,115 @@
+-- A run that follows the choices of a chooser.
+--     earlier                 all runs but the last
+--     given_with              the runs with one more choice, or as they were
+--     IsNext                  what is known where a choice comes next, or none is left
+--     IsNextAllowed           a rule allows the choice
+--     IsRefusal               why no choice comes, though a pair is left
+--     IsRefusalAllowed        a rule allows it
+--     step_of                 what a choice makes of a state
+--     IsFollowed              what a choice makes of the progress
+--     IsStopIn, IsStopOf      why following a choice halts
+--     IsLed                   some choices lead to the progress
+use Rattle.std.specs.Prelude.{◌≡◌, ℕ, Bool, true, List, [], ◌∷◌, length}
+use Rattle.std.specs.List.{AllZip}
+use Rattle.std.specs.declared.option.Option.{Option}
+use Rattle.std.specs.declared.option.Option.TheVariants.{None, Some}
+use Rattle.std.specs.declared.result.Result.{Result}
+use Rattle.std.specs.declared.result.Result.TheVariants.{Ok, Err}
+use Rattle.ore_algebra.specs.Limits.{Cause, program}
+use Rattle.ore_algebra.specs.Limits as cause
+use Rattle.ore_rational.proofs.FractionLaws.{rationals, rational_inverses}
+use Rattle.ore_monomial.specs.Signature.{Signature}
+use Rattle.ore_rows.specs.Arithmetic.{within}
+use Rattle.ore_rows.specs.Run.{State, Refusal, Stopped}
+use Rattle.ore_rows.specs.Run as run
+use Rattle.ore_rows.specs.Stored.{OperatorMatrix}
+use Rattle.ore_rows.specs.StoredBasis.{StoredBasis}
+use Rattle.ore_rows.specs.declared.choices.Choice.{Choice}
+use Rattle.ore_rows.specs.declared.choices.Choice.TheVariants as choice
+use Rattle.ore_groebner.specs.Choosing.{first_of, second_of, with_choice, ListsChoices, IsLawful, AreAllListed, IsAfforded, IsAnswer}
+use Rattle.ore_groebner.specs.Honest.{starts, leads, IsOrigin, AreAllowed}
+use Rattle.ore_groebner.specs.Progressing.{state_of, event_at, IsKept, IsGrown, HasShapeOf, Adds}
+use Rattle.ore_groebner.specs.Shown.{Shown}
+use Rattle.ore_groebner.specs.declared.chooser.Next.TheVariants as next
+use Rattle.ore_groebner.specs.declared.outcome.Halt.{Halt}
+use Rattle.ore_groebner.specs.declared.outcome.Halt.TheVariants as halt
+use Rattle.ore_groebner.specs.declared.outcome.StopAt.{StopAt}
+use Rattle.ore_groebner.specs.declared.outcome.StopAt.TheVariants as at
+use Rattle.ore_groebner.specs.declared.progress.Progress.{Progress}
+
+-- ---- the next choice
+
+unfoldable pub earlier : List (List Choice) → List (List Choice)
+earlier [] = []
+earlier (cs ∷ []) = []
+earlier (cs ∷ ds ∷ runs) = cs ∷ earlier (ds ∷ runs)
+
+abbrev pub given_with : List (List Choice) → Option Choice → List (List Choice)
+given_with runs None = runs
+given_with runs (Some c) = with_choice runs c
+
+-- a lawful choice that the budget allows, or nothing is left
+abbrev pub IsNext : StoredBasis → List (ℕ × ℕ) → List (List Choice) → ℕ → Option Choice → Type 0
+IsNext basis ps given budget None = AreAllListed basis ps
+IsNext basis ps given budget (Some c) = IsLawful basis ps c × IsAfforded given budget c
+
+abbrev pub IsNextAllowed : (Shown → List (ℕ × ℕ) → Choice → Bool) → Shown → List (ℕ × ℕ) → Option Choice → Type 0
+IsNextAllowed allows shown ps None = Unit {0}
+IsNextAllowed allows shown ps (Some c) = allows shown ps c ≡ true
+
+-- the budget is spent, or the next kept choice is absent or not lawful, or memory ran out
+abbrev pub IsRefusal : StoredBasis → List (ℕ × ℕ) → List (List Choice) → ℕ → Bool → List (List Choice) → Halt → Type 0
+IsRefusal basis ps given budget replays kept halt.Spent = IsAnswer basis ps given budget replays kept next.Spent
+IsRefusal basis ps given budget replays kept halt.NoLawful = IsAnswer basis ps given budget replays kept next.NoLawful
+IsRefusal basis ps given budget replays kept halt.Memory = Unit {0}
+IsRefusal basis ps given budget replays kept (halt.Overflow place) = ⊥
+IsRefusal basis ps given budget replays kept (halt.Degree place) = ⊥
+
+-- the budget is spent only where a rule allows it
+abbrev pub IsRefusalAllowed : (Shown → List (ℕ × ℕ) → Bool) → Shown → List (ℕ × ℕ) → Halt → Type 0
+IsRefusalAllowed allows_spent shown ps halt.Spent = allows_spent shown ps ≡ true
+IsRefusalAllowed allows_spent shown ps halt.NoLawful = Unit {0}
+IsRefusalAllowed allows_spent shown ps halt.Memory = Unit {0}
+IsRefusalAllowed allows_spent shown ps (halt.Overflow place) = Unit {0}
+IsRefusalAllowed allows_spent shown ps (halt.Degree place) = Unit {0}
+
+-- ---- a choice that is followed
+
+abbrev pub step_of : Signature → State rationals → Choice → Result (State rationals) Refusal
+step_of s st c = run.step rationals rational_inverses s.order (within program s) st c
+
+-- the state is the one that the choice makes, and what is kept fits it; one pair is added and at most one syzygy
+pub record IsFollowed (s : Signature) (p : Progress) (c : Choice) (q : Progress) : Type 0 where
+  pub made : step_of s (state_of p) c ≡ Ok (state_of q)
+  pub kept : IsKept s q
+  pub grown : IsGrown p q (event_at (length p.events.items))
+  pub shape : HasShapeOf p q
+  pub listed : Adds (first_of c) (second_of c) p.listed q.listed
+
+-- the choice treats the pair of the place, which stops
+abbrev pub IsStopIn : Signature → State rationals → Choice → Cause → StopAt → Type 0
+IsStopIn s st c k at.Forced = ⊥
+IsStopIn s st c k (at.Treat i j) = (c ≡ choice.Treat i j) × (step_of s st c ≡ Err (Stopped k))
+
+abbrev pub IsStopOf : Signature → State rationals → Choice → Halt → Type 0
+IsStopOf s st c (halt.Overflow place) = IsStopIn s st c cause.Overflow place
+IsStopOf s st c (halt.Degree place) = IsStopIn s st c cause.Degree place
+IsStopOf s st c halt.Spent = ⊥
+IsStopOf s st c halt.NoLawful = ⊥
+IsStopOf s st c halt.Memory = Unit {0}
+
+-- ---- some choices
+
+-- the choices lead from the first state of a run on a to that of the progress, and are allowed; what is kept fits them
+pub record IsLed (s : Signature) (a : OperatorMatrix) (allows : Shown → List (ℕ × ℕ) → Choice → Bool) (choices : List Choice) (p : Progress) : Type 0 where
+  pub start : State rationals
+  pub begun : starts s a ≡ Ok start
+  pub led : leads s a start choices ≡ Ok (state_of p)
+  pub kept : IsKept s p
+  pub origins : AllZip (IsOrigin s a choices) p.origins.items p.syzygies.items
+  pub lists : ListsChoices p.listed choices
+  pub events : length p.events.items ≡ length choices
+  pub first : p.first ≡ length start.basis
+  pub cols : p.basis.cols ≡ a.cols
+  pub width : p.basis.width ≡ length a.rows
+  pub allowed : AreAllowed s a allows choices
