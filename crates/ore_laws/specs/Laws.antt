@@ -7,7 +7,9 @@
 --     HasNoZeroDivisor                           a product is zero only where a factor is
 --     AdjointIsAdditive, AdjointReversesProducts, AdjointIsInvolution    of the adjoint
 --     IsClosedUnderSums, IsClosedUnderProducts, IsClosedUnderAdjoints    no variable past the declared ones comes in
-use Rattle.std.specs.Prelude.{◌≡◌, ◌≢◌, ◌⊎◌}
+--     Matrix                                     a list of rows of operators
+--     AdjointOfMatrixProduct, AdjointOfMatrixTwice    of the transposed adjoint of matrices
+use Rattle.std.specs.Prelude.{◌≡◌, ◌≢◌, ◌⊎◌, ℕ, List, length}
 use Rattle.ore_algebra.specs.Free as sums
 use Rattle.ore_rational.specs.Fraction.{Fraction, mul}
 use Rattle.ore_rational.proofs.FractionLaws.{rationals}
@@ -19,6 +21,8 @@ use Rattle.ore_ring.specs.Product.{times}
 use Rattle.ore_ring.specs.Adjoint as adjoints
 use Rattle.ore_ring.specs.Belongs.{OperatorOf}
 use Rattle.ore_ring.specs.Lead.{IsLead}
+use Rattle.ore_rows.specs.Rows.{Row, AreLong}
+use Rattle.ore_rows.specs.Rows as rows
 
 abbrev pub Operator : Type 0
 Operator = letters.Operator rationals
@@ -34,6 +38,9 @@ one = sums.single rationals plain_cmp unit rationals.one
 infixl 20 ◌⊕◌
 abbrev pub ◌⊕◌ : Operator → Operator → Operator
 f ⊕ g = sums.plus rationals plain_cmp f g
+
+abbrev pub Matrix : Type 0
+Matrix = List (Row rationals)
 
 -- ---- leads, in either order of monomials
 
@@ -94,3 +101,22 @@ module _ (s : Signature) where
 
   abbrev pub IsClosedUnderAdjoints : Type 0
   IsClosedUnderAdjoints = (f : Operator) → OperatorOf rationals s f → OperatorOf rationals s (adjoint f)
+
+  -- ---- matrices, with the number of columns beside each operation
+
+  -- A B, where B has n columns
+  abbrev pub matrix_times : ℕ → Matrix → Matrix → Matrix
+  matrix_times n a b = rows.matrix_times rationals s n a b
+
+  -- the transpose of a matrix of n columns, each entry replaced by its adjoint
+  abbrev pub transpose_adjoint : ℕ → Matrix → Matrix
+  transpose_adjoint n a = rows.transpose_adjoint rationals s n a
+
+  -- (A B)* = B* A*, where A has a column for each row of B, and B has n columns
+  abbrev pub AdjointOfMatrixProduct : Type 0
+  AdjointOfMatrixProduct = (n : ℕ) (a b : Matrix) → AreLong rationals (length b) a → AreLong rationals n b
+      → transpose_adjoint n (matrix_times n a b) ≡ matrix_times (length a) (transpose_adjoint n b) (transpose_adjoint (length b) a)
+
+  -- (A*)* = A, where A has n columns
+  abbrev pub AdjointOfMatrixTwice : Type 0
+  AdjointOfMatrixTwice = (n : ℕ) (a : Matrix) → AreLong rationals n a → transpose_adjoint (length a) (transpose_adjoint n a) ≡ a

@@ -1,9 +1,10 @@
-//! The laws of operators, as contracts.
+//! The laws of operators, and of matrices of operators, as contracts.
 //!
 //! Each function here has no answer and does nothing. Its clauses are laws over the definitions of
-//! `ore_monomial` and `ore_ring` alone, for every operator over the fractions, of any size and with no
-//! limit. The one premise is the signature that is handed in: since a `Signature` can only be made of
-//! kinds without a fault, each operator that acts names a coordinate before it, and that suffices.
+//! `ore_monomial`, `ore_ring` and `ore_rows` alone, for every operator over the fractions, of any size and
+//! with no limit. The one premise, but for the sizes of matrices, is the signature that is handed in: since a
+//! `Signature` can only be made of kinds without a fault, each operator that acts names a coordinate before it,
+//! and that suffices.
 //!
 //! Proved here:
 //! - the product is associative, has the unit 1, and distributes over sums from both sides;
@@ -11,9 +12,11 @@
 //!   in either order of monomials, the order of the signature among them;
 //! - a product is zero only where one of its factors is;
 //! - the adjoint keeps sums, turns products round and is its own inverse;
-//! - sums and products of operators in the variables of the signature are in these variables again.
+//! - sums and products of operators in the variables of the signature are in these variables again;
+//! - the transposed adjoint of matrices turns products round and is its own inverse.
 //!
-//! `specs/Laws.antt` has the statements. Their proofs stand in `ore_ring`, over any domain of numbers.
+//! `specs/Laws.antt` has the statements. Their proofs stand in `ore_ring`, and those of matrices in `ore_rows`,
+//! over any domain of numbers.
 //!
 //! A caller that has a `&Signature` and needs a law calls its function. There are no must-fail edits:
 //! the bodies are empty, so no change of a body can be refused, and what counts are the statements.
@@ -22,6 +25,8 @@
 ghost use Rattle.ore_laws.specs.Laws.{
   AdjointIsAdditive,
   AdjointIsInvolution,
+  AdjointOfMatrixProduct,
+  AdjointOfMatrixTwice,
   AdjointReversesProducts,
   DistributesLeft,
   DistributesRight,
@@ -67,6 +72,12 @@ pub fn law_adjoint(sig: &Signature)
     ensures sum { AdjointIsAdditive sig.now }
     ensures product { AdjointReversesProducts sig.now }
     ensures twice { AdjointIsInvolution sig.now }
+{}
+
+/// The transposed adjoint of matrices reverses products where the sizes fit together, and is its own inverse.
+pub fn law_adjoint_matrix(sig: &Signature)
+    ensures product { AdjointOfMatrixProduct sig.now }
+    ensures twice { AdjointOfMatrixTwice sig.now }
 {}
 
 /// Operators in the variables of a signature are closed under sums, products and adjoints.

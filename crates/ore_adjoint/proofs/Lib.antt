@@ -1,0 +1,3 @@
+mod TestRing
+pub mod AdjointLoops
+pub mod AdjointValues
