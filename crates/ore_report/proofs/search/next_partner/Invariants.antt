@@ -1,0 +1,6 @@
+use Rattle.std.proofs.Common.{◌≡◌, ◌≤◌, ◌<◌, ℕ, false}
+use Rattle.ore_report.specs.AnyRule.{may_treat}
+use Rattle.ore_report.proofs.search.next_partner.Given as goal
+
+abbrev pub invariant-loop-j : goal.invariant-loop-j
+invariant-loop-j l = (y : ℕ) → l.from ≤ y → y < l.j → may_treat l.leads l.listed l.i y ≡ false

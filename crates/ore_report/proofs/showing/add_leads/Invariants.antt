@@ -1,0 +1,10 @@
+use Rattle.std.proofs.Common.{◌≡◌, take}
+use Rattle.ore_rows.specs.Reduction.{leads_of}
+use Rattle.ore_groebner.specs.Shown.{BeginsWith}
+use Rattle.ore_report.proofs.showing.add_leads.Given as goal
+
+abbrev pub invariant-loop-k : goal.invariant-loop-k
+invariant-loop-k l = record {
+  taken : l.leads ≡ take l.k (leads_of l.basis.items);
+  grown : BeginsWith l.leads l.initial.leads;
+}

@@ -1,0 +1,4 @@
+pub mod AnyRule
+pub mod Codes
+pub mod Searching
+pub mod Live

@@ -1,0 +1,89 @@
+//! The choices that a chooser gave, run by run.
+
+ghost use Rattle.std.specs.Prelude.{◌≡◌, ◌≢◌, [], ◌∷◌, ◌++◌, IfOk, IfErr};
+ghost use Rattle.ore_groebner.specs.Choosing.{with_choice};
+
+use ore_monomial::NoMemory;
+use ore_rows::{Choice, Choices, Runs};
+use std::alloc::Global;
+use std::marker::Model;
+use std::mem;
+
+/// The choices of runs, run by run, of which the last may grow.
+#[derive(Drop)]
+pub struct Given {
+    runs: Vec<Choices>,
+}
+
+impl Model for Given {
+    ghost use Rattle.std.specs.Prelude.{List};
+    ghost use Rattle.ore_rows.specs.declared.choices.Choice.{Choice};
+    ghost use Rattle.ore_report.specs.Codes.{runs_code};
+
+    ghost Value = { List (List Choice) };
+
+    ghost coded = { runs_code };
+
+    ghost view = { λ a. a.runs.items };
+}
+
+impl Given {
+    /// No runs.
+    pub fn new(alloc: Global) -> Given
+        ensures { result ≡ [] }
+    {
+        Given {
+            runs: Vec::new(alloc),
+        }
+    }
+
+    /// One more run, without choices.
+    ///
+    /// # Errors
+    /// Want of memory. Then nothing has changed.
+    pub fn begin(&mut self, alloc: Global) -> Result<(), NoMemory>
+        ensures begun { IfOk result (λ _. self.new ≡ self.old ++ [] ∷ []) }
+        ensures kept { IfErr result (λ _. self.new ≡ self.old) }
+    {
+        self.runs.push(Choices::from_vec(Vec::new(alloc)))?;
+        Ok(())
+    }
+
+    /// One more choice of the last run.
+    ///
+    /// # Errors
+    /// Want of memory. Then nothing has changed.
+    pub fn push(&mut self, alloc: Global, choice: Choice) -> Result<(), NoMemory>
+        requires { self.old ≢ [] }
+        ensures pushed { IfOk result (λ _. self.new ≡ with_choice self.old choice) }
+        ensures kept { IfErr result (λ _. self.new ≡ self.old) }
+    {
+        let last = self.runs.len() - 1;
+        push_choice(alloc, &mut self.runs[last], choice)
+    }
+
+    /// The runs.
+    pub fn into_runs(self) -> Runs
+        ensures { result ≡ self }
+    {
+        Runs::from_vec(self.runs)
+    }
+}
+
+// One more choice at the end.
+fn push_choice(alloc: Global, run: &mut Choices, choice: Choice) -> Result<(), NoMemory>
+    ensures pushed { IfOk result (λ _. run.new ≡ run.old ++ choice ∷ []) }
+    ensures kept { IfErr result (λ _. run.new ≡ run.old) }
+{
+    let mut items = mem::replace(run, Choices::from_vec(Vec::new(alloc))).into_vec();
+    match items.push(choice) {
+        Ok(()) => {
+            *run = Choices::from_vec(items);
+            Ok(())
+        }
+        Err(_) => {
+            *run = Choices::from_vec(items);
+            Err(NoMemory)
+        }
+    }
+}

@@ -1,0 +1,82 @@
+//! What a run has shown of its basis.
+
+ghost use Rattle.std.specs.Prelude.{◌≡◌, IfOk, ◌<◌, length};
+ghost use Rattle.ore_groebner.specs.Shown.{BeginsWith, IsGrownFrom, none_shown, order_of, shown_of};
+ghost use Rattle.ore_rows.specs.Reduction.{leads_of};
+
+use ore_leads::Leads;
+use ore_monomial::{NoMemory, Order};
+use ore_rows::Basis;
+use std::alloc::Global;
+use std::marker::Model;
+
+/// The order of monomials, where there is a row, and the leads of the rows.
+#[derive(Drop)]
+pub struct Showing {
+    order: Option<Order>,
+    leads: Leads,
+}
+
+impl Model for Showing {
+    ghost use Rattle.ore_groebner.specs.Shown.{Shown};
+    ghost use Rattle.ore_report.specs.Codes.{shown_code};
+
+    ghost Value = { Shown };
+
+    ghost coded = { shown_code };
+
+    ghost view = { λ a. record { order = a.order; leads = a.leads } };
+}
+
+impl Showing {
+    /// Nothing.
+    pub fn new(alloc: Global) -> Showing
+        ensures { result ≡ none_shown }
+    {
+        Showing {
+            order: None,
+            leads: Leads::new(alloc),
+        }
+    }
+
+    /// A basis is shown that has grown since the last.
+    ///
+    /// # Errors
+    /// Want of memory. Then some of the new leads may be shown.
+    pub fn show(&mut self, basis: &Basis) -> Result<(), NoMemory>
+        requires { IsGrownFrom self.old basis.now }
+        ensures shown { IfOk result (λ _. self.new ≡ shown_of basis.now) }
+        ensures grown { BeginsWith self.new.leads self.old.leads }
+    {
+        add_leads(&mut self.leads, basis)?;
+        self.order = order_of(basis);
+        Ok(())
+    }
+}
+
+// The leads that the basis has beyond these are added.
+fn add_leads(leads: &mut Leads, basis: &Basis) -> Result<(), NoMemory>
+    requires { BeginsWith (leads_of basis.now.items) leads.old }
+    ensures added { IfOk result (λ _. leads.new ≡ leads_of basis.now.items) }
+    ensures grown { BeginsWith leads.new leads.old }
+{
+    for k in leads.len()..basis.len() {
+        let (column, exps) = basis.leads().get(k);
+        leads.push(column, exps)?;
+    }
+    Ok(())
+}
+
+// The order of the first entry of the first row.
+fn order_of(basis: &Basis) -> Option<Order>
+    ensures { result ≡ order_of basis.now }
+{
+    if basis.len() == 0 {
+        return None;
+    }
+    let row = basis.row(0);
+    if row.len() == 0 {
+        return None;
+    }
+    Some(row.entry(0).order())
+}
