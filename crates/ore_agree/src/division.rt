@@ -19,8 +19,13 @@ use std::test::Fail;
 
 const MINUS_ONE: Term = (-1, [0; 12]);
 
-// One more row of a basis, where its lead coefficient is 1.
-fn add(basis: &mut Basis, signature: &Signature, row: Row, cofactor: Row) -> Result<(), Fail>
+/// One more row of a basis, where its lead coefficient is 1.
+pub(crate) fn add(
+    basis: &mut Basis,
+    signature: &Signature,
+    row: Row,
+    cofactor: Row,
+) -> Result<(), Fail>
     requires row_width { length row ≡ basis.old.cols }
     requires cofactor_width { length cofactor ≡ basis.old.width }
     requires row_of { All (Belongs signature.now) row }

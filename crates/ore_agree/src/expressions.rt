@@ -30,8 +30,8 @@ const THRICE_T_D: Term = (3, [1, 0, 0, 0, 0, 0, 1, 0, 0, 0, 0, 0]);
 
 const SQUARES_OF_T_AND_D: Term = (1, [2, 0, 0, 0, 0, 0, 2, 0, 0, 0, 0, 0]);
 
-// The names of the twelve variables.
-fn letters(alloc: Global) -> Result<Names, Fail> {
+/// The names of the twelve variables.
+pub(crate) fn letters(alloc: Global) -> Result<Names, Fail> {
     let mut names = Names::new(alloc);
     for letter in b"tubcpqdesvlw" {
         if letter.is_ascii_alphabetic() {

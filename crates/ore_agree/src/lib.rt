@@ -12,14 +12,18 @@
 //! - a shift `s` by `h` gives `s^c t^a = (t + c h)^a s^c`, and a delay by `h` the same with `-h`;
 //! - products of letters on two coordinates, and of several letters on one, are written out.
 //!
-//! `rows` has one value for each call of `ore_rows`, at `MixedRing`, and `division` one for lead reduction.
-//! `expressions` has values and faults of texts that `ore_expr` reads.
+//! `rows` has one value for each call of `ore_rows`, at `MixedRing`, `adjoint` two for the transposed adjoint, and
+//! `division` one for lead reduction.
+//! `expressions` has values and faults of texts that `ore_expr` reads. `pairs` has the calls of `ore_pairs`, and `runs`
+//! has runs with the live chooser of `ore_report`, one or two in each kind of algebra; their rows are given as texts.
 //!
-//! The crate has nothing but tests, and promises nothing. It stands on the rings, on `ore_division`, `ore_rows` and
-//! `ore_expr`, and on
-//! `ore_ring`, `ore_monomial`, `ore_rational` and `ore_algebra` for operators and signatures.
+//! The crate has nothing but tests, and promises nothing. It stands on the rings, on `ore_report`, `ore_groebner`,
+//! `ore_pairs`, `ore_division`, `ore_adjoint`, `ore_rows` and `ore_expr`, and on `ore_ring`, `ore_monomial`,
+//! `ore_rational` and `ore_algebra` for operators and signatures.
 #![tactic(auto)]
 
+#[cfg(test)]
+mod adjoint;
 #[cfg(test)]
 mod division;
 #[cfg(test)]
@@ -29,6 +33,12 @@ mod letters;
 #[cfg(test)]
 mod operators;
 #[cfg(test)]
+mod pairs;
+#[cfg(test)]
 mod products;
 #[cfg(test)]
 mod rows;
+#[cfg(test)]
+mod runs;
+#[cfg(test)]
+mod texts;

@@ -1,0 +1,152 @@
+//! Rows and matrices of texts, with which results are compared.
+
+ghost use Rattle.std.specs.Prelude.{◌≡◌, ◌<◌, ◌^◌, IfOk, length};
+ghost use Rattle.std.specs.List.{All};
+ghost use Rattle.ore_rational.proofs.FractionLaws.{rationals};
+ghost use Rattle.ore_ring.specs.Belongs.{Belongs};
+ghost use Rattle.ore_rows.specs.Reduction.{AreMonic};
+ghost use Rattle.ore_rows.specs.StoredBasis.{AllBelong, monics};
+
+use crate::division::add;
+use ore_expr::{Names, read_operator};
+use ore_ring::OreRing;
+use ore_rows::{Basis, Matrix, Row};
+use std::alloc::Global;
+use std::test::Fail;
+
+/// The row of the operators between the commas.
+pub(crate) fn row_from<R: OreRing>(
+    ring: &R,
+    alloc: Global,
+    names: &Names,
+    cols: usize,
+    text: &str,
+) -> Result<Row, Fail>
+    requires { length names.now ≡ length (R.signature_of ring.now).kinds }
+    ensures of { IfOk result (All (Belongs (R.signature_of ring.now))) }
+    ensures wide { IfOk result (λ r. length r ≡ cols) }
+{
+    let mut entries = Vec::new(alloc);
+    for entry in text.split(',') {
+        let Ok(operator) = read_operator(ring, alloc, names, entry.as_bytes()) else {
+            return Err(Fail::new("an entry isn't read"))
+        };
+        entries.push(operator)?;
+    }
+    if entries.len() != cols {
+        return Err(Fail::new("a row has another number of entries"));
+    }
+    Ok(Row::from_vec(entries))
+}
+
+/// The matrix of the rows between the semicolons.
+pub(crate) fn matrix_from<R: OreRing>(
+    ring: &R,
+    alloc: Global,
+    names: &Names,
+    cols: usize,
+    text: &str,
+) -> Result<Matrix, Fail>
+    requires names { length names.now ≡ length (R.signature_of ring.now).kinds }
+    requires few { cols < 2 ^ 63 }
+    ensures of { IfOk result (λ m. All (All (Belongs (R.signature_of ring.now))) m.rows) }
+    ensures cols { IfOk result (λ m. m.cols ≡ cols) }
+{
+    let mut rows = Vec::new(alloc);
+    for line in text.split(';') {
+        rows.push(row_from(ring, alloc, names, cols, line)?)?;
+    }
+    Ok(Matrix::from_rows(cols, rows))
+}
+
+/// Whether a row is that of the text.
+pub(crate) fn row_is<R: OreRing>(
+    ring: &R,
+    alloc: Global,
+    names: &Names,
+    row: &Row,
+    text: &str,
+) -> Result<bool, Fail>
+    requires { length names.now ≡ length (R.signature_of ring.now).kinds }
+{
+    let expected = row_from(ring, alloc, names, row.len(), text)?;
+    for k in 0..row.len() {
+        if !row.entry(k).equal(expected.entry(k)) {
+            return Ok(false);
+        }
+    }
+    Ok(true)
+}
+
+/// Whether the rows of a matrix are those of the text.
+pub(crate) fn rows_are<R: OreRing>(
+    ring: &R,
+    alloc: Global,
+    names: &Names,
+    m: &Matrix,
+    text: &str,
+) -> Result<bool, Fail>
+    requires { length names.now ≡ length (R.signature_of ring.now).kinds }
+{
+    let mut count = 0;
+    for line in text.split(';') {
+        if count >= m.rows() {
+            return Ok(false);
+        }
+        if !row_is(ring, alloc, names, m.row(count), line)? {
+            return Ok(false);
+        }
+        count += 1;
+    }
+    Ok(count == m.rows())
+}
+
+/// Whether the rows of a basis are those of a text, and its cofactor rows those of another.
+pub(crate) fn basis_is<R: OreRing>(
+    ring: &R,
+    alloc: Global,
+    names: &Names,
+    basis: &Basis,
+    rows: &str,
+    cofactors: &str,
+) -> Result<bool, Fail>
+    requires { length names.now ≡ length (R.signature_of ring.now).kinds }
+{
+    let mut count = 0;
+    for (row, cofactor) in rows.split(';').zip(cofactors.split(';')) {
+        if count >= basis.len() {
+            return Ok(false);
+        }
+        if !row_is(ring, alloc, names, basis.row(count), row)? {
+            return Ok(false);
+        }
+        if !row_is(ring, alloc, names, basis.cofactor(count), cofactor)? {
+            return Ok(false);
+        }
+        count += 1;
+    }
+    Ok(count == basis.len())
+}
+
+/// The basis of the rows of a text, with the cofactor rows of another.
+pub(crate) fn basis_from<R: OreRing>(
+    ring: &R,
+    alloc: Global,
+    names: &Names,
+    width: usize,
+    rows: &str,
+    cofactors: &str,
+) -> Result<Basis, Fail>
+    requires { length names.now ≡ length (R.signature_of ring.now).kinds }
+    ensures of { IfOk result (λ b. AllBelong (R.signature_of ring.now) b.items) }
+    ensures monic { IfOk result (λ b. AreMonic rationals (R.signature_of ring.now).order (monics b)) }
+{
+    let signature = ring.signature();
+    let mut basis = Basis::new(alloc, 1, width);
+    for (row, cofactor) in rows.split(';').zip(cofactors.split(';')) {
+        let first = row_from(ring, alloc, names, 1, row)?;
+        let second = row_from(ring, alloc, names, width, cofactor)?;
+        add(&mut basis, signature, first, second)?;
+    }
+    Ok(basis)
+}

@@ -1,0 +1,73 @@
+//! The numbers of a run.
+
+ghost use Rattle.std.specs.List.{All};
+ghost use Rattle.ore_ring.specs.Belongs.{Belongs};
+
+use crate::fault::Fault;
+use ore_groebner::run::run;
+use ore_groebner::{Event, Events, Halt};
+use ore_mixed::MixedRing;
+use ore_report::LiveChooser;
+use ore_rows::Matrix;
+
+/// How many pairs a run may treat.
+const BUDGET: u32 = 100_000;
+
+/// Runs on the rows of a matrix, and prints the numbers of the run in a line.
+pub fn print_run(rt: &HostRuntime, ring: &MixedRing, name: &str, a: &Matrix) -> Result<(), Fault>
+    requires { All (All (Belongs ring.now)) a.now.rows }
+{
+    let mut chooser = LiveChooser::new(rt.alloc(), BUDGET);
+    match run(ring, rt.alloc(), a, &mut chooser) {
+        Ok(finished) => {
+            println!(rt;
+                "{}: basis rows {}, treated pairs {}, steps {}, syzygies {}",
+                name,
+                finished.basis.len(),
+                finished.events.len(),
+                steps(&finished.events),
+                finished.syzygies.rows()
+            )?;
+        }
+        Err(halt) => {
+            println!(rt;
+                "{}: {} after {} treated pairs",
+                name,
+                halt_text(halt),
+                treated(chooser)
+            )?;
+        }
+    }
+    Ok(())
+}
+
+// How many steps the reductions of all events took.
+fn steps(events: &Events) -> usize {
+    let mut count: usize = 0;
+    for k in 0..events.len() {
+        if let Event::Treated { steps, .. } = events.get(k) {
+            count = count.saturating_add(steps.len());
+        }
+    }
+    count
+}
+
+// How many pairs were treated in the first run.
+fn treated(chooser: LiveChooser) -> usize {
+    let runs = chooser.into_runs();
+    if runs.len() == 0 {
+        return 0;
+    }
+    runs.get(0).len()
+}
+
+// Why a run stopped.
+fn halt_text(halt: Halt) -> &'static str {
+    match halt {
+        Halt::Overflow(_) => "a number is too great",
+        Halt::Degree(_) => "a degree is too great",
+        Halt::Spent => "the budget is spent",
+        Halt::NoLawful => "a choice isn't lawful",
+        Halt::Memory => "memory ran out",
+    }
+}
