@@ -1,8 +1,11 @@
 -- Texts without a byte, and texts cut at it.
 --     LacksByte-append, LacksByte-cons, LacksByte-decimal       texts that lack a byte
 --     cut_none, cut_here       where the first byte of a value stands
+--     heads                    the first bytes of equal texts
 --     byte_cancel              what stands before a byte, and behind it, where the front lacks it
---     line_cancel              the first line of a text, and the rest
+--     lacks_none, no_line      a text without the byte, or without a line end, begins with nothing that has it
+--     to_end                   a range that goes to the end
+--     line_cancel, same_words  the first line of a text, and the rest
 use Rattle.std.proofs.Common.{◌≡◌, ℕ, zero, suc, ◌+◌, ◌-◌, ◌/◌, ◌%◌, ◌<◌, ◌≤◌, Bool, true, false, true≢false, not, ◌&&◌, cond, if◌then◌else◌, List, [], ◌∷◌, ◌++◌, length, take, drop, None, Some, refl, sym, ap, subst, ◌∙◌, append_assoc, arith}
 use Rattle.std.specs.Prelude.{nat_eq, decimal}
 use Rattle.std.specs.Fmt.{digits, digits_onto, digit_glyph}
@@ -89,7 +92,7 @@ module _ (byte : ℕ) where
 
   -- ---- equal texts
 
-  heads : (x y : ℕ) (xs ys : List ℕ) → x ∷ xs ≡ y ∷ ys → x ≡ y
+  pub heads : (x y : ℕ) (xs ys : List ℕ) → x ∷ xs ≡ y ∷ ys → x ≡ y
   heads x y xs ys e = cc
 
   not_first : (x : ℕ) (xs : List ℕ) → LacksByte byte (x ∷ xs) → x ≡ byte → ⊥

@@ -23,7 +23,7 @@ abbrev pub join : List (List ℕ) → List ℕ
 join [] = []
 join (x ∷ xs) = x ++ join xs
 
-join-append : (xs ys : List (List ℕ)) → join (xs ++ ys) ≡ join xs ++ join ys
+pub join-append : (xs ys : List (List ℕ)) → join (xs ++ ys) ≡ join xs ++ join ys
 join-append [] ys = refl
 join-append (x ∷ xs) ys = ap (λ t. x ++ t) (join-append xs ys) ∙ sym (append_assoc x (join xs) (join ys))
 
@@ -50,7 +50,7 @@ bytes_line (b ∷ bs) u h = by (nat_eq b 10) refl h (bytes_line bs u)
     by true e h more = absurd (true≢false (sym h))
     by false e h more = ap (λ x. if x then (b ∷ []) ∷ raw_lines ((bs ++ 10 ∷ []) ++ u) else onto_first b (raw_lines ((bs ++ 10 ∷ []) ++ u))) e ∙ ap (onto_first b) (more h)
 
-raw_lines-line : (line u : List ℕ) → IsLine line → raw_lines (line ++ u) ≡ line ∷ raw_lines u
+pub raw_lines-line : (line u : List ℕ) → IsLine line → raw_lines (line ++ u) ≡ line ∷ raw_lines u
 raw_lines-line line u is = ap (λ t. raw_lines (t ++ u)) is.2 ∙ bytes_line is.0 u is.1 ∙ ap (λ t. t ∷ raw_lines u) (sym is.2)
 
 pub record IsWhole (number : ℕ) (p : List ℕ) : Type 0 where
@@ -81,7 +81,7 @@ past_all : {A : Type 0} (n : ℕ) (xs ls : List A) → take (length ls + n) (ls 
 past_all n xs [] = let z : 0 + n ≡ n = omega arith in ap (λ k. take k xs) z
 past_all n xs (l ∷ ls) = let s : suc (length ls) + n ≡ suc (length ls + n) = omega arith in ap (λ k. take k (l ∷ (ls ++ xs))) s ∙ ap (λ t. l ∷ t) (past_all n xs ls)
 
-take_past : {A : Type 0} (n : ℕ) (ls xs : List A) (m : ℕ) → length ls ≡ m → take (m + n) (ls ++ xs) ≡ ls ++ take n xs
+pub take_past : {A : Type 0} (n : ℕ) (ls xs : List A) (m : ℕ) → length ls ≡ m → take (m + n) (ls ++ xs) ≡ ls ++ take n xs
 take_past n ls xs m e = ap (λ k. take (k + n) (ls ++ xs)) (sym e) ∙ past_all n xs ls
 
 same_take : {A : Type 0} (n : ℕ) (xs ys : List A) → ((k : ℕ) → k < n → slice_get xs k ≡ slice_get ys k) → take n xs ≡ take n ys
@@ -130,7 +130,7 @@ stray_same T U text n to from s = record {
 }
 
 -- a text whose lines begin with those of whole lines begins with them
-begins : (c n : ℕ) (p rest other : List ℕ) → IsWhole c p → take (c + n) (raw_lines (p ++ rest)) ≡ take (c + n) (raw_lines other)
+pub begins : (c n : ℕ) (p rest other : List ℕ) → IsWhole c p → take (c + n) (raw_lines (p ++ rest)) ≡ take (c + n) (raw_lines other)
     → (w : List ℕ) × (other ≡ p ++ w) × (take n (raw_lines rest) ≡ take n (raw_lines w))
 begins c n p rest other whole e =
     let front : take (c + n) (raw_lines other) ≡ whole.lines ++ take n (raw_lines rest) = sym e ∙ ap (take (c + n)) (whole.first rest) ∙ take_past n whole.lines (raw_lines rest) c whole.count in

@@ -1,10 +1,11 @@
 -- The lines of the text of a matrix.
+--     operator_lacks_end              no canonical text has a line end
 --     line_of_row, line_of_words      each is one whole line
 --     words_cancel                    the sizes that a line says, and what follows
 --     whole_rows, whole_matrix        rows are as many whole lines; a matrix is one more
 --     rows_next, rows_end             the row that follows some of the rows; all rows, and what follows
 --     matrix_cancel                   the matrix that a text begins with, and what follows
---     zero_rows, zero_fits            rows of zeros
+--     none_printable, zero_rows, zero_fits    zero, and rows of zeros
 use Rattle.std.proofs.Common.{◌≡◌, ℕ, zero, suc, ◌+◌, ◌<◌, Bool, true, false, true≢false, not, ◌&&◌, ◌||◌, List, [], ◌∷◌, ◌++◌, length, map, drop, replicate, refl, sym, ap, subst, ◌∙◌, append_assoc, arith}
 use Rattle.std.specs.Prelude.{nat_eq, codes, decimal}
 use Rattle.std.specs.List.{list_all, flat_map, AllByRecursion}
@@ -45,7 +46,7 @@ lacks_end (b ∷ bs) h = by (nat_eq b 44) (nat_eq b 10) (list_all (λ b. not (is
     by false false u v h more = more h
 
 module _ (names : List (List ℕ)) (o : Order) (are : AreNames names) where
-  operator_lacks_end : (f : Operator rationals) → LacksByte 10 (operator_text names o f)
+  pub operator_lacks_end : (f : Operator rationals) → LacksByte 10 (operator_text names o f)
   operator_lacks_end f = lacks_end (operator_text names o f) (LacksStops-operator names o f are)
 
   listed_lacks_end : (fs : Row rationals) → LacksByte 10 (listed (map (operator_text names o) fs))
@@ -149,7 +150,7 @@ terms-none : terms rationals plain_cmp (none rationals plain_cmp) ≡ []
 unfolding none
 terms-none = empty (terms rationals plain_cmp (none rationals plain_cmp)) (all_terms (λ _. false) DegLex [] (falls_none DegLex))
 
-none_printable : (s : Signature) (names : List (List ℕ)) → AreNames names → length names ≡ length s.kinds → IsPrintable s names (none rationals plain_cmp)
+pub none_printable : (s : Signature) (names : List (List ℕ)) → AreNames names → length names ≡ length s.kinds → IsPrintable s names (none rationals plain_cmp)
 none_printable s names are count = record {
   names_fit = are;
   count = count;

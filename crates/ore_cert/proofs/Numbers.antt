@@ -2,15 +2,20 @@
 --     utf8_number         the text of a number is a text
 --     number_read         what parsing it gives
 --     same_number, no_error, no_number     what two answers of one call say
---     some_of             of what is found
+--     some_of, if_some    of what is found
+--     some_found, none_found     what holds of what is found; nothing is found
+--     place_cut           a text that begins with a place
 --     numbers_cancel      two numbers with a space between
-use Rattle.std.proofs.Common.{◌≡◌, ℕ, ◌<◌, ◌^◌, List, ◌∷◌, ◌++◌, Option, None, Some, Ok, Err, Result, sym, subst, arith}
+--     same_decimal, same_some    equal texts are of equal numbers; two answers of one call
+use Rattle.std.proofs.Common.{◌≡◌, ℕ, suc, ◌<◌, ◌^◌, List, ◌∷◌, ◌++◌, Option, None, Some, Ok, Err, Result, sym, subst, ◌∙◌, arith}
 use Rattle.std.specs.Prelude.{decimal, MatchOption, IfSome}
 use Rattle.std.specs.Str.{IsUtf8, IsAscii}
 use Rattle.std.specs.Str.Parse.{ParsesUnsigned}
 use Rattle.std.proofs.lemmas.Fmt.{IsAscii-decimal, parse-decimal, decimal_injective}
 use Rattle.std.proofs.lemmas.Str.{IsUtf8-from_ascii}
+use Rattle.ore_cert.specs.BlockText.{place}
 use Rattle.ore_cert.specs.CertificateText.{number_bound}
+use Rattle.ore_cert.specs.Lines.{LacksByte}
 use Rattle.ore_cert.proofs.Bytes.{LacksByte-decimal, byte_cancel}
 
 small : (n : ℕ) → n < number_bound → n < 2 ^ 64
@@ -46,3 +51,14 @@ same_decimal m n h k e = decimal_injective m n (small m h) (small n k) e
 
 pub none_found : {A : Type 0} (o : Option A) (P : A → Type 0) → o ≡ None → MatchOption o ⊥ P → ⊥
 none_found o P e m = subst (λ o. MatchOption o ⊥ P) e m
+
+pub if_some : {A : Type 0} (r : Option A) (P Q : A → Type 0) → IfSome r P → ((x : A) → P x → Q x) → IfSome r Q
+if_some None P Q h f = tt
+if_some (Some x) P Q h f = f x h
+
+-- what stands before the first space of a text that begins with a place, and what follows it
+pub place_cut : (front back text : List ℕ) (k : ℕ) (rest : List ℕ) → LacksByte 32 front × (text ≡ front ++ 32 ∷ back) → text ≡ place k ++ 32 ∷ rest → (front ≡ place k) × (back ≡ rest)
+place_cut front back text k rest cut e = byte_cancel 32 front (place k) back rest cut.0 (LacksByte-decimal 32 (suc k) (omega arith)) (sym cut.1 ∙ e)
+
+pub some_found : {A : Type 0} (o : Option A) (P : A → Type 0) (x : A) → o ≡ Some x → IfSome o P → P x
+some_found o P x e h = subst (λ o. IfSome o P) e h

@@ -1,13 +1,11 @@
--- The texts of certificates: every line ends with the byte 10, words have one space between, and there are no comments.
+-- The texts of matrices: every line ends with the byte 10, words have one space between, and there are no comments.
 --     number_bound           numbers are below this
 --     matrix_words           the word `matrix`, a name and the sizes, rows before columns
 --     matrix_text            a line of these, and a line for each row
---     right_inverse_text     the text of a right inverse
 --     IsRowOf                a row has so many entries, of the signature and in the program's ranges
 --     IsWritten              a matrix of such rows, whose sizes are below the bound
 --     AreRows                the lines of so many rows
 --     IsMatrix               the text of some matrix
---     IsRightInverse         the text of some right inverse
 use Rattle.std.specs.Prelude.{◌≡◌, ℕ, ◌<◌, ◌^◌, List, [], ◌∷◌, ◌++◌, length, codes, decimal}
 use Rattle.std.specs.List.{flat_map, join_with_byte, AllByRecursion}
 use Rattle.ore_rational.proofs.FractionLaws.{rationals}
@@ -26,9 +24,6 @@ matrix_words name rows cols = join_with_byte 32 (codes "matrix" ∷ name ∷ dec
 abbrev pub matrix_text : List ℕ → List (List ℕ) → Order → ℕ → List (Row rationals) → List ℕ
 matrix_text name names o cols rows = (matrix_words name (length rows) cols ++ 10 ∷ []) ++ flat_map (row_text names o) rows
 
-abbrev pub right_inverse_text : List (List ℕ) → Order → ℕ → List (Row rationals) → List ℕ
-right_inverse_text names o cols rows = codes "certificate 1\nright-inverse\n" ++ (matrix_text (codes "S") names o cols rows ++ codes "end\n")
-
 pub record IsRowOf (s : Signature) (names : List (List ℕ)) (cols : ℕ) (row : Row rationals) : Type 0 where
   pub width : length row ≡ cols
   pub entries : AllByRecursion (IsPrintable s names) row
@@ -44,6 +39,3 @@ module _ (s : Signature) (names : List (List ℕ)) where
 
   abbrev pub IsMatrix : List ℕ → List ℕ → Type 0
   IsMatrix name text = (cols : ℕ) × (rows : List (Row rationals)) × IsWritten s names cols rows × (text ≡ matrix_text name names s.order cols rows)
-
-  abbrev pub IsRightInverse : List ℕ → Type 0
-  IsRightInverse text = (cols : ℕ) × (rows : List (Row rationals)) × IsWritten s names cols rows × (text ≡ right_inverse_text names s.order cols rows)

@@ -47,6 +47,14 @@ impl<'a> Lines<'a> {
         self.at
     }
 
+    // The number of bytes that are left.
+    pub(crate) fn len(&self) -> usize
+        ensures value { result ≡ length self.now.left }
+        ensures small { result < 2 ^ 63 }
+    {
+        self.left.len()
+    }
+
     /// The line that is due, without its end, and goes past it. None exactly where no whole line is left,
     /// and then nothing changes.
     pub fn take(&mut self) -> Option<&'a [u8]>
@@ -70,6 +78,16 @@ impl<'a> Lines<'a> {
         let text = self.left;
         let Some(line) = self.take() else { return None };
         Some(&text[..line.len() + 1])
+    }
+
+    // The same text, from the same line on.
+    pub(crate) fn again(&self) -> Lines<'a>
+        ensures { result ≡ self.now }
+    {
+        Lines {
+            left: self.left,
+            at: self.at,
+        }
     }
 
     // Goes past the line that is due where it is this one.

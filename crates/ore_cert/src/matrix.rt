@@ -9,7 +9,9 @@ ghost use Rattle.ore_rows.specs.Stored.{rows_of, sums_of};
 ghost use Rattle.ore_expr.specs.Names.{AreNames};
 ghost use Rattle.ore_expr.specs.RowText.{row_text};
 ghost use Rattle.ore_cert.specs.CertificateText.{number_bound, matrix_words, matrix_text, IsRowOf, IsWritten, AreRows, IsMatrix};
+ghost use Rattle.ore_cert.specs.Formats.{Reads};
 ghost use Rattle.ore_cert.specs.Lines.{LacksByte};
+ghost use Rattle.ore_cert.specs.PartFormats.{matrix_format};
 ghost use Rattle.ore_cert.specs.Reading.{NamesLine, IsStartFault};
 
 use crate::fault::CertFault;
@@ -21,7 +23,8 @@ use ore_monomial::{NoMemory, Signature};
 use ore_rows::{Matrix, Row};
 use std::alloc::Global;
 
-/// The matrix of this name whose text begins where the lines are, going past it.
+/// The matrix of this name whose text begins where the lines are, going past it. After an error the lines are as they
+/// were.
 ///
 /// # Errors
 /// The faulty line of the text that is left, whatever were to follow the matrix.
@@ -41,6 +44,26 @@ pub fn read_matrix(
     ensures only { IfOk result (λ m. (cols : ℕ) (rows : List (RowOf rationals)) (rest : List ℕ) → IsWritten sig.now names.now cols rows
         → lines.old.left ≡ matrix_text name.now names.now sig.now.order cols rows ++ rest → (m.cols ≡ cols) × (rows_of m ≡ rows)) }
     ensures faulty { IfErr result (IsStartFault (IsMatrix sig.now names.now name.now) lines.old) }
+    ensures kept { IfErr result (λ _. lines.new ≡ lines.old) }
+{
+    let mut ahead = lines.again();
+    let matrix = read_matrix_part(alloc, sig, names, &mut ahead, name)?;
+    *lines = ahead;
+    Ok(matrix)
+}
+
+// The matrix of this name; after an error the lines may stand anywhere.
+pub(crate) fn read_matrix_part(
+    alloc: Global,
+    sig: &Signature,
+    names: &Names,
+    lines: &mut Lines<'_>,
+    name: &[u8],
+) -> Result<Matrix, CertFault>
+    requires names { AreNames names.now }
+    requires count { length names.now ≡ length sig.now.kinds }
+    requires name { LacksByte 10 name.now }
+    ensures { Reads (matrix_format sig.now names.now name.now) lines.old result lines.new }
 {
     let (count, cols) = read_sizes(lines, name)?;
     let rows = read_rows(alloc, sig, names, count, cols, lines)?;
@@ -93,7 +116,7 @@ fn read_rows(
 }
 
 // The row of the line that is due.
-fn read_one_row(
+pub(crate) fn read_one_row(
     alloc: Global,
     sig: &Signature,
     names: &Names,
@@ -139,7 +162,12 @@ pub fn append_matrix(
     Ok(())
 }
 
-fn append_sizes(out: &mut Vec<u8>, name: &[u8], rows: usize, cols: usize) -> Result<(), NoMemory>
+pub(crate) fn append_sizes(
+    out: &mut Vec<u8>,
+    name: &[u8],
+    rows: usize,
+    cols: usize,
+) -> Result<(), NoMemory>
     ensures { OnOk result (out.new.items ≡ out.old.items ++ (matrix_words name.now rows cols ++ 10 ∷ [])) }
 {
     let mut buffer = Buffer::new();

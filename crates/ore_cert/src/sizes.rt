@@ -1,6 +1,7 @@
-//! The line that a matrix begins with.
+//! Numbers and places in a line, and the line that a matrix begins with.
 
 ghost use Rattle.std.specs.Prelude.{◌≡◌, ℕ, ◌<◌, List, ◌∷◌, ◌++◌, IfSome, Some, MatchOption, codes, decimal};
+ghost use Rattle.ore_cert.specs.BlockText.{place, is_place};
 ghost use Rattle.ore_cert.specs.CertificateText.{matrix_words, number_bound};
 
 use crate::lines::cut_at;
@@ -50,7 +51,7 @@ fn pair_in(text: &[u8]) -> Option<(usize, usize)>
 }
 
 // The number that a text spells without a leading zero.
-fn number_in(text: &[u8]) -> Option<usize>
+pub fn number_in(text: &[u8]) -> Option<usize>
     ensures found { IfSome result (λ n. (n < number_bound) × (text.now ≡ decimal n)) }
     ensures only { (n : ℕ) → n < number_bound → text.now ≡ decimal n → result ≡ Some n }
 {
@@ -69,4 +70,38 @@ fn number_in(text: &[u8]) -> Option<usize>
     } else {
         None
     }
+}
+
+// The place that a text spells: the number, less one.
+pub fn place_in(text: &[u8]) -> Option<usize>
+    ensures found { IfSome result (λ k. is_place k × (text.now ≡ place k)) }
+    ensures only { (k : ℕ) → is_place k → text.now ≡ place k → result ≡ Some k }
+{
+    let Some(number) = number_in(text) else {
+        return None
+    };
+    if number == 0 {
+        return None;
+    }
+    Some(number - 1)
+}
+
+// The two places that a text begins with, and what follows the space behind them.
+pub fn places_in(text: &[u8]) -> Option<(usize, usize, &[u8])>
+    ensures found { IfSome result (λ p. is_place p.0 × is_place p.1 × (text.now ≡ place p.0 ++ 32 ∷ (place p.1 ++ 32 ∷ p.2.now))) }
+    ensures only { (i j : ℕ) (rest : List ℕ) → is_place i → is_place j → text.now ≡ place i ++ 32 ∷ (place j ++ 32 ∷ rest) → MatchOption result ⊥ (λ p. (p.0 ≡ i) × (p.1 ≡ j) × (p.2.now ≡ rest)) }
+{
+    let Some((first, rest)) = cut_at(text, b' ') else {
+        return None
+    };
+    let Some(i) = place_in(first) else {
+        return None
+    };
+    let Some((second, more)) = cut_at(rest, b' ') else {
+        return None
+    };
+    let Some(j) = place_in(second) else {
+        return None
+    };
+    Some((i, j, more))
 }

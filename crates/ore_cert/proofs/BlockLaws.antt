@@ -1,0 +1,67 @@
+-- The blocks are formats.
+--     exact_head, exact_line, outside_head, outside_line     their first lines, each one line
+--     exact_names, outside_names     each as a line and five parts
+--     exact_is, outside_is           formats
+use Rattle.std.proofs.Common.{◌≡◌, List, ℕ, length, refl}
+use Rattle.std.specs.Prelude.{codes}
+use Rattle.ore_monomial.specs.Signature.{Signature}
+use Rattle.ore_expr.specs.Names.{AreNames}
+use Rattle.ore_rows.specs.Stored.{OperatorMatrix}
+use Rattle.ore_cert.specs.Formats.{Format}
+use Rattle.ore_cert.specs.Lines.{IsLine}
+use Rattle.ore_cert.specs.PartFormats.{quotients_format, pairs_format, matrix_format, row_format, exact_format, outside_format}
+use Rattle.ore_cert.proofs.FiveParts.{five, five_is}
+use Rattle.ore_cert.proofs.FormatLaws.{IsFormat, Renames, renamed_is}
+use Rattle.ore_cert.proofs.MatrixLaws.{matrix_is, row_is}
+use Rattle.ore_cert.proofs.PartLaws.{quotients_is, pairs_is}
+
+abbrev pub exact_head : List ℕ
+exact_head = codes "block exact\n"
+
+abbrev pub outside_head : List ℕ
+outside_head = codes "block outside\n"
+
+pub exact_line : IsLine exact_head
+exact_line = (codes "block exact", refl, refl)
+
+pub outside_line : IsLine outside_head
+outside_line = (codes "block outside", refl, refl)
+
+module _ (s : Signature) (names : List (List ℕ)) where
+  abbrev matrix_of : List ℕ → Format OperatorMatrix
+  matrix_of name = matrix_format s names name
+
+  unfoldable pub exact_names : Renames (five (matrix_of (codes "basis")) (matrix_of (codes "from")) (matrix_of (codes "to")) (pairs_format s names) (matrix_of (codes "inside")) exact_head) (exact_format s names)
+  exact_names = record {
+    from = λ b. (tt, (b.basis, (b.from, (b.to, (b.pairs, b.inside)))));
+    to = λ p. record { basis = p.1.0; from = p.1.1.0; to = p.1.1.1.0; pairs = p.1.1.1.1.0; inside = p.1.1.1.1.1 };
+    again = λ b h. refl;
+    may_from = λ b h. (tt, (h.basis, (h.from, (h.to, (h.pairs, h.inside)))));
+    may_to = λ p h. record { basis = h.1.0; from = h.1.1.0; to = h.1.1.1.0; pairs = h.1.1.1.1.0; inside = h.1.1.1.1.1 };
+    text_from = λ b h. refl;
+    text_to = λ p h. refl;
+  }
+
+  unfoldable pub outside_names : Renames (five (matrix_of (codes "basis")) (matrix_of (codes "from")) (pairs_format s names) (quotients_format s names) (row_format s names (codes "rest")) outside_head) (outside_format s names)
+  outside_names = record {
+    from = λ b. (tt, (b.basis, (b.from, (b.pairs, (b.quotients, b.rest)))));
+    to = λ p. record { basis = p.1.0; from = p.1.1.0; pairs = p.1.1.1.0; quotients = p.1.1.1.1.0; rest = p.1.1.1.1.1 };
+    again = λ b h. refl;
+    may_from = λ b h. (tt, (h.basis, (h.from, (h.pairs, (h.quotients, h.rest)))));
+    may_to = λ p h. record { basis = h.1.0; from = h.1.1.0; pairs = h.1.1.1.0; quotients = h.1.1.1.1.0; rest = h.1.1.1.1.1 };
+    text_from = λ b h. refl;
+    text_to = λ p h. refl;
+  }
+
+  module _ (are : AreNames names) (fit : length names ≡ length s.kinds) where
+    pub exact_is : IsFormat (exact_format s names)
+    exact_is =
+        renamed_is (five (matrix_of (codes "basis")) (matrix_of (codes "from")) (matrix_of (codes "to")) (pairs_format s names) (matrix_of (codes "inside")) exact_head) (exact_format s names) exact_names
+        (five_is (matrix_of (codes "basis")) (matrix_of (codes "from")) (matrix_of (codes "to")) (pairs_format s names) (matrix_of (codes "inside")) (matrix_is s names are fit (codes "basis") refl) (matrix_is s names are fit (codes "from") refl)
+        (matrix_is s names are fit (codes "to") refl) (pairs_is s names are fit) (matrix_is s names are fit (codes "inside") refl) exact_head exact_line)
+
+    pub outside_is : IsFormat (outside_format s names)
+    outside_is =
+        renamed_is (five (matrix_of (codes "basis")) (matrix_of (codes "from")) (pairs_format s names) (quotients_format s names) (row_format s names (codes "rest")) outside_head) (outside_format s names) outside_names
+        (five_is (matrix_of (codes "basis")) (matrix_of (codes "from")) (pairs_format s names) (quotients_format s names) (row_format s names (codes "rest")) (matrix_is s names are fit (codes "basis") refl) (matrix_is s names are fit (codes "from") refl) (pairs_is s names are fit)
+        (quotients_is s names are fit) (row_is s names are fit (codes "rest") refl) outside_head outside_line)

@@ -1,0 +1,59 @@
+-- The line with the kind of a certificate.
+--     Spells                    the value whose words a text is, or none where there is no such value
+--     halted_words, kind_words  what a line says of a stopped computation, and of a kind
+--     IsWrittenKind             its numbers are in their ranges
+--     kind_format               the line of a kind
+--     IsNoPlain, IsNoLinks      no kind without a number; none with the number of links
+use Rattle.std.specs.Prelude.{◌≡◌, ◌≢◌, ℕ, List, [], ◌∷◌, ◌++◌, codes, decimal, MatchOption}
+use Rattle.std.specs.List.{join_with_byte}
+use Rattle.std.specs.declared.option.Option.{Option}
+use Rattle.ore_cert.specs.declared.kind.Kind.{Kind}
+use Rattle.ore_cert.specs.declared.kind.Kind.TheVariants.{Controllable, AutonomousElement, LeftInverse, RightInverse, NoLeftInverse, NoRightInverse, KernelLeft, KernelRight, Resolution, ExtZero, ExtNonzero, Halted}
+use Rattle.ore_cert.specs.declared.report.Cause.{Cause}
+use Rattle.ore_cert.specs.Formats.{Format, one_line}
+use Rattle.ore_cert.specs.WholeText.{cause_words, IsWrittenCause, IsLength}
+
+abbrev pub Spells : {X : Type 0} → (X → List ℕ) → (X → Type 0) → List ℕ → Option X → Type 0
+Spells {X} words may text result = MatchOption result ((x : X) → may x → text ≢ words x) (λ x. may x × (text ≡ words x))
+
+abbrev pub halted_words : Cause → List ℕ
+halted_words c = join_with_byte 32 (codes "halted" ∷ cause_words c)
+
+abbrev pub kind_words : Kind → List ℕ
+kind_words Controllable = codes "controllable"
+kind_words AutonomousElement = codes "autonomous-element"
+kind_words LeftInverse = codes "left-inverse"
+kind_words RightInverse = codes "right-inverse"
+kind_words NoLeftInverse = codes "no-left-inverse"
+kind_words NoRightInverse = codes "no-right-inverse"
+kind_words KernelLeft = codes "kernel left"
+kind_words KernelRight = codes "kernel right"
+kind_words (Resolution count) = codes "resolution " ++ decimal count
+kind_words (ExtZero count) = codes "ext-zero " ++ decimal count
+kind_words (ExtNonzero count) = codes "ext-nonzero " ++ decimal count
+kind_words (Halted cause) = halted_words cause
+
+abbrev pub IsWrittenKind : Kind → Type 0
+IsWrittenKind (Resolution count) = IsLength count
+IsWrittenKind (ExtZero count) = IsLength count
+IsWrittenKind (ExtNonzero count) = IsLength count
+IsWrittenKind (Halted cause) = IsWrittenCause cause
+IsWrittenKind kind = Unit {0}
+
+abbrev pub kind_format : Format Kind
+kind_format = one_line kind_words IsWrittenKind
+
+pub record IsNoPlain (text : List ℕ) : Type 0 where
+  pub controllable : text ≢ codes "controllable"
+  pub autonomous : text ≢ codes "autonomous-element"
+  pub left : text ≢ codes "left-inverse"
+  pub right : text ≢ codes "right-inverse"
+  pub no_left : text ≢ codes "no-left-inverse"
+  pub no_right : text ≢ codes "no-right-inverse"
+  pub kernel_left : text ≢ codes "kernel left"
+  pub kernel_right : text ≢ codes "kernel right"
+
+pub record IsNoLinks (text : List ℕ) : Type 0 where
+  pub resolution : (n : ℕ) → IsLength n → text ≢ codes "resolution " ++ decimal n
+  pub ext_zero : (n : ℕ) → IsLength n → text ≢ codes "ext-zero " ++ decimal n
+  pub ext_nonzero : (n : ℕ) → IsLength n → text ≢ codes "ext-nonzero " ++ decimal n

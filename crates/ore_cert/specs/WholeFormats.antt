@@ -1,0 +1,142 @@
+-- The formats of certificates.
+--     operator_words, operator_format, unit_format   the line of a word and an operator; that of the place of a unit row
+--     link_format                    a matrix with its block
+--     with_exact, with_unit, with_row, with_operator, autonomous_parts, links_format, links_exact, links_row
+--                                    what some kinds have between these lines
+--     Parts, with_parts              what a certificate of a kind is made of; the certificate
+--     parts_format                   its parts one after the other
+--     IsMadeOf                       a certificate of a kind whose parts may be written
+--     rest_text, body_format         what stands between the line of the kind and the last line
+--     closed_format                  that, and the last line
+--     kinds_format                   what follows the first line
+--     certificate_format             the whole text
+use Rattle.std.specs.Prelude.{◌≡◌, ℕ, List, [], ◌∷◌, ◌++◌, codes}
+use Rattle.std.specs.List.{flat_map, join_with_byte}
+use Rattle.ore_monomial.specs.Signature.{Signature}
+use Rattle.ore_ring.specs.Ordered.{Ordered}
+use Rattle.ore_rows.specs.Stored.{OperatorMatrix}
+use Rattle.ore_rows.specs.declared.choices.Choice.{Choice}
+use Rattle.ore_expr.specs.CanonicalText.{operator_text}
+use Rattle.ore_cert.specs.declared.block.ExactBlock.{ExactBlock}
+use Rattle.ore_cert.specs.declared.block.OutsideBlock.{OutsideBlock}
+use Rattle.ore_cert.specs.declared.block.Link.{Link}
+use Rattle.ore_cert.specs.declared.certificate.Side.TheVariants.{Left, Right}
+use Rattle.ore_cert.specs.declared.certificate.Certificate.{Certificate}
+use Rattle.ore_cert.specs.declared.certificate.Certificate.TheVariants as certificate
+use Rattle.ore_cert.specs.declared.kind.Kind.{Kind}
+use Rattle.ore_cert.specs.declared.kind.Kind.TheVariants.{Controllable, AutonomousElement, LeftInverse, RightInverse, NoLeftInverse, NoRightInverse, KernelLeft, KernelRight, Resolution, ExtZero, ExtNonzero, Halted}
+use Rattle.ore_cert.specs.declared.report.Plan.{Plan}
+use Rattle.ore_cert.specs.declared.report.Stop.{Stop}
+use Rattle.ore_cert.specs.BlockText.{line, place, is_place, matrix_part, row_part, exact_text, outside_text}
+use Rattle.ore_cert.specs.Formats.{Format, one_line, sequence, items, fixed}
+use Rattle.ore_cert.specs.PartFormats.{matrix_format, row_format, exact_format, outside_format}
+use Rattle.ore_cert.specs.ReportFormats.{report_rest_format}
+use Rattle.ore_cert.specs.WholeText.{run_text, plan_words, stop_words, link_text, operator_line, body_text, certificate_text, IsWrittenLink, IsWrittenOperator, IsWrittenCertificate}
+
+abbrev pub unit_format : Format ℕ
+unit_format = one_line (λ k. codes "unit " ++ place k) is_place
+
+module _ (s : Signature) (names : List (List ℕ)) where
+  abbrev pub operator_words : List ℕ → Ordered → List ℕ
+  operator_words word f = word ++ 32 ∷ operator_text names s.order f.sum
+
+  abbrev pub operator_format : List ℕ → Format Ordered
+  operator_format word = one_line (operator_words word) (IsWrittenOperator s names)
+
+  abbrev pub link_format : Format Link
+  link_format = record { text = link_text names s.order; may = IsWrittenLink s names }
+
+  abbrev pub with_exact : List ℕ → Format (OperatorMatrix × ExactBlock)
+  with_exact name = sequence (matrix_format s names name) (λ _. exact_format s names)
+
+  abbrev pub with_unit : Format (ℕ × OutsideBlock)
+  with_unit = sequence unit_format (λ _. outside_format s names)
+
+  abbrev pub with_row : List ℕ → Format (List Ordered × OutsideBlock)
+  with_row name = sequence (row_format s names name) (λ _. outside_format s names)
+
+  abbrev pub with_operator : Format (Ordered × (List Ordered × OutsideBlock))
+  with_operator = sequence (operator_format (codes "operator")) (λ _. with_row (codes "cofactor"))
+
+  abbrev pub autonomous_parts : Format (List Ordered × (Ordered × (List Ordered × OutsideBlock)))
+  autonomous_parts = sequence (row_format s names (codes "element")) (λ _. with_operator)
+
+  abbrev pub links_format : ℕ → Format (List Link)
+  links_format count = items link_format count
+
+  abbrev pub links_exact : ℕ → Format (List Link × ExactBlock)
+  links_exact count = sequence (links_format count) (λ _. exact_format s names)
+
+  abbrev pub links_row : ℕ → Format (List Link × (List Ordered × OutsideBlock))
+  links_row count = sequence (links_format count) (λ _. with_row (codes "element"))
+
+  abbrev pub Parts : Kind → Type 0
+  Parts Controllable = OperatorMatrix × ExactBlock
+  Parts AutonomousElement = List Ordered × (Ordered × (List Ordered × OutsideBlock))
+  Parts LeftInverse = OperatorMatrix
+  Parts RightInverse = OperatorMatrix
+  Parts NoLeftInverse = ℕ × OutsideBlock
+  Parts NoRightInverse = ℕ × OutsideBlock
+  Parts KernelLeft = OperatorMatrix × ExactBlock
+  Parts KernelRight = OperatorMatrix × ExactBlock
+  Parts (Resolution count) = List Link
+  Parts (ExtZero count) = List Link × ExactBlock
+  Parts (ExtNonzero count) = List Link × (List Ordered × OutsideBlock)
+  Parts (Halted cause) = Plan × (List (List Choice) × Stop)
+
+  abbrev pub parts_format : (k : Kind) → Format (Parts k)
+  parts_format Controllable = with_exact (codes "Q")
+  parts_format AutonomousElement = autonomous_parts
+  parts_format LeftInverse = matrix_format s names (codes "S")
+  parts_format RightInverse = matrix_format s names (codes "S")
+  parts_format NoLeftInverse = with_unit
+  parts_format NoRightInverse = with_unit
+  parts_format KernelLeft = with_exact (codes "L")
+  parts_format KernelRight = with_exact (codes "Q")
+  parts_format (Resolution count) = links_format count
+  parts_format (ExtZero count) = links_exact count
+  parts_format (ExtNonzero count) = links_row count
+  parts_format (Halted cause) = report_rest_format
+
+  abbrev pub with_parts : (k : Kind) → Parts k → Certificate
+  with_parts Controllable p = certificate.Controllable p.0 p.1
+  with_parts AutonomousElement p = certificate.AutonomousElement p.0 p.1.0 p.1.1.0 p.1.1.1
+  with_parts LeftInverse m = certificate.LeftInverse m
+  with_parts RightInverse m = certificate.RightInverse m
+  with_parts NoLeftInverse p = certificate.NoLeftInverse p.0 p.1
+  with_parts NoRightInverse p = certificate.NoRightInverse p.0 p.1
+  with_parts KernelLeft p = certificate.Kernel Left p.0 p.1
+  with_parts KernelRight p = certificate.Kernel Right p.0 p.1
+  with_parts (Resolution count) links = certificate.Resolution links
+  with_parts (ExtZero count) p = certificate.ExtZero p.0 p.1
+  with_parts (ExtNonzero count) p = certificate.ExtNonzero p.0 p.1.0 p.1.1
+  with_parts (Halted cause) p = certificate.Halted (record { cause = cause; plan = p.0; runs = p.1.0; stop = p.1.1 })
+
+  abbrev pub rest_text : Certificate → List ℕ
+  rest_text (certificate.Controllable q block) = matrix_part names s.order (codes "Q") q ++ exact_text names s.order block
+  rest_text (certificate.AutonomousElement element operator cofactor block) = row_part names s.order (codes "element") element ++ (operator_line names s.order (codes "operator") operator ++ (row_part names s.order (codes "cofactor") cofactor ++ outside_text names s.order block))
+  rest_text (certificate.LeftInverse m) = matrix_part names s.order (codes "S") m
+  rest_text (certificate.RightInverse m) = matrix_part names s.order (codes "S") m
+  rest_text (certificate.NoLeftInverse unit block) = line (codes "unit" ∷ place unit ∷ []) ++ outside_text names s.order block
+  rest_text (certificate.NoRightInverse unit block) = line (codes "unit" ∷ place unit ∷ []) ++ outside_text names s.order block
+  rest_text (certificate.Kernel Left generators block) = matrix_part names s.order (codes "L") generators ++ exact_text names s.order block
+  rest_text (certificate.Kernel Right generators block) = matrix_part names s.order (codes "Q") generators ++ exact_text names s.order block
+  rest_text (certificate.Resolution links) = flat_map (link_text names s.order) links
+  rest_text (certificate.ExtZero links block) = flat_map (link_text names s.order) links ++ exact_text names s.order block
+  rest_text (certificate.ExtNonzero links element block) = flat_map (link_text names s.order) links ++ (row_part names s.order (codes "element") element ++ outside_text names s.order block)
+  rest_text (certificate.Halted r) = line (codes "plan" ∷ plan_words r.plan) ++ (flat_map run_text r.runs ++ line (codes "stop" ∷ stop_words r.stop))
+
+  abbrev pub IsMadeOf : (k : Kind) → Certificate → Type 0
+  IsMadeOf k c = (p : Parts k) × (parts_format k).may p × (with_parts k p ≡ c)
+
+  abbrev pub body_format : Kind → Format Certificate
+  body_format k = record { text = rest_text; may = IsMadeOf k }
+
+  abbrev pub closed_format : Kind → Format Certificate
+  closed_format k = record { text = λ c. rest_text c ++ codes "end\n"; may = IsMadeOf k }
+
+  abbrev pub kinds_format : Format Certificate
+  kinds_format = record { text = λ c. body_text names s.order c ++ codes "end\n"; may = IsWrittenCertificate s names }
+
+  abbrev pub certificate_format : Format Certificate
+  certificate_format = record { text = certificate_text names s.order; may = IsWrittenCertificate s names }

@@ -1,0 +1,164 @@
+-- The text of a certificate of any kind.
+--     choice_text, run_text  a choice of a run; a run with its choices
+--     plan_words, cause_words, stop_words     what was computed; why and where it stopped
+--     report_text            the body of a report
+--     link_text, links_text  a matrix with its block; some of them
+--     operator_line          a word and an operator
+--     body_text              what stands between the first line and the last
+--     certificate_text       the whole text
+--     brief_text             the kind of the certificate and what is claimed, without what shows it
+--     IsWrittenChoice, IsWrittenStop, IsWrittenPlan, IsWrittenCause, IsWrittenReport, IsWrittenLink, IsWrittenLinks, IsWrittenCertificate
+--                            numbers are in their ranges, and operators are of the signature
+--     IsCertificate          the text of some certificate
+use Rattle.std.specs.Prelude.{◌≡◌, ℕ, ◌<◌, ◌≤◌, List, [], ◌∷◌, ◌++◌, length, codes, decimal}
+use Rattle.std.specs.List.{All, flat_map}
+use Rattle.ore_monomial.specs.declared.order.Order.{Order}
+use Rattle.ore_monomial.specs.Signature.{Signature}
+use Rattle.ore_ring.specs.Belongs.{Belongs}
+use Rattle.ore_ring.specs.Ordered.{Ordered}
+use Rattle.ore_expr.specs.CanonicalText.{operator_text}
+use Rattle.ore_expr.specs.Laws.{IsPrintable}
+use Rattle.ore_rows.specs.declared.choices.Choice.{Choice}
+use Rattle.ore_rows.specs.declared.choices.Choice.TheVariants as choice
+use Rattle.ore_cert.specs.CertificateText.{number_bound}
+use Rattle.ore_cert.specs.BlockText.{line, place, matrix_part, row_part, exact_text, outside_text, is_place, IsWrittenMatrix, IsWrittenRow, IsWrittenExact, IsWrittenOutside}
+use Rattle.ore_cert.specs.declared.block.Link.{Link}
+use Rattle.ore_cert.specs.declared.certificate.Side.TheVariants.{Left, Right}
+use Rattle.ore_cert.specs.declared.certificate.Certificate.{Certificate}
+use Rattle.ore_cert.specs.declared.certificate.Certificate.TheVariants.{Controllable, AutonomousElement, LeftInverse, RightInverse, NoLeftInverse, NoRightInverse, Kernel, Resolution, ExtZero, ExtNonzero, Halted}
+use Rattle.ore_cert.specs.declared.report.Cause.{Cause}
+use Rattle.ore_cert.specs.declared.report.Cause.TheVariants as cause
+use Rattle.ore_cert.specs.declared.report.Plan.{Plan}
+use Rattle.ore_cert.specs.declared.report.Plan.TheVariants.{Analyse, KernelLeft, KernelRight, InverseLeft, InverseRight, Resolve, Ext, Adjoint}
+use Rattle.ore_cert.specs.declared.report.Report.{Report}
+use Rattle.ore_cert.specs.declared.report.Stop.{Stop}
+use Rattle.ore_cert.specs.declared.report.Stop.TheVariants as stop
+
+-- ---- reports
+
+abbrev pub choice_text : Choice → List ℕ
+choice_text (choice.Treat i j) = line (codes "treat" ∷ place i ∷ place j ∷ [])
+choice_text (choice.Skip i j via) = line (codes "skip" ∷ place i ∷ place j ∷ place via ∷ [])
+
+abbrev pub run_text : List Choice → List ℕ
+run_text choices = line (codes "run" ∷ decimal (length choices) ∷ []) ++ flat_map choice_text choices
+
+abbrev pub cause_words : Cause → List (List ℕ)
+cause_words cause.Overflow = codes "overflow" ∷ []
+cause_words cause.Degree = codes "degree" ∷ []
+cause_words (cause.Budget n) = codes "budget" ∷ decimal n ∷ []
+
+abbrev pub plan_words : Plan → List (List ℕ)
+plan_words Analyse = codes "analyse" ∷ []
+plan_words KernelLeft = codes "kernel" ∷ codes "left" ∷ []
+plan_words KernelRight = codes "kernel" ∷ codes "right" ∷ []
+plan_words InverseLeft = codes "inverse" ∷ codes "left" ∷ []
+plan_words InverseRight = codes "inverse" ∷ codes "right" ∷ []
+plan_words (Resolve k) = codes "resolve" ∷ decimal k ∷ []
+plan_words (Ext k) = codes "ext" ∷ decimal k ∷ []
+plan_words Adjoint = codes "adjoint" ∷ []
+
+abbrev pub stop_words : Stop → List (List ℕ)
+stop_words stop.Forced = codes "forced" ∷ []
+stop_words (stop.Treat i j) = codes "treat" ∷ place i ∷ place j ∷ []
+stop_words stop.Budget = codes "budget" ∷ []
+
+abbrev pub report_text : Report → List ℕ
+report_text r = line (codes "halted" ∷ cause_words r.cause) ++ (line (codes "plan" ∷ plan_words r.plan) ++ (flat_map run_text r.runs ++ line (codes "stop" ∷ stop_words r.stop)))
+
+-- ---- kinds
+
+module _ (names : List (List ℕ)) (o : Order) where
+  abbrev pub link_text : Link → List ℕ
+  link_text k = matrix_part names o (codes "L") k.l ++ exact_text names o k.block
+
+  abbrev pub links_text : List ℕ → List Link → List ℕ
+  links_text kind links = line (kind ∷ decimal (length links) ∷ []) ++ flat_map link_text links
+
+  abbrev pub operator_line : List ℕ → Ordered → List ℕ
+  operator_line word f = line (word ∷ operator_text names o f.sum ∷ [])
+
+  abbrev pub body_text : Certificate → List ℕ
+  body_text (Controllable q block) = codes "controllable\n" ++ (matrix_part names o (codes "Q") q ++ exact_text names o block)
+  body_text (AutonomousElement element operator cofactor block) = codes "autonomous-element\n" ++ (row_part names o (codes "element") element ++ (operator_line (codes "operator") operator ++ (row_part names o (codes "cofactor") cofactor ++ outside_text names o block)))
+  body_text (LeftInverse s) = codes "left-inverse\n" ++ matrix_part names o (codes "S") s
+  body_text (RightInverse s) = codes "right-inverse\n" ++ matrix_part names o (codes "S") s
+  body_text (NoLeftInverse unit block) = codes "no-left-inverse\n" ++ (line (codes "unit" ∷ place unit ∷ []) ++ outside_text names o block)
+  body_text (NoRightInverse unit block) = codes "no-right-inverse\n" ++ (line (codes "unit" ∷ place unit ∷ []) ++ outside_text names o block)
+  body_text (Kernel Left generators block) = codes "kernel left\n" ++ (matrix_part names o (codes "L") generators ++ exact_text names o block)
+  body_text (Kernel Right generators block) = codes "kernel right\n" ++ (matrix_part names o (codes "Q") generators ++ exact_text names o block)
+  body_text (Resolution links) = links_text (codes "resolution") links
+  body_text (ExtZero links block) = links_text (codes "ext-zero") links ++ exact_text names o block
+  body_text (ExtNonzero links element block) = links_text (codes "ext-nonzero") links ++ (row_part names o (codes "element") element ++ outside_text names o block)
+  body_text (Halted report) = report_text report
+
+  abbrev pub certificate_text : Certificate → List ℕ
+  certificate_text c = codes "certificate 1\n" ++ (body_text c ++ codes "end\n")
+
+  abbrev pub brief_text : Certificate → List ℕ
+  brief_text (Controllable q block) = codes "controllable\n" ++ matrix_part names o (codes "Q") q
+  brief_text (AutonomousElement element operator cofactor block) = codes "autonomous-element\n" ++ (row_part names o (codes "element") element ++ operator_line (codes "operator") operator)
+  brief_text c = certificate_text c
+
+-- ---- what may be written
+
+abbrev pub IsWrittenChoice : Choice → Type 0
+IsWrittenChoice (choice.Treat i j) = is_place i × is_place j
+IsWrittenChoice (choice.Skip i j via) = is_place i × is_place j × is_place via
+
+pub record IsWrittenRun (choices : List Choice) : Type 0 where
+  pub few : length choices < number_bound
+  pub all : All IsWrittenChoice choices
+
+abbrev pub IsWrittenCause : Cause → Type 0
+IsWrittenCause cause.Overflow = Unit {0}
+IsWrittenCause cause.Degree = Unit {0}
+IsWrittenCause (cause.Budget n) = n ≤ 1000000
+
+abbrev pub IsLength : ℕ → Type 0
+IsLength k = (1 ≤ k) × (k ≤ 12)
+
+abbrev pub IsWrittenPlan : Plan → Type 0
+IsWrittenPlan (Resolve k) = IsLength k
+IsWrittenPlan (Ext k) = IsLength k
+IsWrittenPlan plan = Unit {0}
+
+abbrev pub IsWrittenStop : Stop → Type 0
+IsWrittenStop stop.Forced = Unit {0}
+IsWrittenStop (stop.Treat i j) = is_place i × is_place j
+IsWrittenStop stop.Budget = Unit {0}
+
+pub record IsWrittenReport (r : Report) : Type 0 where
+  pub cause : IsWrittenCause r.cause
+  pub plan : IsWrittenPlan r.plan
+  pub runs : All IsWrittenRun r.runs
+  pub stop : IsWrittenStop r.stop
+
+module _ (s : Signature) (names : List (List ℕ)) where
+  pub record IsWrittenLink (k : Link) : Type 0 where
+    pub l : IsWrittenMatrix s names k.l
+    pub block : IsWrittenExact s names k.block
+
+  pub record IsWrittenLinks (links : List Link) : Type 0 where
+    pub count : IsLength (length links)
+    pub all : All IsWrittenLink links
+
+  pub record IsWrittenOperator (f : Ordered) : Type 0 where
+    pub written : IsPrintable s names f.sum
+    pub of : Belongs s f
+
+  abbrev pub IsWrittenCertificate : Certificate → Type 0
+  IsWrittenCertificate (Controllable q block) = IsWrittenMatrix s names q × IsWrittenExact s names block
+  IsWrittenCertificate (AutonomousElement element operator cofactor block) = IsWrittenRow s names element × IsWrittenOperator operator × IsWrittenRow s names cofactor × IsWrittenOutside s names block
+  IsWrittenCertificate (LeftInverse m) = IsWrittenMatrix s names m
+  IsWrittenCertificate (RightInverse m) = IsWrittenMatrix s names m
+  IsWrittenCertificate (NoLeftInverse unit block) = is_place unit × IsWrittenOutside s names block
+  IsWrittenCertificate (NoRightInverse unit block) = is_place unit × IsWrittenOutside s names block
+  IsWrittenCertificate (Kernel side generators block) = IsWrittenMatrix s names generators × IsWrittenExact s names block
+  IsWrittenCertificate (Resolution links) = IsWrittenLinks links
+  IsWrittenCertificate (ExtZero links block) = IsWrittenLinks links × IsWrittenExact s names block
+  IsWrittenCertificate (ExtNonzero links element block) = IsWrittenLinks links × IsWrittenRow s names element × IsWrittenOutside s names block
+  IsWrittenCertificate (Halted report) = IsWrittenReport report
+
+  abbrev pub IsCertificate : List ℕ → Type 0
+  IsCertificate text = (c : Certificate) × IsWrittenCertificate c × (text ≡ certificate_text names s.order c)

@@ -1,0 +1,149 @@
+//! The line with the kind of a certificate.
+
+ghost use Rattle.std.specs.Prelude.{◌≡◌, ◌≢◌, ℕ, ◌≤◌, ◌++◌, ◌∷◌, [], codes, decimal, MatchOption};
+ghost use Rattle.std.specs.List.{join_with_byte};
+ghost use Rattle.ore_cert.specs.Formats.{Reads};
+ghost use Rattle.ore_cert.specs.WholeText.{cause_words, IsWrittenCause, IsLength};
+ghost use Rattle.ore_cert.specs.KindFormat.{Spells, halted_words, kind_words, IsWrittenKind, kind_format, IsNoPlain, IsNoLinks};
+
+use crate::count::count_in;
+use crate::fault::CertFault;
+use crate::lines::Lines;
+use crate::report::Cause;
+
+/// The kind of a certificate, and what its line says besides.
+#[derive(Clone, Copy, Drop)]
+pub enum Kind {
+    Controllable,
+    AutonomousElement,
+    LeftInverse,
+    RightInverse,
+    NoLeftInverse,
+    NoRightInverse,
+    KernelLeft,
+    KernelRight,
+    /// So many links follow.
+    Resolution { count: usize },
+    ExtZero { count: usize },
+    ExtNonzero { count: usize },
+    Halted { cause: Cause },
+}
+
+// The kind on the line that is due.
+pub fn read_kind(lines: &mut Lines<'_>) -> Result<Kind, CertFault>
+    ensures { Reads kind_format lines.old result lines.new }
+{
+    let line = lines.at();
+    let Some(words) = lines.take() else {
+        return Err(CertFault::Malformed { line })
+    };
+    match kind_in(words) {
+        Some(kind) => Ok(kind),
+        None => Err(CertFault::Malformed { line }),
+    }
+}
+
+// The kind that these words are.
+fn kind_in(words: &[u8]) -> Option<Kind>
+    ensures { Spells kind_words IsWrittenKind words.now result }
+{
+    match plain_kind_in(words) {
+        Some(kind) => Some(kind),
+        None => match links_kind_in(words) {
+            Some(kind) => Some(kind),
+            None => match cause_in(words) {
+                Some(cause) => Some(Kind::Halted { cause }),
+                None => None,
+            },
+        },
+    }
+}
+
+// A kind whose line has no number.
+fn plain_kind_in(words: &[u8]) -> Option<Kind>
+    ensures { MatchOption result (IsNoPlain words.now) (λ k. IsWrittenKind k × (words.now ≡ kind_words k)) }
+{
+    if words == b"controllable".as_slice() {
+        return Some(Kind::Controllable);
+    }
+    if words == b"autonomous-element".as_slice() {
+        return Some(Kind::AutonomousElement);
+    }
+    if words == b"left-inverse".as_slice() {
+        return Some(Kind::LeftInverse);
+    }
+    if words == b"right-inverse".as_slice() {
+        return Some(Kind::RightInverse);
+    }
+    if words == b"no-left-inverse".as_slice() {
+        return Some(Kind::NoLeftInverse);
+    }
+    if words == b"no-right-inverse".as_slice() {
+        return Some(Kind::NoRightInverse);
+    }
+    if words == b"kernel left".as_slice() {
+        return Some(Kind::KernelLeft);
+    }
+    if words == b"kernel right".as_slice() {
+        return Some(Kind::KernelRight);
+    }
+    None
+}
+
+// A kind whose line has the number of links.
+fn links_kind_in(words: &[u8]) -> Option<Kind>
+    ensures { MatchOption result (IsNoLinks words.now) (λ k. IsWrittenKind k × (words.now ≡ kind_words k)) }
+{
+    if let Some(count) = length_behind(words, b"resolution") {
+        return Some(Kind::Resolution { count });
+    }
+    if let Some(count) = length_behind(words, b"ext-zero") {
+        return Some(Kind::ExtZero { count });
+    }
+    if let Some(count) = length_behind(words, b"ext-nonzero") {
+        return Some(Kind::ExtNonzero { count });
+    }
+    None
+}
+
+// Why a computation stopped.
+fn cause_in(words: &[u8]) -> Option<Cause>
+    ensures { Spells halted_words IsWrittenCause words.now result }
+{
+    if words == b"halted overflow".as_slice() {
+        return Some(Cause::Overflow);
+    }
+    if words == b"halted degree".as_slice() {
+        return Some(Cause::Degree);
+    }
+    if let Some(treated) = budget_behind(words, b"halted budget") {
+        return Some(Cause::Budget(treated));
+    }
+    None
+}
+
+// The number of links, from 1 to 12, behind this word.
+pub fn length_behind(words: &[u8], word: &[u8]) -> Option<usize>
+    ensures { Spells (λ n. word.now ++ 32 ∷ decimal n) IsLength words.now result }
+{
+    let Some(number) = count_in(words, word) else {
+        return None
+    };
+    match number {
+        1..=12 => Some(number),
+        _ => None,
+    }
+}
+
+// The number of pairs, at most 1,000,000, behind this word.
+fn budget_behind(words: &[u8], word: &[u8]) -> Option<u32>
+    ensures { Spells (λ n. word.now ++ 32 ∷ decimal n) (λ n. n ≤ 1000000) words.now result }
+{
+    let Some(number) = count_in(words, word) else {
+        return None
+    };
+    if number > 1000000 {
+        return None;
+    }
+    Some(number as u32)
+}

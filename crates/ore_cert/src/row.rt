@@ -1,0 +1,75 @@
+//! A row, as a matrix of one row.
+
+ghost use Rattle.std.specs.Prelude.{◌≡◌, ℕ, ◌<◌, length, IfSome, Some};
+ghost use Rattle.ore_cert.specs.CertificateText.{matrix_words, number_bound};
+ghost use Rattle.ore_expr.specs.Names.{AreNames};
+ghost use Rattle.ore_cert.specs.Formats.{Reads};
+ghost use Rattle.ore_cert.specs.Lines.{LacksByte};
+ghost use Rattle.ore_cert.specs.PartFormats.{columns_format, stored_row_format, row_format};
+
+use crate::fault::CertFault;
+use crate::lines::Lines;
+use crate::matrix::read_one_row;
+use crate::sizes::sizes_in;
+use ore_expr::Names;
+use ore_monomial::Signature;
+use ore_rows::Row;
+use std::alloc::Global;
+
+// The row of this name.
+pub fn read_row_part(
+    alloc: Global,
+    sig: &Signature,
+    names: &Names,
+    lines: &mut Lines<'_>,
+    name: &[u8],
+) -> Result<Row, CertFault>
+    requires names { AreNames names.now }
+    requires count { length names.now ≡ length sig.now.kinds }
+    requires name { LacksByte 10 name.now }
+    ensures { Reads (row_format sig.now names.now name.now) lines.old result lines.new }
+{
+    let cols = read_columns(lines, name)?;
+    read_line_of_row(alloc, sig, names, cols, lines)
+}
+
+// The number of columns that the line that is due says of one row.
+fn read_columns(lines: &mut Lines<'_>, name: &[u8]) -> Result<usize, CertFault>
+    requires { LacksByte 10 name.now }
+    ensures { Reads (columns_format name.now) lines.old result lines.new }
+{
+    let line = lines.at();
+    let Some(words) = lines.take() else {
+        return Err(CertFault::Malformed { line })
+    };
+    match columns_in(words, name) {
+        Some(cols) => Ok(cols),
+        None => Err(CertFault::Malformed { line }),
+    }
+}
+
+// The number of columns, if the line says it of one row of this name.
+fn columns_in(words: &[u8], name: &[u8]) -> Option<usize>
+    ensures found { IfSome result (λ cols. (cols < number_bound) × (words.now ≡ matrix_words name.now 1 cols)) }
+    ensures only { (cols : ℕ) → cols < number_bound → words.now ≡ matrix_words name.now 1 cols → result ≡ Some cols }
+{
+    let Some((rows, cols)) = sizes_in(words, name) else {
+        return None
+    };
+    if rows == 1 { Some(cols) } else { None }
+}
+
+// The row of the line that is due.
+fn read_line_of_row(
+    alloc: Global,
+    sig: &Signature,
+    names: &Names,
+    cols: usize,
+    lines: &mut Lines<'_>,
+) -> Result<Row, CertFault>
+    requires names { AreNames names.now }
+    requires count { length names.now ≡ length sig.now.kinds }
+    ensures { Reads (stored_row_format sig.now names.now cols) lines.old result lines.new }
+{
+    read_one_row(alloc, sig, names, cols, lines)
+}
