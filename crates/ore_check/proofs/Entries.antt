@@ -1,0 +1,132 @@
+-- The pairs of a basis, from a place on.
+--     treated_next, treated_end        how many are treated
+--     lines_next, lines_end            how many lines they have
+--     IsSameList                       two lists have the same pairs
+--     more_same                        and with one more pair in front
+--     entry_same, entries_same         so pairs are right by those of the one as by those of the other
+--     entries_next, entries_end        a pair and those behind it
+--     steps_inside, fitted, new_treatable      steps that are right name basis rows; a common multiple that may be formed
+--                                      has its degree; a new pair is of the basis
+--     entry_treatable, entries_treatable       the pairs that are right can be treated
+use Rattle.std.proofs.Common.{◌≡◌, ℕ, suc, ◌+◌, ◌<◌, ◌≤◌, Bool, true, false, cond, not, ◌&&◌, ◌||◌, nat_eq, nat_lt, List, [], ◌∷◌, drop, length, refl, sym, ap, ◌∙◌, Some, arith}
+use Rattle.std.specs.Prelude.{nat_le}
+use Rattle.std.specs.List.{All, slice_get}
+use Rattle.std.specs.declared.result.Result.{Result}
+use Rattle.std.specs.declared.result.Result.TheVariants.{Ok, Err}
+use Rattle.std.proofs.lemmas.List.{at_drop_all}
+use Rattle.std.proofs.lemmas.List.Elements.{All-cons, All-nil}
+use Rattle.ore_algebra.specs.Limits.{Limits, Cause, Degree, program}
+use Rattle.ore_rational.proofs.FractionLaws.{rationals}
+use Rattle.ore_monomial.specs.Monomial.{degree}
+use Rattle.ore_monomial.specs.Signature.{Signature}
+use Rattle.ore_monomial.specs.Term.{Term}
+use Rattle.ore_leads.specs.FirstDivisor.{divides_term}
+use Rattle.ore_rows.specs.Reduction.{Step}
+use Rattle.ore_rows.specs.Rows.{Row}
+use Rattle.ore_pairs.specs.Listed.{is_in}
+use Rattle.ore_pairs.specs.Steps.{lead_at, pair_term}
+use Rattle.ore_cert.specs.declared.block.PairEntry.{PairEntry}
+use Rattle.ore_cert.specs.declared.block.PairEntry.TheVariants.{Pair, Skip}
+use Rattle.ore_check.specs.declared.answer.Reason.TheVariants as reason
+use Rattle.ore_check.specs.Conditions.{◌>>=◌, formed, required}
+use Rattle.ore_check.specs.CheckBlock.{check_entries, check_entry, check_steps, common_fits, entry_lines, is_below, is_new, is_pair, less_step, lines_of, may_skip, pair_of, raised_less, shifted, treated_in}
+use Rattle.ore_check.specs.OneLine.{IsTreatable, rows_taken}
+use Rattle.ore_check.proofs.Passed.{both_true, bound, formed_then, nat_lt_true, required_then, required_true}
+use Rattle.ore_check.proofs.Places.{drop_read}
+
+-- ---- numbers
+
+pub treated_next : (es : List PairEntry) (k : ℕ) (e : PairEntry) → slice_get es k ≡ Some e → treated_in (drop k es) ≡ rows_taken e + treated_in (drop (k + 1) es)
+unfolding treated_in
+treated_next es k e at = ap treated_in (drop_read es k e at) ∙ by e
+  where
+    by : (e : PairEntry) → treated_in (e ∷ drop (k + 1) es) ≡ rows_taken e + treated_in (drop (k + 1) es)
+    by (Pair i j steps) = omega arith
+    by (Skip i j via) = omega arith
+
+pub treated_end : (es : List PairEntry) (k : ℕ) → length es ≤ k → treated_in (drop k es) ≡ 0
+unfolding treated_in
+treated_end es k h = at_drop_all treated_in es k h
+
+pub lines_next : (es : List PairEntry) (k : ℕ) (e : PairEntry) → slice_get es k ≡ Some e → lines_of (drop k es) ≡ entry_lines e + lines_of (drop (k + 1) es)
+unfolding lines_of
+lines_next es k e at = ap lines_of (drop_read es k e at)
+
+pub lines_end : (es : List PairEntry) (k : ℕ) → length es ≤ k → lines_of (drop k es) ≡ 0
+unfolding lines_of
+lines_end es k h = at_drop_all lines_of es k h
+
+-- ---- lists with the same pairs
+
+abbrev pub IsSameList : List (ℕ × ℕ) → List (ℕ × ℕ) → Type 0
+IsSameList before others = (x y : ℕ) → is_in x y before ≡ is_in x y others
+
+pub more_same : (p : ℕ × ℕ) (before others : List (ℕ × ℕ)) → IsSameList before others → IsSameList (p ∷ before) (p ∷ others)
+unfolding is_in
+more_same p before others h x y = ap (λ t. (nat_eq x p.0 && nat_eq y p.1) || t) (h x y)
+
+module _ (l : Limits) (s : Signature) (basis : List (Row rationals)) (leads : List Term) where
+  pub entry_same : (line : ℕ) (before others : List (ℕ × ℕ)) (e : PairEntry) → IsSameList before others → check_entry l s basis leads line before e ≡ check_entry l s basis leads line others e
+  unfolding check_entry
+  entry_same line before others (Pair i j steps) h = ap (λ t. required line reason.Pair (is_pair leads i j && not t) >>= λ u. formed line (common_fits l s (pair_term leads i j)) >>= λ u. formed line (raised_less l s leads basis i j) >>= λ r. check_steps l s basis leads (pair_term leads i j) line r steps) (h i j)
+  entry_same line before others (Skip i j via) h = λ n. required line reason.Skip ((is_pair leads i j && not (h i j n)) && (nat_lt via (length leads) && (not (nat_eq via i) && (not (nat_eq via j)
+      && (divides_term (lead_at leads via) (pair_term leads i j) && ((h i via n || h via i n) && (h j via n || h via j n)))))))
+
+  pub entries_same : (line : ℕ) (before others : List (ℕ × ℕ)) (es : List PairEntry) → IsSameList before others → check_entries l s basis leads line before es ≡ check_entries l s basis leads line others es
+  unfolding check_entries
+  entries_same line before others [] h = refl
+  entries_same line before others (e ∷ es) h = λ n. entry_same line before others e h n >>= λ u. entries_same (line + entry_lines e) (pair_of e ∷ before) (pair_of e ∷ others) es (more_same (pair_of e) before others h) n
+
+  pub entries_next : (line next : ℕ) (before others : List (ℕ × ℕ)) (es : List PairEntry) (k : ℕ) (e : PairEntry) → slice_get es k ≡ Some e → next ≡ line + entry_lines e → IsSameList others (pair_of e ∷ before)
+      → check_entries l s basis leads line before (drop k es) ≡ (check_entry l s basis leads line before e >>= λ u. check_entries l s basis leads next others (drop (k + 1) es))
+  unfolding check_entries
+  entries_next line next before others es k e at n h =
+      ap (check_entries l s basis leads line before) (drop_read es k e at)
+      ∙ (λ i. check_entry l s basis leads line before e >>= λ u. (entries_same (line + entry_lines e) (pair_of e ∷ before) others (drop (k + 1) es) (λ x y. sym (h x y)) ∙ ap (λ m. check_entries l s basis leads m others (drop (k + 1) es)) (sym n)) i)
+
+  pub entries_end : (line : ℕ) (before : List (ℕ × ℕ)) (es : List PairEntry) (k : ℕ) → length es ≤ k → check_entries l s basis leads line before (drop k es) ≡ Ok tt
+  unfolding check_entries
+  entries_end line before es k h = at_drop_all (check_entries l s basis leads line before) es k h
+
+-- ---- what right pairs are
+
+module _ (s : Signature) (basis : List (Row rationals)) (leads : List Term) where
+  steps_inside : (t : Term) (line : ℕ) (r : Row rationals) (steps : List (Step rationals)) → check_steps program s basis leads t line r steps ≡ Ok tt → All (λ (t : Step rationals). t.index < length leads) steps
+  unfolding check_steps
+  steps_inside t line r [] h = All-nil (λ (t : Step rationals). t.index < length leads)
+  steps_inside t line r (step ∷ steps) h =
+      let first = required_then (suc line) reason.Step (nat_lt step.index (length leads)) _ tt h in
+      let second = formed_then (suc line) (shifted program s step.monomial (lead_at leads step.index)) _ tt first.1 in
+      let third = required_then (suc line) reason.StepTooHigh (is_below s.order second.0 t) _ tt second.2 in
+      let fourth = formed_then (suc line) (less_step program s basis step r) _ tt third.1 in
+      All-cons (λ (t : Step rationals). t.index < length leads) step steps (nat_lt_true step.index (length leads) first.0) (steps_inside t (suc line) fourth.0 steps fourth.2)
+
+  fitted : (t : Term) (u : Unit {0}) → common_fits program s t ≡ Ok u → degree t.monomial ≤ 32767
+  fitted t u h = by (nat_le (degree t.monomial) 32767) refl
+    where
+      by : (b : Bool) → nat_le (degree t.monomial) 32767 ≡ b → degree t.monomial ≤ 32767
+      by true e = grind (arith, e)
+      by false e = let apart : ◌≡◌ {A = Result (Unit {0}) Cause} (Err Degree) (Ok u) = sym (ap (λ b. cond b (Ok tt) (Err Degree)) e) ∙ h in absurd cc
+
+  new_treatable : (before : List (ℕ × ℕ)) (i j : ℕ) → is_new leads before i j ≡ true → (i < j) × (j < length leads)
+  new_treatable before i j h =
+      let pair = (both_true (is_pair leads i j) (not (is_in i j before)) h).0 in
+      let parts = both_true (nat_lt i j) (nat_lt j (length leads) && nat_eq (lead_at leads i).column (lead_at leads j).column) pair in
+      (nat_lt_true i j parts.0, nat_lt_true j (length leads) (both_true (nat_lt j (length leads)) _ parts.1).0)
+
+  pub entry_treatable : (line : ℕ) (before : List (ℕ × ℕ)) (e : PairEntry) → check_entry program s basis leads line before e ≡ Ok tt → IsTreatable leads e
+  unfolding check_entry
+  entry_treatable line before (Pair i j steps) h =
+      let first = required_then line reason.Pair (is_new leads before i j) _ tt h in
+      let second = formed_then line (common_fits program s (pair_term leads i j)) _ tt first.1 in
+      let third = formed_then line (raised_less program s leads basis i j) _ tt second.2 in
+      let places = new_treatable before i j first.0 in
+      (places.0, places.1, fitted (pair_term leads i j) second.0 second.1, steps_inside (pair_term leads i j) line third.0 steps third.2)
+  entry_treatable line before (Skip i j via) h = (new_treatable before i j (both_true (is_new leads before i j) (may_skip leads before i j via) (required_true line reason.Skip _ tt h)).0).0
+
+  pub entries_treatable : (line : ℕ) (before : List (ℕ × ℕ)) (es : List PairEntry) → check_entries program s basis leads line before es ≡ Ok tt → All (IsTreatable leads) es
+  unfolding check_entries
+  entries_treatable line before [] h = All-nil (IsTreatable leads)
+  entries_treatable line before (e ∷ es) h =
+      let first = bound (check_entry program s basis leads line before e) _ tt h in
+      All-cons (IsTreatable leads) e es (entry_treatable line before e first.1) (entries_treatable (line + entry_lines e) (pair_of e ∷ before) es first.2)

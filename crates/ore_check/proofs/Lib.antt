@@ -1,0 +1,25 @@
+pub mod Refusals
+pub mod Places
+pub mod SameFronts
+pub mod Leads
+pub mod Compared
+pub mod Folds
+pub mod Chains
+pub mod MonicLeads
+pub mod Below
+pub mod GivenRows
+pub mod Entries
+pub mod InsideRows
+pub mod Counting
+pub mod OutsideBlocks
+pub mod Passed
+pub mod Values
+pub mod Converted
+pub mod PairLines
+pub mod BasisLines
+pub mod InsideLines
+pub mod ExactLines
+pub mod OutsideLines
+pub mod Inverses
+pub mod CertificateKinds
+mod TestRing

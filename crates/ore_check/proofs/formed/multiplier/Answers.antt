@@ -1,0 +1,12 @@
+use Rattle.std.proofs.Common.{ap, ◌∙◌, subst, sym}
+use Rattle.std.specs.declared.result.Result.TheVariants.{Ok}
+use Rattle.ore_monomial.specs.Signature.{Signature, MonomialOf}
+use Rattle.ore_monomial.specs.declared.stop.NoMemory.{NoMemory}
+use Rattle.ore_monomial.proofs.Declared.{MonomialOf-quotient}
+use Rattle.ore_rows.proofs.Dots.{term_belongs}
+use Rattle.ore_check.proofs.formed.multiplier.Goals as goal
+
+pub returns-clause-of : goal.returns-clause-of
+returns-clause-of g c =
+    let s = g.R.OreRing.signature_of c.args.ring.now in
+    term_belongs {E = NoMemory} s c.order-order.result c.minus-lacking.result c.one.result (Ok c.in_ok-term.field-0) (c.order-order.ensures ∙ ap (λ (v : Signature). v.order) c.signature.ensures) (subst (MonomialOf s) (sym c.minus-lacking.ensures) (MonomialOf-quotient s _ _ c.requires.of)) c.in_ok-term.ensures

@@ -1,0 +1,11 @@
+use Rattle.std.proofs.Common.{◌≡◌, ◌+◌, ◌*◌, ◌^◌, ◌≤◌, [], drop}
+use Rattle.ore_algebra.specs.Limits.{program}
+use Rattle.ore_rows.specs.Stored.{rows_of}
+use Rattle.ore_check.specs.CheckBlock.{check_entries}
+use Rattle.ore_check.proofs.pairs.check_entries.Given as goal
+
+abbrev pub invariant-loop-k : goal.invariant-loop-k
+invariant-loop-k g l = record {
+  told : check_entries program (g.R.OreRing.signature_of l.ring) (rows_of l.basis) l.leads l.at l.listed (drop l.k l.pairs) ≡ check_entries program (g.R.OreRing.signature_of l.ring) (rows_of l.basis) l.leads l.line [] l.pairs;
+  few : l.at ≤ l.line + l.k * 2 ^ 64;
+}

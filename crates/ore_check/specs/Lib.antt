@@ -1,0 +1,9 @@
+pub mod Same
+pub mod Conditions
+pub mod CheckBlock
+pub mod Check
+pub mod Belongs
+pub mod Meaning
+pub mod Laws
+pub mod Judging
+pub mod OneLine

@@ -1,0 +1,59 @@
+-- What a certificate says of a matrix r, over numbers of any size. It speaks of rows alone: no basis, pair or syzygy.
+-- (Torsion and parametrisations of linear systems: Chyzak, Quadrat and Robertz 2005; extension modules: Robertz 2014.)
+--     RowsOf                      some rows are of a signature
+--     HasLeftInverse, HasRightInverse      some matrix of the signature times r, or r times it, is the identity
+--     turned                      the transposed adjoint
+--     IsResolution                each matrix generates what takes the one before it to zeros
+--     Means                       what a certificate says
+use Rattle.std.specs.Prelude.{◌≡◌, ◌≢◌, List, [], ◌∷◌, length}
+use Rattle.std.specs.List.{AllByRecursion}
+use Rattle.ore_algebra.specs.Free.{none}
+use Rattle.ore_rational.proofs.FractionLaws.{rationals}
+use Rattle.ore_monomial.specs.Monomial.{plain_cmp}
+use Rattle.ore_monomial.specs.Signature.{Signature}
+use Rattle.ore_rows.specs.Rows.{Row, RowOf, AreLong, zero_row, row_scale, combine, identity_rows, matrix_times, transpose_adjoint, InRowModule, IsExact}
+use Rattle.ore_rows.specs.Stored.{sums_of, rows_of}
+use Rattle.ore_cert.specs.declared.block.Link.{Link}
+use Rattle.ore_cert.specs.declared.certificate.Side.TheVariants.{Left, Right}
+use Rattle.ore_cert.specs.declared.certificate.Certificate.{Certificate}
+use Rattle.ore_cert.specs.declared.certificate.Certificate.TheVariants.{Controllable, AutonomousElement, LeftInverse, RightInverse, NoLeftInverse, NoRightInverse, Kernel, Resolution, ExtZero, ExtNonzero, Halted}
+use Rattle.ore_check.specs.CheckBlock.{Plain, plain}
+
+module _ (s : Signature) where
+  abbrev pub RowsOf : List (Row rationals) → Type 0
+  RowsOf rows = AllByRecursion (RowOf rationals s) rows
+
+  -- m has p rows and q columns, and m r is the identity
+  abbrev pub HasLeftInverse : Plain → Type 0
+  HasLeftInverse r = (m : List (Row rationals)) × (length m ≡ r.cols) × AreLong rationals (length r.rows) m × RowsOf m × (matrix_times rationals s r.cols m r.rows ≡ identity_rows rationals r.cols)
+
+  -- m has p rows and q columns, and r m is the identity
+  abbrev pub HasRightInverse : Plain → Type 0
+  HasRightInverse r = (m : List (Row rationals)) × (length m ≡ r.cols) × AreLong rationals (length r.rows) m × RowsOf m × (matrix_times rationals s (length r.rows) r.rows m ≡ identity_rows rationals (length r.rows))
+
+  abbrev pub turned : Plain → Plain
+  turned m = record { cols = length m.rows; rows = transpose_adjoint rationals s m.cols m.rows }
+
+  abbrev pub IsExactFor : Plain → List (Row rationals) → Type 0
+  IsExactFor a rows = IsExact rationals s a.cols a.rows rows
+
+  -- the links resolve r; the last two matrices are these
+  abbrev pub IsResolution : Plain → Plain → List Link → (Plain → Plain → Type 0) → Type 0
+  IsResolution before r [] P = P before r
+  IsResolution before r (k ∷ ks) P = IsExactFor r (rows_of k.l) × IsResolution r (plain k.l) ks P
+
+  abbrev pub Means : Plain → Certificate → Type 0
+  Means r (Controllable q block) = (length q.rows ≡ r.cols) × IsExactFor (plain q) r.rows
+  Means r (AutonomousElement element operator cofactor block) = (operator.sum ≢ none rationals plain_cmp)
+      × InRowModule rationals s r.cols r.rows (row_scale rationals s operator.sum (sums_of element)) × ¬ InRowModule rationals s r.cols r.rows (sums_of element)
+  Means r (LeftInverse m) = matrix_times rationals s r.cols (rows_of m) r.rows ≡ identity_rows rationals r.cols
+  Means r (RightInverse m) = matrix_times rationals s (length r.rows) r.rows (rows_of m) ≡ identity_rows rationals (length r.rows)
+  Means r (NoLeftInverse unit block) = ¬ HasLeftInverse r
+  Means r (NoRightInverse unit block) = ¬ HasRightInverse r
+  Means r (Kernel Left generators block) = IsExactFor r (rows_of generators)
+  Means r (Kernel Right generators block) = (length generators.rows ≡ r.cols) × IsExactFor (turned r) (turned (plain generators)).rows
+  Means r (Resolution links) = IsResolution r r links (λ before last. Unit {0})
+  Means r (ExtZero links block) = IsResolution r r links (λ before last. IsExactFor (turned last) (turned before).rows)
+  Means r (ExtNonzero links element block) = IsResolution r r links (λ before last. (combine rationals s (length last.rows) (sums_of element) (turned last).rows ≡ zero_row rationals (length last.rows))
+      × ¬ InRowModule rationals s (length before.rows) (turned before).rows (sums_of element))
+  Means r (Halted report) = Unit {0}

@@ -1,0 +1,247 @@
+//! The inside rows of an exact block.
+
+ghost use Rattle.std.specs.Prelude.{◌≡◌, ◌+◌, ◌<◌, ◌≤◌, ◌^◌, length, drop, IfOk};
+ghost use Rattle.std.specs.List.{All};
+ghost use Rattle.ore_algebra.specs.Limits.{program};
+ghost use Rattle.ore_monomial.specs.Monomial.{degree};
+ghost use Rattle.ore_monomial.specs.Signature.{MonomialOf};
+ghost use Rattle.ore_ring.specs.Belongs.{Belongs};
+ghost use Rattle.ore_rows.specs.Stored.{rows_of, sums_of};
+ghost use Rattle.ore_pairs.specs.Steps.{pair_term};
+ghost use Rattle.ore_check.specs.Belongs.{AreStepsOf, IsEntryOf};
+ghost use Rattle.ore_check.specs.CheckBlock.{check_inside, first_inside, later_inside, plain};
+ghost use Rattle.ore_check.specs.Judging.{Judges};
+ghost use Rattle.ore_check.specs.OneLine.{IsTreatable, inside_entry, inside_first, inside_later};
+
+use crate::answer::Reason;
+use crate::equal::are_same;
+use crate::formed::{combined, difference, less_steps_at, raised_less_at};
+use crate::pairs::treated_in;
+use crate::refusal::{Refusal, required};
+use ore_cert::{ExactBlock, PairEntry, Pairs};
+use ore_leads::Leads;
+use ore_ring::OreRing;
+use ore_rows::{Matrix, Row, Steps, unit_row};
+use std::alloc::Global;
+
+/// The inside rows of a block at a line, for each row of `a` and then for each treated pair.
+#[tactic(auto, using(crate::proofs::Refusals::refuses_on), unfolding(crate::specs::CheckBlock::check_inside))]
+pub fn check_inside<R: OreRing>(
+    ring: &R,
+    alloc: Global,
+    a: &Matrix,
+    m: &Matrix,
+    leads: &Leads,
+    line: u128,
+    block: &ExactBlock,
+) -> Result<(), Refusal>
+    requires m_cols { m.now.cols ≡ length a.now.rows }
+    requires from_rows { length block.now.from.rows ≡ length a.now.rows }
+    requires from_cols { block.now.from.cols ≡ length block.now.to.rows }
+    requires to_rows { length block.now.to.rows ≡ length leads.now }
+    requires to_cols { block.now.to.cols ≡ length a.now.rows }
+    requires treatable { All (IsTreatable leads.now) block.now.pairs }
+    requires m_of { All (All (Belongs (R.signature_of ring.now))) m.now.rows }
+    requires leads_of { All (λ t. MonomialOf (R.signature_of ring.now) t.monomial) leads.now }
+    requires from_of { All (All (Belongs (R.signature_of ring.now))) block.now.from.rows }
+    requires to_of { All (All (Belongs (R.signature_of ring.now))) block.now.to.rows }
+    requires pairs_of { All (IsEntryOf (R.signature_of ring.now)) block.now.pairs }
+    requires inside_of { All (All (Belongs (R.signature_of ring.now))) block.now.inside.rows }
+    requires low { line < 2 ^ 127 + 2 ^ 80 }
+    ensures { Judges (λ u. u) result (check_inside program (R.signature_of ring.now) (plain a.now) (plain m.now) leads.now line (plain block.now.from) (plain block.now.to) block.now.pairs (plain block.now.inside)) }
+{
+    let inside = &block.inside;
+    let rows = a.rows() as u128 + treated_in(&block.pairs) as u128;
+    required(
+        line,
+        Reason::Shape,
+        inside.rows() as u128 == rows && inside.cols() == m.rows(),
+    )?;
+    first_inside(ring, alloc, &block.to, m, line + 1, &block.from, inside)?;
+    later_inside(
+        ring,
+        alloc,
+        leads,
+        &block.to,
+        m,
+        line + 1 + a.rows() as u128,
+        &block.pairs,
+        inside,
+        a.rows(),
+    )
+}
+
+// The inside rows for each row of `from`.
+fn first_inside<R: OreRing>(
+    ring: &R,
+    alloc: Global,
+    to: &Matrix,
+    m: &Matrix,
+    line: u128,
+    from: &Matrix,
+    inside: &Matrix,
+) -> Result<(), Refusal>
+    requires m_cols { m.now.cols ≡ to.now.cols }
+    requires from_cols { from.now.cols ≡ length to.now.rows }
+    requires inside_cols { inside.now.cols ≡ length m.now.rows }
+    requires inside_rows { length from.now.rows ≤ length inside.now.rows }
+    requires to_of { All (All (Belongs (R.signature_of ring.now))) to.now.rows }
+    requires m_of { All (All (Belongs (R.signature_of ring.now))) m.now.rows }
+    requires from_of { All (All (Belongs (R.signature_of ring.now))) from.now.rows }
+    requires inside_of { All (All (Belongs (R.signature_of ring.now))) inside.now.rows }
+    requires low { line < 2 ^ 127 + 2 ^ 90 }
+    ensures { Judges (λ u. u) result (first_inside program (R.signature_of ring.now) to.now.cols (rows_of to.now) (rows_of m.now) line 0 (rows_of from.now) (rows_of inside.now)) }
+{
+    for i in 0..from.rows() {
+        first_row(
+            ring,
+            alloc,
+            to,
+            m,
+            line + i as u128,
+            i,
+            from.row(i),
+            inside.row(i),
+        )?;
+    }
+    Ok(())
+}
+
+// The inside row for a row of `from`.
+#[tactic(auto, using(crate::proofs::Refusals::refuses_on), unfolding(crate::specs::OneLine::inside_first))]
+fn first_row<R: OreRing>(
+    ring: &R,
+    alloc: Global,
+    to: &Matrix,
+    m: &Matrix,
+    line: u128,
+    i: usize,
+    row: &Row,
+    inside: &Row,
+) -> Result<(), Refusal>
+    requires m_cols { m.now.cols ≡ to.now.cols }
+    requires row_width { length row.now ≡ length to.now.rows }
+    requires inside_width { length inside.now ≡ length m.now.rows }
+    requires to_of { All (All (Belongs (R.signature_of ring.now))) to.now.rows }
+    requires m_of { All (All (Belongs (R.signature_of ring.now))) m.now.rows }
+    requires row_of { All (Belongs (R.signature_of ring.now)) row.now }
+    requires inside_of { All (Belongs (R.signature_of ring.now)) inside.now }
+    ensures { Judges (λ u. u) result (inside_first program (R.signature_of ring.now) to.now.cols (rows_of to.now) (rows_of m.now) line i (sums_of row.now) (sums_of inside.now)) }
+{
+    let product = combined(ring, alloc, line, row, to)?;
+    let unit = unit_row(alloc, ring.signature(), to.cols(), i)?;
+    let left = difference(ring, alloc, line, &unit, &product)?;
+    let right = combined(ring, alloc, line, inside, m)?;
+    required(line, Reason::Inside, are_same(ring, &left, &right))
+}
+
+// The inside rows from a place on, for each treated pair.
+fn later_inside<R: OreRing>(
+    ring: &R,
+    alloc: Global,
+    leads: &Leads,
+    to: &Matrix,
+    m: &Matrix,
+    line: u128,
+    pairs: &Pairs,
+    inside: &Matrix,
+    first: usize,
+) -> Result<(), Refusal>
+    requires m_cols { m.now.cols ≡ to.now.cols }
+    requires to_rows { length to.now.rows ≡ length leads.now }
+    requires inside_cols { inside.now.cols ≡ length m.now.rows }
+    requires treatable { All (IsTreatable leads.now) pairs.now }
+    requires leads_of { All (λ t. MonomialOf (R.signature_of ring.now) t.monomial) leads.now }
+    requires to_of { All (All (Belongs (R.signature_of ring.now))) to.now.rows }
+    requires m_of { All (All (Belongs (R.signature_of ring.now))) m.now.rows }
+    requires pairs_of { All (IsEntryOf (R.signature_of ring.now)) pairs.now }
+    requires inside_of { All (All (Belongs (R.signature_of ring.now))) inside.now.rows }
+    requires low { line < 2 ^ 127 + 2 ^ 90 }
+    ensures { Judges (λ u. u) result (later_inside program (R.signature_of ring.now) to.now.cols leads.now (rows_of to.now) (rows_of m.now) line pairs.now (drop first (rows_of inside.now))) }
+{
+    let mut next = first;
+    for k in 0..pairs.len() {
+        if next >= inside.rows() {
+            return Ok(());
+        }
+        let at = line + (next - first) as u128;
+        next += entry_inside(
+            ring,
+            alloc,
+            leads,
+            to,
+            m,
+            at,
+            pairs.get(k),
+            inside.row(next),
+        )?;
+    }
+    Ok(())
+}
+
+// The inside row for a pair, where it is treated; and how many rows it takes.
+#[tactic(auto, using(crate::proofs::Refusals::refuses_on), unfolding(crate::specs::OneLine::inside_entry))]
+fn entry_inside<R: OreRing>(
+    ring: &R,
+    alloc: Global,
+    leads: &Leads,
+    to: &Matrix,
+    m: &Matrix,
+    line: u128,
+    entry: &PairEntry,
+    inside: &Row,
+) -> Result<usize, Refusal>
+    requires m_cols { m.now.cols ≡ to.now.cols }
+    requires to_rows { length to.now.rows ≡ length leads.now }
+    requires inside_width { length inside.now ≡ length m.now.rows }
+    requires treatable { IsTreatable leads.now entry.now }
+    requires leads_of { All (λ t. MonomialOf (R.signature_of ring.now) t.monomial) leads.now }
+    requires to_of { All (All (Belongs (R.signature_of ring.now))) to.now.rows }
+    requires m_of { All (All (Belongs (R.signature_of ring.now))) m.now.rows }
+    requires entry_of { IsEntryOf (R.signature_of ring.now) entry.now }
+    requires inside_of { All (Belongs (R.signature_of ring.now)) inside.now }
+    ensures small { IfOk result (λ n. n ≤ 1) }
+    ensures judges { Judges (λ n. n) result (inside_entry program (R.signature_of ring.now) to.now.cols leads.now (rows_of to.now) (rows_of m.now) line entry.now (sums_of inside.now)) }
+{
+    match entry {
+        PairEntry::Pair { i, j, steps } => {
+            later_row(ring, alloc, leads, to, m, line, *i, *j, steps, inside)?;
+            Ok(1)
+        }
+        PairEntry::Skip { .. } => Ok(0),
+    }
+}
+
+// The inside row for a treated pair.
+#[tactic(auto, using(crate::proofs::Refusals::refuses_on), unfolding(crate::specs::OneLine::inside_later))]
+fn later_row<R: OreRing>(
+    ring: &R,
+    alloc: Global,
+    leads: &Leads,
+    to: &Matrix,
+    m: &Matrix,
+    line: u128,
+    i: usize,
+    j: usize,
+    steps: &Steps,
+    inside: &Row,
+) -> Result<(), Refusal>
+    requires m_cols { m.now.cols ≡ to.now.cols }
+    requires to_rows { length to.now.rows ≡ length leads.now }
+    requires inside_width { length inside.now ≡ length m.now.rows }
+    requires first { i < length leads.now }
+    requires second { j < length leads.now }
+    requires fits { degree (pair_term leads.now i j).monomial ≤ 32767 }
+    requires places { All (λ t. t.index < length leads.now) steps.now }
+    requires leads_of { All (λ t. MonomialOf (R.signature_of ring.now) t.monomial) leads.now }
+    requires to_of { All (All (Belongs (R.signature_of ring.now))) to.now.rows }
+    requires m_of { All (All (Belongs (R.signature_of ring.now))) m.now.rows }
+    requires steps_of { AreStepsOf (R.signature_of ring.now) steps.now }
+    requires inside_of { All (Belongs (R.signature_of ring.now)) inside.now }
+    ensures { Judges (λ u. u) result (inside_later program (R.signature_of ring.now) to.now.cols leads.now (rows_of to.now) (rows_of m.now) line i j steps.now (sums_of inside.now)) }
+{
+    let start = raised_less_at(ring, alloc, line, leads, to, i, j)?;
+    let left = less_steps_at(ring, alloc, line, to, start, steps)?;
+    let right = combined(ring, alloc, line, inside, m)?;
+    required(line, Reason::Inside, are_same(ring, &left, &right))
+}

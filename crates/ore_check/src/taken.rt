@@ -1,0 +1,195 @@
+//! Steps that are taken from a row, each at a line.
+
+ghost use Rattle.std.specs.Prelude.{◌≡◌, ◌+◌, ◌<◌, ◌≤◌, ◌^◌, length, IfOk, IfSome};
+ghost use Rattle.std.specs.List.{All};
+ghost use Rattle.ore_algebra.specs.Limits.{program};
+ghost use Rattle.ore_monomial.specs.Monomial.{degree};
+ghost use Rattle.ore_monomial.specs.Signature.{MonomialOf};
+ghost use Rattle.ore_monomial.specs.Term.{Term};
+ghost use Rattle.ore_ring.specs.Belongs.{Belongs};
+ghost use Rattle.ore_rows.specs.Stored.{rows_of, sums_of};
+ghost use Rattle.ore_check.specs.Belongs.{AreStepsOf};
+ghost use Rattle.ore_check.specs.CheckBlock.{check_steps, quotient_steps, is_below, shifted};
+ghost use Rattle.ore_check.specs.Conditions.{formed};
+ghost use Rattle.ore_check.specs.Judging.{Judges};
+ghost use Rattle.ore_check.specs.OneLine.{left_of, quotient_taken, step_checked};
+ghost use Rattle.ore_pairs.specs.Steps.{lead_at};
+
+use crate::answer::Reason;
+use crate::formed::less_step_at;
+use crate::monic::is_zero;
+use crate::refusal::{Refusal, required};
+use ore_leads::Leads;
+use ore_monomial::{Exps, Order, compare};
+use ore_ring::OreRing;
+use ore_rows::{Matrix, Row, Step, Steps};
+use std::alloc::Global;
+use std::cmp::Ordering;
+
+/// The steps of a pair behind a line, each below the common multiple in its column, leave nothing of a row.
+pub fn check_steps<R: OreRing>(
+    ring: &R,
+    alloc: Global,
+    basis: &Matrix,
+    leads: &Leads,
+    column: usize,
+    multiple: &Exps,
+    line: u128,
+    row: Row,
+    steps: &Steps,
+) -> Result<(), Refusal>
+    requires rows { length leads.now ≡ length basis.now.rows }
+    requires width { length row ≡ basis.now.cols }
+    requires basis_of { All (All (Belongs (R.signature_of ring.now))) basis.now.rows }
+    requires row_of { All (Belongs (R.signature_of ring.now)) row }
+    requires steps_of { AreStepsOf (R.signature_of ring.now) steps.now }
+    requires low { line < 2 ^ 127 + 2 ^ 90 }
+    ensures { Judges (λ u. u) result (check_steps program (R.signature_of ring.now) (rows_of basis.now) leads.now (record { monomial = multiple.now; column = column }) line (sums_of row) steps.now) }
+{
+    let mut left = row;
+    for k in 0..steps.len() {
+        left = pair_step(
+            ring,
+            alloc,
+            basis,
+            leads,
+            column,
+            multiple,
+            line + k as u128 + 1,
+            &left,
+            steps.get(k),
+        )?;
+    }
+    required(
+        line + steps.len() as u128,
+        Reason::Remainder,
+        is_zero(ring.signature(), &left),
+    )
+}
+
+// A step of a pair at its line: it is below the common multiple, and is taken from the row.
+#[tactic(auto, using(crate::proofs::Refusals::refuses_on), unfolding(crate::specs::OneLine::step_checked))]
+fn pair_step<R: OreRing>(
+    ring: &R,
+    alloc: Global,
+    basis: &Matrix,
+    leads: &Leads,
+    column: usize,
+    multiple: &Exps,
+    line: u128,
+    row: &Row,
+    step: &Step,
+) -> Result<Row, Refusal>
+    requires rows { length leads.now ≡ length basis.now.rows }
+    requires width { length row.now ≡ basis.now.cols }
+    requires basis_of { All (All (Belongs (R.signature_of ring.now))) basis.now.rows }
+    requires row_of { All (Belongs (R.signature_of ring.now)) row.now }
+    requires step_of { MonomialOf (R.signature_of ring.now) step.now.monomial }
+    ensures judges { Judges sums_of result (step_checked program (R.signature_of ring.now) (rows_of basis.now) leads.now (record { monomial = multiple.now; column = column }) line (sums_of row.now) step.now) }
+    ensures of { IfOk result (All (Belongs (R.signature_of ring.now))) }
+    ensures width { IfOk result (λ r. length r ≡ basis.now.cols) }
+{
+    required(line, Reason::Step, step.index < leads.len())?;
+    let lead = shifted(ring, leads, line, step)?;
+    let order = ring.signature().order();
+    required(
+        line,
+        Reason::StepTooHigh,
+        is_below(order, &lead, column, multiple),
+    )?;
+    less_step_at(ring, alloc, line, basis, row, step)
+}
+
+// The lead that a step names, times the monomial of the step.
+fn shifted<R: OreRing>(
+    ring: &R,
+    leads: &Leads,
+    line: u128,
+    step: &Step,
+) -> Result<(usize, Exps), Refusal>
+    requires { step.now.index < length leads.now }
+    ensures { Judges (λ t. record { monomial = t.1; column = t.0 }) result (formed line (shifted program (R.signature_of ring.now) step.now.monomial (lead_at leads.now step.now.index))) }
+{
+    let _ring = ring;
+    let lead = leads.get(step.index);
+    match step.exps.plus(&lead.1) {
+        Ok(product) => Ok((lead.0, product)),
+        Err(_passed) => Err(Refusal::Degree { line }),
+    }
+}
+
+// Whether a term is below another.
+fn is_below(order: Order, term: &(usize, Exps), column: usize, exps: &Exps) -> bool
+    ensures { result ≡ is_below order (record { monomial = term.now.1; column = term.now.0 }) (record { monomial = exps.now; column = column }) }
+{
+    match compare(order, &term.1, exps) {
+        Ordering::Less => true,
+        Ordering::Equal => column < term.0,
+        Ordering::Greater => false,
+    }
+}
+
+/// What the steps of an outside block behind a line leave of a row; none where there is no step.
+pub fn quotient_steps<R: OreRing>(
+    ring: &R,
+    alloc: Global,
+    basis: &Matrix,
+    line: u128,
+    w: &Row,
+    steps: &Steps,
+) -> Result<Option<Row>, Refusal>
+    requires width { length w.now ≡ basis.now.cols }
+    requires basis_of { All (All (Belongs (R.signature_of ring.now))) basis.now.rows }
+    requires w_of { All (Belongs (R.signature_of ring.now)) w.now }
+    requires steps_of { AreStepsOf (R.signature_of ring.now) steps.now }
+    requires low { line < 2 ^ 127 + 2 ^ 90 }
+    ensures judges { Judges (λ o. sums_of (left_of o w.now)) result (quotient_steps program (R.signature_of ring.now) (rows_of basis.now) line (sums_of w.now) steps.now) }
+    ensures of { IfOk result (λ o. IfSome o (All (Belongs (R.signature_of ring.now)))) }
+{
+    let mut left = None;
+    for k in 0..steps.len() {
+        let step = steps.get(k);
+        let next = quotient_step(
+            ring,
+            alloc,
+            basis,
+            line + k as u128 + 1,
+            row_left(&left, w),
+            step,
+        )?;
+        left = Some(next);
+    }
+    Ok(left)
+}
+
+/// What is left of a row.
+pub fn row_left<'a>(left: &'a Option<Row>, w: &'a Row) -> &'a Row
+    ensures { result.now ≡ left_of left.now w.now }
+{
+    match left {
+        Some(row) => row,
+        None => w,
+    }
+}
+
+// A step of an outside block at its line.
+#[tactic(auto, using(crate::proofs::Refusals::refuses_on), unfolding(crate::specs::OneLine::quotient_taken))]
+fn quotient_step<R: OreRing>(
+    ring: &R,
+    alloc: Global,
+    basis: &Matrix,
+    line: u128,
+    row: &Row,
+    step: &Step,
+) -> Result<Row, Refusal>
+    requires width { length row.now ≡ basis.now.cols }
+    requires basis_of { All (All (Belongs (R.signature_of ring.now))) basis.now.rows }
+    requires row_of { All (Belongs (R.signature_of ring.now)) row.now }
+    requires step_of { MonomialOf (R.signature_of ring.now) step.now.monomial }
+    ensures judges { Judges sums_of result (quotient_taken program (R.signature_of ring.now) (rows_of basis.now) line (sums_of row.now) step.now) }
+    ensures of { IfOk result (All (Belongs (R.signature_of ring.now))) }
+    ensures width { IfOk result (λ r. length r ≡ basis.now.cols) }
+{
+    required(line, Reason::Step, step.index < basis.rows())?;
+    less_step_at(ring, alloc, line, basis, row, step)
+}
