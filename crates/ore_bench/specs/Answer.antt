@@ -2,36 +2,44 @@
 --     IsKnown                        the words of a command that is built: `check`
 --     limit                          the greatest number of bytes that `check` reads
 --     Reply                          a status, and what is written with it
---     valid, invalid_at, malformed_at, overflow_at, degree_at, unknown_words, too_long, without_text      replies
+--     valid, invalid_at, malformed_at, overflow_at, degree_at, stopped_at, unknown_words, too_long, without_text      replies
 --     signature_word, text_word, fault_word      the word of a fault
 --     fault_reply                    the reply to a problem with a fault
---     IsProductReply                 the reply to a product that should be the identity
---     FitsShape, IsInverseReply      the sizes fit; the reply to a right inverse
+--     kind_word, reason_word         the word of a kind of certificates; the word of a condition that fails
+--     trouble_reply, checked_reply   the reply to a line that isn't right; the reply to what a check gives
+--     matrix_of                      the matrix of a problem
+--     IsCheckedReply                 the reply to a certificate
 --     IsCertificateReply             the reply to the text behind a problem
 --     IsVerdict, HasOneVerdict       the reply to the bytes of an input; there is one alone
---     IsValidInverse                 what a valid input is
+--     IsValidCertificate             a text is that of a certificate, and what it says of the matrix is true
+--     SaysValid, HoldsCertificate    there is such a certificate, and a text names its kind
 --     WasRead, IsDueOnInput, IsDue   an input was read to its end, and was these bytes; the reply that is due
 --     IsAnswered                     what a call answers and writes where a reply is due
-use Rattle.std.specs.Prelude.{◌≡◌, ◌≢◌, ◌⊎◌, ℕ, ◌+◌, ◌≤◌, List, [], ◌∷◌, ◌++◌, length, drop, codes, decimal, IfSome}
+use Rattle.std.specs.Prelude.{◌≡◌, ◌⊎◌, ℕ, ◌+◌, ◌≤◌, List, [], ◌∷◌, ◌++◌, length, drop, codes, decimal, IfSome}
 use Rattle.std.specs.declared.option.Option.{Option}
 use Rattle.std.specs.declared.result.Result.{Result}
 use Rattle.std.specs.declared.result.Result.TheVariants.{Ok, Err}
 use Rattle.std.specs.Io.KnownBytes.{append_known, IsAtEnd}
 use Rattle.ore_algebra.specs.Limits.{Cause, program}
 use Rattle.ore_algebra.specs.Limits as cause
-use Rattle.ore_rational.proofs.FractionLaws.{rationals}
 use Rattle.ore_monomial.specs.declared.signature.SignatureFault.{SignatureFault}
 use Rattle.ore_monomial.specs.declared.signature.SignatureFault.TheVariants.{TooMany, BadCoordinate, TwoDifferentials, BadStep, GroupOrder}
 use Rattle.ore_monomial.specs.declared.stop.RingStop.TheVariants as stop
 use Rattle.ore_expr.specs.declared.fault.TextFault.{TextFault}
 use Rattle.ore_expr.specs.declared.fault.TextFault.TheVariants as text
-use Rattle.ore_rows.specs.Rows.{Row, matrix_times, identity_rows}
-use Rattle.ore_rows.specs.RowsWithin.{matrix_times_within}
 use Rattle.ore_problem.specs.declared.fault.ProblemReason.{ProblemReason}
 use Rattle.ore_problem.specs.declared.fault.ProblemReason.TheVariants as reason
 use Rattle.ore_problem.specs.Problems.{System, Read, prefix_sizes}
-use Rattle.ore_cert.specs.CertificateText.{right_inverse_text, IsWritten, IsRightInverse}
+use Rattle.ore_cert.specs.declared.certificate.Certificate.{Certificate}
+use Rattle.ore_cert.specs.declared.certificate.Certificate.TheVariants as kind
+use Rattle.ore_cert.specs.WholeText.{certificate_text, IsWrittenCertificate, IsCertificate}
 use Rattle.ore_cert.specs.FaultyLine.{IsFaultyLine}
+use Rattle.ore_check.specs.declared.answer.Reason.{Reason}
+use Rattle.ore_check.specs.declared.answer.Reason.TheVariants as condition
+use Rattle.ore_check.specs.Conditions.{Trouble, Fails, Stops, Checked}
+use Rattle.ore_check.specs.CheckBlock.{Plain}
+use Rattle.ore_check.specs.Check.{check, capped, IsBuilt}
+use Rattle.ore_check.specs.Meaning.{Means}
 use Rattle.ore_bench.specs.declared.status.Status.{Status}
 use Rattle.ore_bench.specs.declared.status.Status.TheVariants.{Done, Invalid, Words, Malformed, Overflow, Degree, ReadFault, WriteFault, TooLong, Memory}
 use Rattle.ore_bench.specs.InputEnd.{Takes}
@@ -54,8 +62,8 @@ pub record Reply : Type 0 where
 abbrev pub at_line : List ℕ → ℕ → List ℕ → List ℕ
 at_line word line more = word ++ (decimal line ++ (more ++ codes "\n"))
 
-abbrev pub valid : Reply
-valid = record { status = Done; text = codes "valid right-inverse\n" }
+abbrev pub valid : List ℕ → Reply
+valid word = record { status = Done; text = codes "valid " ++ (word ++ codes "\n") }
 
 abbrev pub invalid_at : ℕ → List ℕ → Reply
 invalid_at line word = record { status = Invalid; text = at_line (codes "invalid ") line word }
@@ -123,26 +131,66 @@ fault_reply line r = malformed_at line (fault_word r)
 
 -- ---- certificates
 
--- a product that was formed should be these rows
-abbrev pub IsProductReply : ℕ → Result (List (Row rationals)) Cause → List (Row rationals) → Reply → Type 0
-IsProductReply line (Ok product) rows reply = ((product ≡ rows) × (reply ≡ valid)) ⊎ ((product ≢ rows) × (reply ≡ invalid_at line (codes " identity")))
-IsProductReply line (Err cause) rows reply = reply ≡ stopped_at line cause
+-- the first word of the second line
+abbrev pub kind_word : Certificate → List ℕ
+kind_word (kind.Controllable q block) = codes "controllable"
+kind_word (kind.AutonomousElement element operator cofactor block) = codes "autonomous-element"
+kind_word (kind.LeftInverse s) = codes "left-inverse"
+kind_word (kind.RightInverse s) = codes "right-inverse"
+kind_word (kind.NoLeftInverse unit block) = codes "no-left-inverse"
+kind_word (kind.NoRightInverse unit block) = codes "no-right-inverse"
+kind_word (kind.Kernel side generators block) = codes "kernel"
+kind_word (kind.Resolution links) = codes "resolution"
+kind_word (kind.ExtZero links block) = codes "ext-zero"
+kind_word (kind.ExtNonzero links element block) = codes "ext-nonzero"
+kind_word (kind.Halted report) = codes "halted"
 
--- a right inverse of q rows and p columns has p rows and q columns
-abbrev pub FitsShape : System → ℕ → List (Row rationals) → Type 0
-FitsShape p cols rows = (length rows ≡ p.cols) × (cols ≡ length p.rows)
+abbrev pub reason_word : Reason → List ℕ
+reason_word condition.Shape = codes " shape"
+reason_word condition.ZeroOperator = codes " zero-operator"
+reason_word condition.Cofactor = codes " cofactor"
+reason_word condition.Identity = codes " identity"
+reason_word condition.Unit = codes " unit"
+reason_word condition.NotInKernel = codes " not-in-kernel"
+reason_word condition.NotMonic = codes " not-monic"
+reason_word condition.FromRow = codes " from"
+reason_word condition.ToRow = codes " to"
+reason_word condition.Pairs = codes " pairs"
+reason_word condition.Pair = codes " pair"
+reason_word condition.Remainder = codes " remainder"
+reason_word condition.Step = codes " step"
+reason_word condition.StepTooHigh = codes " step-too-high"
+reason_word condition.Skip = codes " skip"
+reason_word condition.Inside = codes " inside"
+reason_word condition.Rest = codes " rest"
+reason_word condition.Reducible = codes " reducible"
+reason_word condition.Run = codes " run"
+reason_word condition.Treat = codes " treat"
+reason_word condition.Stop = codes " stop"
 
--- the sizes are looked at on the third line of the certificate, the product on its last
-abbrev pub IsInverseReply : System → ℕ → ℕ → List (Row rationals) → Reply → Type 0
-IsInverseReply p lines cols rows reply =
-    (FitsShape p cols rows × IsProductReply (lines + 4 + length rows) (matrix_times_within program p.signature cols p.rows rows) (identity_rows rationals (length p.rows)) reply)
-    ⊎ ((¬ FitsShape p cols rows) × (reply ≡ invalid_at (lines + 3) (codes " shape")))
+abbrev pub trouble_reply : ℕ → Trouble → Reply
+trouble_reply line (Fails why) = invalid_at line (reason_word why)
+trouble_reply line (Stops c) = stopped_at line c
+
+-- the lines of the certificate, which stand still at 2^64 - 1, count on from those of the problem
+abbrev pub checked_reply : ℕ → List ℕ → Checked (Unit {0}) → Reply
+checked_reply lines word (Ok x) = valid word
+checked_reply lines word (Err failing) = trouble_reply (lines + capped failing.line) failing.trouble
+
+abbrev pub matrix_of : System → Plain
+matrix_of p = record { cols = p.cols; rows = p.rows }
+
+-- a certificate of a kind that is built is checked; another is refused at the line of its kind
+abbrev pub IsCheckedReply : System → ℕ → Certificate → Reply → Type 0
+IsCheckedReply p lines c reply =
+    (IsBuilt c × (reply ≡ checked_reply lines (kind_word c) (check program p.signature (matrix_of p) c)))
+    ⊎ ((¬ IsBuilt c) × (reply ≡ malformed_at (lines + 2) (codes " not-built")))
 
 -- the text behind a problem of so many lines
 abbrev pub IsCertificateReply : System → ℕ → List ℕ → Reply → Type 0
 IsCertificateReply p lines bytes reply =
-    ((cols : ℕ) × (rows : List (Row rationals)) × IsWritten p.signature p.names cols rows × (bytes ≡ right_inverse_text p.names p.signature.order cols rows) × IsInverseReply p lines cols rows reply)
-    ⊎ ((line : ℕ) × IsFaultyLine (IsRightInverse p.signature p.names) bytes line × (reply ≡ malformed_at (lines + line) (codes " certificate")))
+    ((c : Certificate) × IsWrittenCertificate p.signature p.names c × (bytes ≡ certificate_text p.names p.signature.order c) × IsCheckedReply p lines c reply)
+    ⊎ ((line : ℕ) × IsFaultyLine (IsCertificate p.signature p.names) bytes line × (reply ≡ malformed_at (lines + line) (codes " certificate")))
 
 abbrev pub IsReplyTo : List ℕ → Read (System × (ℕ × ℕ)) → Reply → Type 0
 IsReplyTo bytes (Ok x) reply = IsCertificateReply x.0 x.1.1 (drop x.1.0 bytes) reply
@@ -156,16 +204,20 @@ IsVerdict bytes reply = IsReplyTo bytes (prefix_sizes bytes) reply
 abbrev pub HasOneVerdict : Type 0
 HasOneVerdict = (bytes : List ℕ) (a b : Reply) → IsVerdict bytes a → IsVerdict bytes b → a ≡ b
 
--- the bytes are a problem and a right inverse of its matrix: over numbers of any size, R S is the identity
-pub record IsValidInverse (bytes : List ℕ) (p : System) (lines used cols : ℕ) (rows : List (Row rationals)) : Type 0 where
-  pub problem : prefix_sizes bytes ≡ Ok (p, (used, lines))
-  pub written : IsWritten p.signature p.names cols rows
-  pub certificate : drop used bytes ≡ right_inverse_text p.names p.signature.order cols rows
-  pub shape : FitsShape p cols rows
-  pub inverse : matrix_times rationals p.signature cols p.rows rows ≡ identity_rows rationals (length p.rows)
+-- The text is that of the certificate. What this says of the matrix is true, over numbers of any size.
+pub record IsValidCertificate (p : System) (bytes : List ℕ) (c : Certificate) : Type 0 where
+  pub built : IsBuilt c
+  pub written : IsWrittenCertificate p.signature p.names c
+  pub certificate : bytes ≡ certificate_text p.names p.signature.order c
+  pub means : Means p.signature (matrix_of p) c
 
-abbrev pub HoldsRightInverse : List ℕ → Type 0
-HoldsRightInverse bytes = (p : System) × (lines : ℕ) × (used : ℕ) × (cols : ℕ) × (rows : List (Row rationals)) × IsValidInverse bytes p lines used cols rows
+-- such a text stands behind the problem, and what is said names its kind
+abbrev pub SaysValid : System → List ℕ → List ℕ → Type 0
+SaysValid p bytes said = (c : Certificate) × IsValidCertificate p bytes c × (said ≡ (valid (kind_word c)).text)
+
+-- the bytes are a problem and such a text
+abbrev pub HoldsCertificate : List ℕ → List ℕ → Type 0
+HoldsCertificate said bytes = (p : System) × (lines : ℕ) × (used : ℕ) × (prefix_sizes bytes ≡ Ok (p, (used, lines))) × SaysValid p (drop used bytes) said
 
 -- ---- calls
 

@@ -2,15 +2,19 @@
 --     reply_of          its status, and the bytes of its text
 --     end_reply         the reply to an input that wasn't read to its end
 --     given_reply       the one or the other
+--     IsAnswerReply     the reply to the answer of a check; want of memory has none
 --     IsOfBytes         a status that the bytes of an input can call for
+use Rattle.std.specs.Prelude.{◌≡◌, ℕ, ◌+◌, List}
 use Rattle.std.specs.declared.result.Result.{Result}
 use Rattle.std.specs.declared.result.Result.TheVariants.{Ok, Err}
+use Rattle.ore_check.specs.declared.answer.Checked.{Checked as Answer}
+use Rattle.ore_check.specs.declared.answer.Checked.TheVariants as answer
 use Rattle.ore_bench.specs.declared.input.InputEnd.{InputEnd}
 use Rattle.ore_bench.specs.declared.input.InputEnd.TheVariants as end
 use Rattle.ore_bench.specs.declared.status.Status.{Status}
 use Rattle.ore_bench.specs.declared.status.Status.TheVariants.{Done, Invalid, Words, Malformed, Overflow, Degree, ReadFault, WriteFault, TooLong, Memory}
 use Rattle.ore_bench.specs.declared.reply.Reply.{Reply as MadeReply}
-use Rattle.ore_bench.specs.Answer.{Reply, without_text, too_long}
+use Rattle.ore_bench.specs.Answer.{Reply, valid, invalid_at, overflow_at, degree_at, without_text, too_long, reason_word}
 
 abbrev pub reply_of : MadeReply → Reply
 reply_of r = record { status = r.status; text = r.text.items }
@@ -23,6 +27,14 @@ end_reply end.Memory = without_text Memory
 abbrev pub given_reply : Result MadeReply InputEnd → Reply
 given_reply (Ok r) = reply_of r
 given_reply (Err e) = end_reply e
+
+-- the lines of a certificate count on from those of its problem
+abbrev pub IsAnswerReply : ℕ → List ℕ → Answer → Reply → Type 0
+IsAnswerReply lines word answer.Valid reply = reply ≡ valid word
+IsAnswerReply lines word (answer.Invalid line why) reply = reply ≡ invalid_at (lines + line) (reason_word why)
+IsAnswerReply lines word (answer.Overflow line) reply = reply ≡ overflow_at (lines + line)
+IsAnswerReply lines word (answer.Degree line) reply = reply ≡ degree_at (lines + line)
+IsAnswerReply lines word answer.Memory reply = ⊥
 
 abbrev pub IsOfBytes : Status → Type 0
 IsOfBytes Done = Unit {0}

@@ -2,23 +2,26 @@
 
 ghost use Rattle.std.specs.Prelude.{◌≡◌, IfOk};
 ghost use Rattle.ore_problem.specs.Stored.{system_of, IsProblem};
-ghost use Rattle.ore_bench.specs.Answer.{IsCertificateReply, IsVerdict, HasOneVerdict};
+ghost use Rattle.ore_bench.specs.Answer.{IsCertificateReply, IsVerdict, HasOneVerdict, SaysValid, HoldsCertificate};
 ghost use Rattle.ore_bench.specs.MadeReply.{reply_of};
 
 use crate::fault::fault_reply;
 use crate::reply::{Reply, malformed_at};
-use crate::verify::inverse_reply;
-use ore_cert::{CertFault, read_right_inverse};
+use crate::status::Status;
+use crate::verify::certificate_reply;
+use ore_cert::laws::{law_faulty_line_is_one, law_text_is_of_one};
+use ore_cert::{CertFault, read_certificate};
 use ore_monomial::NoMemory;
 use ore_problem::{Problem, read_prefix};
 use std::alloc::Global;
 
 /// The reply that the bytes call for.
 pub fn check_reply(alloc: Global, bytes: &[u8]) -> Result<Reply, NoMemory>
-    ensures { IfOk result (λ r. IsVerdict bytes.now (reply_of r)) }
+    ensures verdict { IfOk result (λ r. IsVerdict bytes.now (reply_of r)) }
+    ensures valid { IfOk result (λ r. r.status ≡ Status.Done → HoldsCertificate r.text.items bytes.now) }
 {
     match read_prefix(alloc, bytes) {
-        Ok((problem, used, lines)) => { certificate_reply(alloc, &problem, lines, &bytes[used..]) }
+        Ok((problem, used, lines)) => { text_reply(alloc, &problem, lines, &bytes[used..]) }
         Err(fault) => fault_reply(alloc, &fault),
     }
 }
@@ -26,20 +29,24 @@ pub fn check_reply(alloc: Global, bytes: &[u8]) -> Result<Reply, NoMemory>
 /// Bytes call for one reply: the verdict is a function of the bytes.
 pub fn verdict_is_one()
     ensures { HasOneVerdict }
-{}
+{
+    law_text_is_of_one();
+    law_faulty_line_is_one();
+}
 
 // The reply to the text behind a problem that has so many lines.
-fn certificate_reply(
+fn text_reply(
     alloc: Global,
     problem: &Problem,
     lines: usize,
     text: &[u8],
 ) -> Result<Reply, NoMemory>
     requires { IsProblem problem.now }
-    ensures { IfOk result (λ r. IsCertificateReply (system_of problem.now) lines text.now (reply_of r)) }
+    ensures reply { IfOk result (λ r. IsCertificateReply (system_of problem.now) lines text.now (reply_of r)) }
+    ensures valid { IfOk result (λ r. r.status ≡ Status.Done → SaysValid (system_of problem.now) text.now r.text.items) }
 {
-    match read_right_inverse(alloc, &problem.signature, &problem.names, text, 1) {
-        Ok(inverse) => inverse_reply(alloc, problem, lines, &inverse.matrix),
+    match read_certificate(alloc, &problem.signature, &problem.names, text, 1) {
+        Ok(certificate) => certificate_reply(alloc, problem, lines, &certificate),
         Err(CertFault::Malformed { line }) => {
             malformed_at(alloc, lines as u128 + line as u128, b" certificate")
         }

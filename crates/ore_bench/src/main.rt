@@ -5,16 +5,17 @@
 //! and bytes, over every source and every sink. `main` hands it the arguments and the standard
 //! streams, and ends with the status as a number.
 //!
-//! One command is built, `check`, for one kind of certificate: the input is a problem, that is a
-//! system as a matrix of operators, and behind it the text of a right inverse of that matrix. The
-//! reply says whether it is one, or which line has a fault or fails a condition, or that a number or
-//! a degree leaves the program's range.
+//! One command is built, `check`: the input is a problem, that is a system as a matrix of operators,
+//! and behind it the text of a certificate, which claims something of that matrix. The reply says
+//! whether the certificate is valid, or which line has a fault or fails a condition, or that a number
+//! or a degree leaves the program's range. Certificates of resolutions, of extension modules and of
+//! stopped computations are read and not checked yet.
 //!
 //!  * `args`: the words.
 //!  * `input`, `output`: the loops that read the source and write to the sink.
 //!  * `reply`, `fault`: a reply with its text; the words of the faults of a problem.
-//!  * `equal`, `verify`: matrices compared; the conditions of a right inverse, in the ring that the
-//!    signature has.
+//!  * `kind`, `condition`: the words of the kinds of certificates and of their conditions.
+//!  * `verify`: the reply to a certificate, checked in the ring that the signature has.
 //!  * `check`: the reply to the bytes.
 //!  * `top`: the top call.
 //!
@@ -23,9 +24,10 @@
 
 mod args;
 mod check;
-mod equal;
+mod condition;
 mod fault;
 mod input;
+mod kind;
 mod output;
 mod reply;
 mod status;

@@ -16,13 +16,16 @@ pub struct Reply {
     pub text: Vec<u8>,
 }
 
-/// The certificate is valid.
-pub fn valid(alloc: Global) -> Result<Reply, NoMemory>
-    ensures { IfOk result (λ r. reply_of r ≡ answer.valid) }
+/// The certificate, of a kind with this word, is valid.
+pub fn valid(alloc: Global, word: &[u8]) -> Result<Reply, NoMemory>
+    ensures { IfOk result (λ r. reply_of r ≡ answer.valid word.now) }
 {
+    let mut text = Vec::from_slice(alloc, b"valid ")?;
+    text.extend_from_slice(word)?;
+    text.push(b'\n')?;
     Ok(Reply {
         status: Status::Done,
-        text: Vec::from_slice(alloc, b"valid right-inverse\n")?,
+        text,
     })
 }
 

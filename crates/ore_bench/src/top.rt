@@ -1,8 +1,9 @@
 //! The top call.
 
-ghost use Rattle.std.specs.Prelude.{◌≡◌, ◌≢◌, ◌⊎◌, ◌<◌, ◌↔◌, [], IsTrue, IfOk, IfSome};
+ghost use Rattle.std.specs.Prelude.{◌≡◌, ◌≢◌, ◌⊎◌, ℕ, ◌<◌, ◌↔◌, List, [], IsTrue, IfOk, IfSome};
+ghost use Rattle.std.specs.Io.KnownBytes.{append_known};
 ghost use Rattle.ore_io.specs.Faults.{Rose};
-ghost use Rattle.ore_bench.specs.Answer.{Reply as ReplyOf, IsKnown, IsDue, IsDueOnInput, IsAnswered, HoldsRightInverse};
+ghost use Rattle.ore_bench.specs.Answer.{Reply as ReplyOf, IsKnown, IsDue, IsDueOnInput, IsAnswered, HoldsCertificate};
 ghost use Rattle.ore_bench.specs.InputEnd.{CountsFault};
 ghost use Rattle.ore_bench.specs.MadeReply.{end_reply, given_reply, IsOfBytes};
 
@@ -30,8 +31,9 @@ pub fn bench<S: Source, K: Sink>(
         × IsAnswered due result (K.written sink.old) (K.written sink.new) }
     ensures unread { ¬ IsKnown words.now → source.new ≡ source.old }
 
-    // A certificate that is called valid is one, over numbers of any size.
-    ensures valid { result ≡ Status.Done → IfSome (S.left source.old) HoldsRightInverse }
+    // What a certificate says that is called valid is true, over numbers of any size. Its kind was written.
+    ensures valid { result ≡ Status.Done → (said : List ℕ) × (K.written sink.new ≡ append_known (K.written sink.old) said)
+        × IfSome (S.left source.old) (HoldsCertificate said) }
 
     ensures read_fault_only { result ≡ Status.ReadFault → Rose (S.faults source.old) (S.faults source.new) }
     ensures read_fault_where { S.faults source.old < S.faults source.new → result ≡ Status.ReadFault }
@@ -56,7 +58,7 @@ fn is_check(words: &ArgList) -> bool
 // The reply that the input calls for, or why it wasn't read to its end.
 fn input_reply<S: Source>(alloc: Global, source: &mut S) -> Result<Reply, InputEnd>
     ensures due { IsDueOnInput (S.left source.old) (S.left source.new) (given_reply result) }
-    ensures valid { IfOk result (λ r. r.status ≡ Status.Done → IfSome (S.left source.old) HoldsRightInverse) }
+    ensures valid { IfOk result (λ r. r.status ≡ Status.Done → IfSome (S.left source.old) (HoldsCertificate r.text.items)) }
     ensures of_bytes { IfOk result (λ r. IsOfBytes r.status) }
     ensures fault { CountsFault result (S.faults source.old) (S.faults source.new) }
 {
@@ -99,5 +101,7 @@ fn respond<K: Sink>(sink: &mut K, status: Status, text: &[u8]) -> Status
     }
 }
 
+#[cfg(test)]
+mod certificates;
 #[cfg(test)]
 mod tests;

@@ -11,7 +11,7 @@ mod AcceptedLines
 mod AcceptedWords
 mod AcceptedDeclarations
 mod AcceptedRows
-mod AcceptedReads
+pub mod AcceptedReads
 mod AgainBytes
 mod AgainLines
 mod AgainEntries

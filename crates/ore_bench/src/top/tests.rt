@@ -8,10 +8,10 @@ use ore_monomial::NoMemory;
 use std::test::Fail;
 
 /// A frame without variables.
-const NUMBERS: &str = "ore 1\norder degrevlex\n";
+pub(super) const NUMBERS: &str = "ore 1\norder degrevlex\n";
 
 /// A coordinate and its differential operator.
-const OPERATORS: &str = "ore 1\norder degrevlex\ncoordinate t\ndifferential d t\n";
+pub(super) const OPERATORS: &str = "ore 1\norder degrevlex\ncoordinate t\ndifferential d t\n";
 
 /// Thirteen coordinates.
 const THIRTEEN: &str =
@@ -22,7 +22,12 @@ const ONE_ROW: &str =
     "matrix 1 2\nrow d, -t\nend\ncertificate 1\nright-inverse\nmatrix S 2 1\nrow t\n";
 
 // The bytes of some texts, one behind the other.
-fn joined(alloc: Global, front: &str, middle: &str, back: &str) -> Result<Vec<u8>, NoMemory> {
+pub(super) fn joined(
+    alloc: Global,
+    front: &str,
+    middle: &str,
+    back: &str,
+) -> Result<Vec<u8>, NoMemory> {
     let mut text = Vec::from_slice(alloc, front.as_bytes())?;
     text.extend_from_slice(middle.as_bytes())?;
     text.extend_from_slice(back.as_bytes())?;
@@ -39,7 +44,7 @@ fn words_of(alloc: Global, line: &str) -> Result<ArgList, NoMemory> {
 }
 
 // What `check` answers to a text that comes in pieces of at most so many bytes.
-fn checked(alloc: Global, text: Vec<u8>, piece: usize) -> Result<Reply, NoMemory>
+pub(super) fn checked(alloc: Global, text: Vec<u8>, piece: usize) -> Result<Reply, NoMemory>
     requires { 0 < piece }
 {
     let words = words_of(alloc, "check")?;

@@ -1,12 +1,15 @@
-use Rattle.std.proofs.Common.{subst, sym}
-use Rattle.std.specs.Prelude.{IfOk}
+use Rattle.std.proofs.Common.{◌≡◌, ◌-◌, length, take, drop, subst}
 use Rattle.std.proofs.lemmas.List.{take_rest}
 use Rattle.ore_problem.specs.Stored.{system_of}
-use Rattle.ore_bench.specs.Answer.{IsReplyTo, IsCertificateReply}
-use Rattle.ore_bench.specs.MadeReply.{reply_of}
+use Rattle.ore_bench.specs.Answer.{SaysValid, HoldsCertificate}
+use Rattle.ore_bench.specs.declared.status.Status.TheVariants.{Done}
+use Rattle.ore_bench.proofs.Verdicts.{if_ok}
 use Rattle.ore_bench.proofs.check.check_reply.Goals as goal
 
-pub returns-in-Ok : goal.returns-in-Ok
-returns-in-Ok c =
-    let reply = subst (λ text. IfOk c.certificate_reply.result (λ r. IsCertificateReply (system_of c.in-Ok.problem) c.in-Ok.lines text (reply_of r))) (take_rest c.args.bytes.now c.in-Ok.used) c.certificate_reply.ensures in
-    subst (λ x. IfOk c.certificate_reply.result (λ r. IsReplyTo c.args.bytes.now x (reply_of r))) (sym c.in-Ok.ensures.reads) reply
+pub returns-in-Ok-clause-valid : goal.returns-in-Ok-clause-valid
+returns-in-Ok-clause-valid c =
+    let p = system_of c.in-Ok.problem in
+    let bytes = c.args.bytes.now in
+    let text = take (length bytes - c.in-Ok.used) (drop c.in-Ok.used bytes) in
+    if_ok c.text_reply.result (λ r. r.status ≡ Done → SaysValid p text r.text.items) (λ r. r.status ≡ Done → HoldsCertificate r.text.items bytes) c.text_reply.ensures.valid
+    (λ r h d. (p, c.in-Ok.lines, c.in-Ok.used, c.in-Ok.ensures.reads, subst (λ t. SaysValid p t r.text.items) (take_rest bytes c.in-Ok.used) (h d)))
