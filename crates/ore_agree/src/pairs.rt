@@ -9,7 +9,7 @@ use crate::texts::{basis_from, row_is};
 use ore_groebner::entries::entry_row;
 use ore_mixed::MixedRing;
 use ore_monomial::{Exps, Order};
-use ore_pairs::{Listed, common, may_skip, s_row};
+use ore_pairs::{common, s_row};
 use ore_rational::Rational;
 use ore_ring::OreRing;
 use ore_rows::Basis;
@@ -46,36 +46,6 @@ fn a_combination(rt: HostRuntime) -> Result<(), Fail> {
     let (row, cofactor) = s_row(&ring, rt.alloc(), &basis, 0, 1)?;
     assert!(rt; row_is(&ring, rt.alloc(), &names, &row, "-1")?);
     assert!(rt; row_is(&ring, rt.alloc(), &names, &cofactor, "t,-d")?);
-    Ok(())
-}
-
-#[test]
-fn skipped_pairs(rt: HostRuntime) -> Result<(), Fail> {
-    let ring = MixedRing::new(mixed(Order::DegRevLex)?);
-    let names = letters(rt.alloc())?;
-    if names.len() != 12 {
-        return Err(Fail::new("a letter is missing"));
-    }
-    // t u divides the common multiple of t and u, and b doesn't
-    let basis = basis_from(&ring, rt.alloc(), &names, 1, "t;u;t*u;b", "0;0;0;0")?;
-    check_columns(&basis)?;
-    let mut listed = Listed::new(rt.alloc());
-    for (i, j, via, may) in [
-        (0, 2, 2, false),
-        (0, 3, 3, false),
-        (1, 3, 3, false),
-        (2, 3, 2, false),
-        (1, 2, 2, true),
-        (1, 3, 0, false),
-        (2, 3, 9, false),
-    ] {
-        if i < j {
-            listed.add(i, j)?;
-        }
-        assert!(rt; listed.has(i, j));
-        assert_eq!(rt; may_skip(&basis, &listed, 0, 1, via), may);
-    }
-    assert!(rt; !listed.has(0, 1));
     Ok(())
 }
 

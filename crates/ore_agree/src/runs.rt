@@ -10,13 +10,13 @@ use crate::texts::{basis_is, matrix_from, rows_are};
 use ore_commutative::CommutativeRing;
 use ore_expr::Names;
 use ore_groebner::run::run;
-use ore_groebner::{Event, Events, Finished, Halt, Origin, Origins, Outcome};
+use ore_groebner::{Event, Events, Finished, Origin, Origins, Outcome};
 use ore_mixed::MixedRing;
-use ore_monomial::{Order, Signature};
+use ore_monomial::Order;
 use ore_rational::Rational;
 use ore_report::LiveChooser;
 use ore_ring::OreRing;
-use ore_rows::{Choice, Matrix};
+use ore_rows::Matrix;
 use ore_weyl::WeylRing;
 use std::alloc::Global;
 use std::test::Fail;
@@ -129,40 +129,6 @@ fn are_from_events(origins: &Origins, events: &[usize]) -> bool {
         }
     }
     true
-}
-
-#[test]
-fn three_equal_rows(rt: HostRuntime) -> Result<(), Fail> {
-    let ring = MixedRing::new(Signature::new(&[], Order::DegLex)?);
-    let names = Names::new(rt.alloc());
-    if OreRing::signature(&ring).count() != 0 {
-        return Err(Fail::new("there are variables"));
-    }
-    let a = matrix_from(&ring, rt.alloc(), &names, 1, "1;1;1")?;
-    let mut chooser = LiveChooser::new(rt.alloc(), 5);
-    let finished = complete(&ring, rt.alloc(), &a, &mut chooser)?;
-    let rows = Rows {
-        basis: "1;1;1",
-        cofactors: "1,0,0;0,1,0;0,0,1",
-        from: "1,0,0;0,1,0;0,0,1",
-        syzygies: "1,-1,0;1,0,-1;0,1,-1",
-    };
-    assert!(rt; gives(&ring, rt.alloc(), &names, &finished, &rows)?);
-    let pairs = [(0, 1, 0, 0), (0, 2, 0, 0), (1, 2, 0, 0)];
-    assert!(rt; are_treated(&finished.events, &pairs)?);
-    assert!(rt; are_from_events(&finished.origins, &[0, 1, 2]));
-    // of the five pairs two are left for another run, which has three
-    let Err(halt) = run(&ring, rt.alloc(), &a, &mut chooser) else {
-        return Err(Fail::new("a third pair is treated"))
-    };
-    assert_eq!(rt; halt, Halt::Spent);
-    let given = chooser.into_runs();
-    assert_eq!(rt; given.len(), 2);
-    assert_eq!(rt; given.get(0).len(), 3);
-    let second = given.get(1);
-    assert_eq!(rt; second.len(), 2);
-    assert_eq!(rt; *second.get(1), Choice::Treat { i: 0, j: 2 });
-    Ok(())
 }
 
 #[test]
