@@ -26,11 +26,14 @@ module _ (l : Limits) (s : Signature) where
 -- ---- laws, for every list of rows and every number of columns
 
 module _ (s : Signature) where
+  -- without limits there is a value, the transposed adjoint of `ore_rows/specs/Rows.antt`
   abbrev pub AdjointUnlimited : Type 0
   AdjointUnlimited = (n : ℕ) (a : List (Row rationals)) → transpose_adjoint_within unlimited s n a ≡ Ok (transpose_adjoint rationals s n a)
 
+  -- what comes within limits is what comes without them, or a stop
   abbrev pub AdjointAtMost : Type 0
   AdjointAtMost = (l : Limits) (n : ℕ) (a : List (Row rationals)) → IsAtMost (transpose_adjoint_within l s n a) (transpose_adjoint_within unlimited s n a)
 
+  -- a value that comes within limits is the transposed adjoint
   abbrev pub AdjointValue : Type 0
   AdjointValue = (l : Limits) (n : ℕ) (a x : List (Row rationals)) → transpose_adjoint_within l s n a ≡ Ok x → x ≡ transpose_adjoint rationals s n a

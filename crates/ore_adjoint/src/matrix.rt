@@ -14,7 +14,7 @@ use ore_rows::{Matrix, Row};
 use std::alloc::Global;
 
 /// The transpose of a matrix, each entry replaced by its adjoint: of q rows and p columns it makes p rows
-/// and q columns.
+/// and q columns. The entries are of the signature of the ring.
 ///
 /// # Errors
 /// The stop of the first adjoint that stops, column by column of `m`, and want of memory.

@@ -1,5 +1,8 @@
 -- Lead reduction, over any domain and any sound arithmetic: it ends, and what it gives.
+--     same_ok, err_is_ok       two results that are Ok and equal have one value; no Err is an Ok
 --     taken                    a row and its cofactor row less a step
+--     less_multiple_exact      exact arithmetic gives a row less a multiple of another
+--     less_multiple_most       sound arithmetic gives that, or stops
 --     subtract_exact, subtract_value    exact arithmetic gives that; where sound arithmetic gives a value it is that
 --     subtract_stops_first, subtract_stops_second, subtract_gives    what its two parts make of a step
 --     goes_down                a step keeps the length of the row and makes its height smaller
@@ -9,7 +12,7 @@
 --     reduced_in, reduced      the rest calls for no step
 --     kept_in, kept            what each step keeps, reduction keeps
 --     subtract_most, reduce_most    within limits reduction gives the exact value, or stops
---     subtract_comes, reduce_comes  exact reduction stops nowhere
+--     reduce_comes             exact reduction stops nowhere
 --     after-append, after-push     what is left after more steps, and after one more
 use Rattle.std.proofs.Common.{◌≡◌, ℕ, zero, suc, ◌+◌, ◌<◌, ◌≤◌, List, [], ◌∷◌, ◌++◌, length, refl, sym, ap, ◌∙◌, subst, arith}
 use Rattle.std.specs.declared.option.Option.{Option}

@@ -1,10 +1,13 @@
 -- The step that a row calls for, over any domain: it takes the lead away, and all that it brings is below the lead.
+--     none_is_some, same_some  None is no Some; two values that are equal under Some are equal
 --     IsStep                   what the step that a row calls for is
 --     next_step-Some           the step that is found is that
 --     next_step-None           where none is found no lead divides the lead of the row
+--     no_step                  a row without a lead calls for no step
 --     step_inside              the step is by a row of the basis
 --     step_divides             whose lead is in the column of the lead, and divides it
 --     step_back                the monomial of the step times that lead is the lead
+--     multiple                 the step times its basis row
 --     multiple_lead            the step times its basis row has the lead of the row, with its coefficient
 --     step_below               the row less that has only terms below the lead
 --     row_height               how many steps there may be at most

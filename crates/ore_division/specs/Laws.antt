@@ -1,4 +1,6 @@
 -- The laws of lead reduction, over the fractions: under any limits, for the rows of a signature.
+-- (Buchberger 1965; in algebras of this kind Kandri-Rody and Weispfenning 1990.)
+--     step_multiple        a step times its row
 --     steps_sum            the sum of steps, each times its row
 --     IsBasis              rows of n entries with lead coefficient 1, with cofactor rows of m entries
 --     IsReduced            no lead of the basis divides the lead of a row
@@ -34,6 +36,7 @@ module _ (K : Domain) (s : Signature) where
   steps_sum n rows [] = zero_row K n
   steps_sum n rows (t ∷ ts) = row_plus K (steps_sum n rows ts) (step_multiple rows t)
 
+  -- each basis row has n entries, its noted lead and the lead coefficient 1, and each cofactor row has m entries
   pub record IsBasis (n m : ℕ) (basis : List (Monic (Row K))) : Type 0 where
     pub monic : AreMonic K s.order basis
     pub rows : All (λ b. length b.row ≡ n) basis

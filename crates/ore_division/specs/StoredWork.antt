@@ -5,5 +5,6 @@ use Rattle.ore_rows.specs.Reduction.{Work}
 use Rattle.ore_rows.specs.Stored.{sums_of}
 use Rattle.ore_division.specs.declared.division.Reduced.{Reduced}
 
+-- a reduction in progress without the orders of its operators
 abbrev pub work_of : Reduced → Work rationals
 work_of r = record { row = sums_of r.row; cofactor = sums_of r.cofactor; steps = r.steps }

@@ -23,16 +23,23 @@ use std::alloc::Global;
 /// What is left of a row and of its cofactor row, and the steps that were taken from them.
 #[derive(Drop)]
 pub struct Reduced {
+    /// What is left of the row.
     pub row: Row,
+    /// What is left of the cofactor row.
     pub cofactor: Row,
+    /// The steps, in the order in which they were taken.
     pub steps: Steps,
 }
 
 /// While the lead of some basis row divides the lead of the row, the first such basis row, times what its lead
 /// lacks, is taken from the row, and likewise its cofactor row from the cofactor row.
+/// (Buchberger 1965; in algebras of this kind Kandri-Rody and Weispfenning 1990.)
+///
+/// The row has `basis.cols()` entries and the cofactor row `basis.width()`. All operators, also those of the basis, are
+/// of the signature of the ring, and the basis rows have lead coefficient 1 in its order.
 ///
 /// # Errors
-/// The stop of the first product or difference that stops, and want of memory.
+/// The stop of the first product or difference that stops, and want of memory. Then both rows are dropped.
 pub fn reduce<R: OreRing>(
     ring: &R,
     alloc: Global,

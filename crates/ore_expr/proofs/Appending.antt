@@ -1,7 +1,9 @@
 -- A term is appended to the terms of a stored operator.
 --     below_last      a monomial is below the last term where it is below the one at the last place
+--     not_past        the last place of a list has an item
 --     kept-zero, kept-other      what a term adds to others
 --     terms_of-pushed      the terms with one more
+--     nothing_kept    a term 0 adds nothing to the terms
 --     good_kept       and a fact of all of them
 use Rattle.std.proofs.Common.{◌≡◌, ◌≢◌, ◌⊎◌, inl, inr, ℕ, zero, suc, [], ◌∷◌, ◌++◌, length, slice_get, Some, None, pos, refl, sym, ap, ◌∙◌, subst, arith}
 use Rattle.std.specs.Prelude.{◌↔◌}

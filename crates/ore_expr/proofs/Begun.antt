@@ -1,9 +1,13 @@
 -- Partial trees stand for just the tokens that begin a sentence.
 --     Reached            these parts stand behind the tokens before them
 --     turned_onto        a list turned round, and what follows
+--     turned-cons        a list turned round, of one item and others
 --     begun              the tokens of partial trees begin a sentence
+--     stands_some        a token that is taken stands behind those before it
 --     begins-moves       and so with a token that is taken
+--     reached_first, reached-moves    no tokens reach the first parts, and a token that is taken the next ones
 --     not_begun          no sentence begins with a token that isn't taken
+--     is_outermost       no parenthesis is open
 --     is_whole           a whole expression may end here
 --     ends_sentence      there the tokens are a sentence
 --     no_sentence        and nowhere else

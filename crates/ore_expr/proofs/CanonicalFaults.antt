@@ -1,5 +1,6 @@
 -- No token of a canonical text has a fault.
 --     AreSound          no token has a fault of its own, where these stand before, the last one first
+--     sound_lexemes     then lexemes with these tokens have none
 --     IsSoundAnywhere   whatever stands before
 --     TakesNumber       a number that may follow here has no fault
 --     IsIndexed         the index of each of these names is its place, from x on

@@ -1,7 +1,10 @@
 -- A term times a power of a variable that stands behind all variables of the term: nothing acts, and the numbers stay.
+--     IsSmallFraction  numerator and denominator are below 2^127
 --     single_times     the product is one term, the product of the monomials
 --     IsPart           m has the exponents of another monomial below x, and none from x on
---     part_..          how such a part grows, and when it is the whole
+--     part_unit        the monomial 1 is such a part below the first variable
+--     part_skip, part_more    the part below the next variable, without that variable and with its power
+--     part_whole       it is the whole where no exponent is left
 --     step_times       a part times the power of the next variable
 use Rattle.std.proofs.Common.{◌≡◌, ◌≢◌, ℕ, suc, ◌+◌, ◌*◌, ◌/◌, ◌<◌, ◌≤◌, ◌^◌, Bool, true, cond, ◌&&◌, [], ◌∷◌, ℤ, pos, ◌+ℤ◌, ◌*ℤ◌, nat_abs, sym, ap, ◌∙◌, subst, arith, zero-mul, ⊎_elim}
 use Rattle.std.specs.declared.result.Result.TheVariants.{Ok, Err}

@@ -1,6 +1,18 @@
 -- Reading back the parts of a canonical text.
---     AreNameBytes       all bytes may stand in a name
---     front_length       how many bytes of a text may stand in a name, from the front on
+--     AreNameBytes                       all bytes may stand in a name
+--     front_length                       how many bytes of a text may stand in a name, from the front on
+--     front_length-append                name bytes before a text that begins with none are such a front
+--     digits_in_name, decimal_in_name    digits may stand in a name, and so may those of a number below 2^127
+--     small_decimal, decimal_first       a number below 2^127 has at most 64 digits; its text begins with a digit
+--     FactorEnd-WordEnd                  where a factor may end, so may a name or number
+--     TermEnd-FactorEnd                  where a term may end, so may a factor that others of the term follow
+--     front_at                           a word of name bytes has the length of the front
+--     take_front, drop_front             the word that so many bytes of a text are, and what follows it
+--     Stops, GoesOn                      a byte that can't stand in a name, and one that can
+--     front_stops, front_goes_on         the length of the front, where the first byte can't, and where it can
+--     rest_at                            the text from a place on, as a slice
+--     rest_at-drop                       it is the text without the bytes before the place
+--     drop_rest, length_rest             what follows so many bytes of it in the whole text; its length
 use Rattle.std.proofs.Common.{◌≡◌, inl, inr, ℕ, suc, ◌+◌, ◌-◌, ◌<◌, ◌^◌, true, false, cond, List, [], ◌∷◌, ◌++◌, length, take, drop, get_or, refl, sym, ap, ◌∙◌, arith}
 use Rattle.std.specs.Prelude.{decimal, not}
 use Rattle.std.specs.List.{AllByRecursion, position_or_len}

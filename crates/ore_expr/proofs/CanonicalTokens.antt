@@ -2,6 +2,7 @@
 --     Spells                  wherever a text stands, these are its tokens
 --     Stops                   no number and no name goes on into what follows
 --     Piece                   a text whose tokens come first, before any text that doesn't go on with it
+--     spells_none             no bytes spell no tokens
 --     spells_space, spells_token     a text with a space in front, with a token in front
 --     piece_number, piece_name       a number and a name
 --     piece_between           two pieces with a symbol between them

@@ -2,9 +2,16 @@
 --     power_trees, factor_trees     the factor of one variable, and those of a monomial, exponents 0 left out
 --     product_tree                  a term times some factors, from the left
 --     magnitude_tree, with_trees    a fraction without its sign; the same times some factors
+--     first_tree, next_tree         a first term with its sign; an expression and a term behind it, with its sign
 --     term_tree, later_tree, canonical_tree     the tree of a term, of an expression and some terms behind it, of an operator's terms
 --     star_tokens, later_tokens     the tokens of factors and of terms that follow others
---     IsFineTerm                    the numbers of a term are in range, and it is of the signature
+--     product_tokens                the tokens of a term times some factors
+--     sign_token, first_tokens      the token of a sign between terms; a first term's tokens with its sign
+--     first_tree_tokens, later_tree_tokens    these are the tokens of a first term, and those of an expression with
+--                                             terms behind it
+--     small_numeral, numeral        a number below 2^127 has at most 64 digits; its text is a numeral of that value
+--     head_small, small_sum         of exponents with a sum in range the first is in range, and the sum of the others;
+--                                   a degree is the sum of the exponents
 --     canonical_tokens              the tokens of the text are those of the tree
 use Rattle.std.proofs.Common.{◌≡◌, ℕ, zero, suc, ◌<◌, ◌≤◌, ◌^◌, Bool, true, false, List, [], ◌∷◌, ◌++◌, ℤ, pos, negsuc, nat_abs, refl, sym, ap, ◌∙◌, subst, arith, append_assoc, append-nil}
 use Rattle.std.specs.Prelude.{nat_eq, if◌then◌else◌, decimal, codes}

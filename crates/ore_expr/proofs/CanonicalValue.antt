@@ -1,8 +1,11 @@
 -- The value of the tree of an operator: the operator.
---     AreOwn           no two terms have one monomial
---     own_terms        so it is of falling terms, and each has its number as coefficient
---     plus_apart       a term is added to an operator that lacks its monomial, and nothing stops
---     canonical_value  the value of the tree of some terms is their sum
+--     AreOwn             no two terms have one monomial
+--     falling_own        so it is of falling terms
+--     Owns, own_terms    each of some terms has its number as coefficient in the sum of all; so it is where no two have
+--                        one monomial
+--     plus_apart         a term is added to an operator that lacks its monomial, and nothing stops
+--     TermGives          the value of the tree of a term is the term without its sign
+--     canonical_value    the value of the tree of some terms is their sum
 use Rattle.std.proofs.Common.{◌≡◌, ◌≢◌, ℕ, Bool, true, T, List, [], ◌∷◌, ℤ, pos, negsuc, neg_ℤ, nat_abs, refl, sym, ap, ◌∙◌}
 use Rattle.std.specs.declared.cmp.Ordering.TheVariants.{Less, Equal}
 use Rattle.std.specs.Cmp.{tied_itself}

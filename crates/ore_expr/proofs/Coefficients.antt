@@ -1,6 +1,16 @@
 -- The coefficient of a term in its text, and what follows it.
---     Rest             what follows the numerator of a term, or stands there where the magnitude 1 is left out
---     numerator_read, denominator_read      what is read there
+--     BeginsWithLetter                    the first byte of a text is a letter
+--     magnitude_parts                     a magnitude is the numerator and what follows it
+--     factors_of                          the texts of the factors of a term
+--     term_front                          a term begins with its magnitude, or with a factor where the magnitude 1 is
+--                                         left out
+--     Rest                                what follows the numerator of a term, or stands there where the magnitude 1
+--                                         is left out
+--     IsNumerator, IsDenominator          a number and a length of text are the numerator, or the denominator, of the
+--                                         term, and what it takes
+--     IsRead                              a number and a length of text are this number, and what stands before the
+--                                         rest
+--     numerator_read, denominator_read    what is read there
 use Rattle.std.proofs.Common.{◌≡◌, ◌≢◌, ◌⊎◌, inl, inr, ℕ, zero, suc, ◌<◌, ◌^◌, Bool, true, false, cond, ◌&&◌, nat_eq, List, [], ◌∷◌, ◌++◌, drop, get_or, refl, sym, ap, ◌∙◌, subst, append_assoc, arith, Some, None, nat_abs}
 use Rattle.std.specs.Prelude.{decimal, MatchOption}
 use Rattle.std.specs.declared.option.Option.{Option}

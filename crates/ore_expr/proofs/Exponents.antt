@@ -1,9 +1,18 @@
 -- The factors of all variables in the text of a term.
---     HasRead       of the exponents of a monomial those before a variable were read, and the factors from it on are left
---     IsPower       the exponent of a variable was read, and the factors behind it are left
---     power_next    what is left where the next variable is read
---     has_read      then one more is read
---     all_read      in the end the monomial is read
+--     HasRead                            of the exponents of a monomial those before a variable were read, and the
+--                                        factors from it on are left
+--     IsPower                            the exponent of a variable was read, and the factors behind it are left
+--     name_at, names_behind              a name at a place, and those from a place on, are of the form of names
+--     others_behind                      the names behind a place differ from that at the place
+--     exponent_small                     each exponent is at most 32,767
+--     power_next                         what is left where the next variable is read
+--     has_read                           then one more is read
+--     zeros_kept                         the exponents behind one that is set stay 0
+--     of_zeros                           exponents that are 0 from a variable on are of a signature that ends before it
+--     values_are, monomial_is, sum_is    in the end the exponents that were read are those of the monomial, with their
+--                                        sum
+--     nothing_left                       in the end no factor is left
+--     small_degree                       exponents with a sum in range have a degree in range
 use Rattle.std.proofs.Common.{◌≡◌, ◌≢◌, ◌⊎◌, inl, inr, ℕ, zero, suc, ◌+◌, ◌<◌, ◌≤◌, Bool, List, [], ◌∷◌, ◌++◌, length, drop, get_or, set, slice_get, Some, refl, sym, ap, ◌∙◌, subst, arith, get_or-set_same, get_or-set_other, ext_get_or, add-one}
 use Rattle.std.specs.List.{AllByRecursion, sum}
 use Rattle.std.proofs.lemmas.List.Sums.{get_or-le-sum_by}

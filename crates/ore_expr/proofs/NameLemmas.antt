@@ -2,9 +2,11 @@
 --     equal_bytes                  two texts pass the test of equal bytes exactly where they are the same
 --     index_of-position            the first place at which a stored key is the name is the index of the name
 --     is_some-index_of             whether a stored key is the name
+--     AllByRecursion-at            what holds of all of a list holds of the item at a place
 --     AreNames-push                a name that isn't there may be added
 --     index_of-take                no name before a place is the one at the place
 --     IsAdded-insert_key           what inserting a key does to the names
+--     AreNames-insert_key          names stay names where a key is inserted
 --     taken_more                   adding the next name of a list to those before it
 use Rattle.std.proofs.Common.{◌≡◌, ◌≢◌, ℕ, zero, suc, ◌+◌, Bool, true, false, not, ◌||◌, cond, if◌then◌else◌, List, [], ◌∷◌, ◌++◌, map, take, Option, None, Some, is_some, option_map, Ok, refl, sym, ap, subst, ◌∙◌, arith, true≢false}
 use Rattle.std.specs.List.{position, position_from, list_any, slice_get, AllByRecursion}

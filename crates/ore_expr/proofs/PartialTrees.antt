@@ -6,8 +6,17 @@
 --     Place                    what stands last
 --     Partial                  the parts at all depths
 --     atom_of, factor_of, term_of, expression_of     the trees that end where the parts end
---     expression_before .. atom_before               the tokens of a tree, the last one first, and others that stand before
+--     whole_of                 the expression at one depth, where it ends
+--     expression_before, term_before, factor_before, atom_before
+--                              the tokens of a tree, the last one first, and others that stand before
+--     sum_before, product_before, place_before, outside_before
+--                              the same of the parts at one depth, and of those outside
 --     before                   the tokens so far, the last one first
+--     moves_number, moves_name, moves_sum, moves_star, moves_open
+--                              the parts after a number, a name, `+` or `-` behind a term, `*`, `(`
+--     moves_sign, moves_minus  after a minus before the first term, and after any minus
+--     slash_after, caret_after, close_after    after `/` and `^` behind a factor; after `)` behind an expression
+--     where_ended, where_some  going on where a factor ends; where there are parts
 --     moves, run               the parts after a token, and after some, where they go on so
 --     first                    nothing so far
 use Rattle.std.specs.Prelude.{ℕ, List, [], ◌∷◌}

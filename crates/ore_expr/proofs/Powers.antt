@@ -1,7 +1,15 @@
 -- The factor of one variable in the text of a term, and what follows it.
---     IsOther       another word stands there
---     IsFront       the variable has no exponent and another word stands there, or its factor does
---     power_front   the text from behind `*` on
+--     name_bytes                 a name has name bytes alone
+--     exponent_end               an exponent, or what follows it, ends the name
+--     star_at                    the length of a `*` in front, 0 where there is none
+--     IsOther                    another word stands there
+--     IsFront                    the variable has no exponent and another word stands there, or its factor does
+--     power_front                the text from behind `*` on
+--     word_length, word_taken    the length of the word there, and the word
+--     same_word, another_word    what the test of two words says
+--     nothing_read               a variable without exponent takes no text
+--     stays_no_bare              a factor is written for an exponent that isn't 0
+--     behind_name                the text behind a name
 use Rattle.std.proofs.Common.{◌≡◌, ◌≢◌, ◌⊎◌, inl, inr, ℕ, zero, suc, ◌+◌, ◌-◌, ◌<◌, Bool, true, false, List, [], ◌∷◌, ◌++◌, length, take, drop, get_or, refl, sym, ap, ◌∙◌, append_assoc, arith, true≢false}
 use Rattle.std.specs.Prelude.{decimal, not, if◌then◌else◌, nat_eq, ◌==◌}
 use Rattle.std.specs.List.{AllByRecursion}

@@ -1,7 +1,11 @@
 -- The terms of an operator that can be printed, in either order.
---     each_of_all, all_of_each       a fact of all terms of a list is one of each coefficient, and back
---     printable_falling              the falling terms of such an operator are in the variables and in range
---     variables_of, storable_of      and an operator whose falling terms are so can be printed
+--     HoldsOf                      a fact of each monomial with a coefficient among some terms, and of that coefficient
+--     each_of_all, all_of_each     a fact of all terms of a list is one of each coefficient, and back
+--     HoldsIn                      a fact of each monomial with a coefficient in an operator
+--     in_falling, of_falling       it is one of all its falling terms, and back
+--     in_terms, of_terms           it is one of all its terms in the plain order, and back
+--     printable_falling            the falling terms of such an operator are in the variables and in range
+--     variables_of, storable_of    and an operator whose falling terms are so can be printed
 use Rattle.std.proofs.Common.{◌≡◌, ◌≢◌, ℕ, Bool, true, false, List, [], ◌∷◌, pos, refl, sym, ap, ◌∙◌, subst}
 use Rattle.std.specs.Ordering.{eq_by_cmp, is_eq}
 use Rattle.std.specs.Cmp.{tied_itself}

@@ -1,8 +1,21 @@
 -- The parts of a canonical text make it up.
---     starred-append, stays_bare-append      of factors behind other factors
---     factor_texts-drop      the factors from a variable on: its own, and those behind it
---     flat_map-drop          the terms from a place on: the one there, and those behind it
---     term_text-starred      a term: the magnitude unless it is 1, the factors, and the magnitude 1 where nothing stands there
+--     append_nil                           a list with nothing behind it
+--     stays_false                          where something stands, something stands behind factors
+--     starred-append, stays_bare-append    of factors behind other factors
+--     factor_texts-drop, factor_texts-none
+--                                          the factors from a variable on: its own, and those behind it; none behind
+--                                          the last
+--     factor_written, bare_after           the text, and whether the term is bare still, once the factor of a variable
+--                                          is written
+--     flat_map-drop                        the terms from a place on: the one there, and those behind it
+--     take_one-none, take_one-some         the item at a place as a list, where there is none and where there is one
+--     exponent_is                          the exponent of a variable is that at its place
+--     term_text-starred                    a term: the magnitude unless it is 1, the factors, and the magnitude 1 where
+--                                          nothing stands there
+--     full_text, bare_text, one_text       a term is written whose magnitude isn't 1; that is 1, with factors; and
+--                                          without them
+--     terms_written, no_terms_written      the first term and those behind it are written; `0` where there is none
+--     later_written                        the term at a place is written
 use Rattle.std.proofs.Common.{◌≡◌, ℕ, zero, suc, ◌<◌, ◌≤◌, Bool, true, false, cond, List, [], ◌∷◌, ◌++◌, length, take, drop, get_or, slice_get, Some, None, refl, sym, ap, ◌∙◌, append_assoc, arith}
 use Rattle.std.specs.Prelude.{codes}
 use Rattle.std.specs.List.{flat_map, join_with_byte}

@@ -1,11 +1,18 @@
 -- The entries of a row one after the other.
 --     entries_text             entries, each behind a separator, the first behind one of its own, and the line end
+--     row_of_entries           entries with commas between them, as entries behind separators
 --     row_text-entries         the line of a row
 --     position_or_len-le, place_past       a first place is at most the length, and is the length where no byte passes
 --     not_front, is_front, same_bytes, other_bytes       what tests of a text say
 --     cut, cut_is              a text without its separator is cut at its first comma or line end
 --     appended_first, appended_next, appended_last      the turns of a loop that appends entries
 --     IsFoundSoFar, IsOnlySoFar            what a loop that reads entries keeps: the line from what was read, and the other way round
+--     AreLeft                  the entries that are left, of a row that the line is
+--     found_first, found_next, found_last    the first of these stands before the loop, after a turn, and gives the
+--                                            line in the end
+--     only_first, only_next, only_last    the second stands before the loop, after a turn, and gives the row in the end
+--     no_next                  where no entry can be read, the line is that of no row
+--     all_next                 a fact of all entries, with one more
 use Rattle.std.proofs.Common.{◌≡◌, ℕ, suc, ◌+◌, ◌<◌, ◌≤◌, Bool, true, false, true≢false, not, ◌&&◌, cond, List, [], ◌∷◌, ◌++◌, length, map, take, drop, get_or, None, refl, sym, ap, subst, ◌∙◌, append_assoc, append-nil, arith}
 use Rattle.std.specs.Prelude.{codes, nat_eq}
 use Rattle.std.specs.Cmp.Lexicographic.{pointwise}

@@ -1,10 +1,11 @@
 -- The stack of operators as values, and powers.
+--     values_of-nil                     an empty stack has no values
 --     values_of-push, values_of-two     the values of a stack with one operator more, with two
 --     All-two                           what holds of all of a stack with two operators more
 --     join_one, join_ok, join_stops     an operation: with too few operators; with two, where it goes on; and where it stops
---     constant_is, power_of_variable_is one term as a number, as a power of a variable
+--     constant_is, power_of_variable_is    one term as a number, as a power of a variable
 --     constant_pushed, power_pushed     one of these on top
---     raise_none, raise_ok, raise_stops the same of factors of the top
+--     raise_none, raise_ok, raise_stops    the same of factors of the top
 --     power_next, power_stops           one factor more, and where it stops
 --     sum-power, power_is               the exponents of a power of a variable
 --     unit_of, power_of                 the monomial 1, and a power of a declared variable, are of the signature

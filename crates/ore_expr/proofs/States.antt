@@ -1,10 +1,13 @@
 -- The state of the automaton that stands for partial trees, and that it goes on as they do.
---     sum_waits .. levels        what waits
---     ending_due .. place_due    what is due
---     sum_code .. made           the instructions so far
+--     sum_waits, product_waits   the sum, and the product, that waits
+--     level_of, levels           what waits at one depth, and at each depth outside
+--     operand_due, ending_due, place_due    what is due: where an atom is wanted, behind a factor, at any place
+--     sum_code, product_code, ending_code, place_code, outside_code    the instructions of each part so far
+--     made                       all of them, with others behind
 --     state_of                   the state
 --     outcome                    the state after a token, or its fault, by the trees after it and its own fault
 --     stated                     a state by its parts
+--     ends_term-state_of         the instructions where the expression at one depth ends
 --     takes-state_of             that is what the automaton does
 --     ends-state_of              the instructions where a whole expression ends
 use Rattle.std.proofs.Common.{◌≡◌, ℕ, suc, ◌-◌, Bool, true, false, cond, not, ◌&&◌, nat_lt, nat_eq, if◌then◌else◌, List, [], ◌∷◌, ◌++◌, length, pos, sym, refl, ap, ◌∙◌, append_assoc, append-nil, arith}

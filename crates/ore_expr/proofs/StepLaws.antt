@@ -4,6 +4,7 @@
 --     rest-taken, rest-faulty                   the token is taken, or has a fault
 --     FaultReads-bind                           a fault of the first part is a fault of the whole
 --     parse-ends                                what is left to do behind the last byte
+--     parse-fault                               a fault of the rest is that of the text
 use Rattle.std.proofs.Common.{◌≡◌, ◌≢◌, ◌≤◌, ℕ, zero, suc, ◌+◌, ◌-◌, ◌<◌, true, false, nat_eq, if◌then◌else◌, List, [], ◌∷◌, length, take, drop, get_or, Ok, Err, refl, sym, ap, subst, ◌∙◌, arith, add-one, drop-cons}
 use Rattle.std.specs.declared.result.Result.{Result}
 use Rattle.std.proofs.lemmas.List.{drop_all, take_all, length-drop}

@@ -1,8 +1,12 @@
 -- The walk over a canonical text, term by term.
---     Left            of the terms of an operator some are added, and the text of the others is left
---     first_left      the walk begins with the first term, or with 0
---     next_left       and goes on with the next
---     nothing_left    to the end
+--     Left                     of the terms of an operator some are added, and the text of the others is left
+--     term_first, later_end    a term begins with a name byte; behind a term stands a space or nothing
+--     below_others             of falling terms each is below those before it
+--     IsTaken                  a term was added, and its text was passed
+--     IsFirst, first_term      the walk begins with the first term, or with 0
+--     IsNext, next_term        and goes on with the next
+--     no_others                to the end, where all terms are added
+--     same_operator            operators with the same falling terms are the same
 use Rattle.std.proofs.Common.{◌≡◌, ◌≢◌, inl, inr, ℕ, zero, suc, ◌<◌, ◌≤◌, ◌^◌, true, List, [], ◌∷◌, ◌++◌, length, drop, get_or, replicate, pos, negsuc, ℤ, nat_abs, refl, sym, ap, ◌∙◌, subst, append_assoc, arith}
 use Rattle.std.specs.Prelude.{codes}
 use Rattle.std.specs.List.{AllByRecursion, flat_map}

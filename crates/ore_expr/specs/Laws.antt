@@ -1,7 +1,9 @@
 -- The laws of texts of operators.
+--     HaveValue            instructions have the value of an expression, within any limits
 --     ReadsExpressions     what is read is an expression, with the value of its instructions; and each expression is read
 --     FindsFaults          a fault that is found is that of the table, and the fault of the table is found
---     IsStorable           the numbers and degrees of an operator are in the program's ranges
+--     IsStorableTerm, IsStorable    the numbers and degrees of a term, of an operator, are in the program's ranges
+--     IsPrintable          an operator of the signature in these ranges, where the variables have names
 --     CanonicalIsRead      the canonical text of an operator of the signature is an expression whose value is the operator
 --     CanonicalIsUnique    no text is the canonical text of two operators
 use Rattle.std.specs.Prelude.{◌≡◌, ◌≤◌, ◌<◌, ◌^◌, ℕ, List, length, nat_abs}
@@ -29,31 +31,38 @@ use Rattle.ore_expr.specs.Names.{AreNames}
 abbrev pub HaveValue : List (List ℕ) → List Instruction → Expression → Type 0
 HaveValue names instructions e = (l : Limits) (s : Signature) → value_of l s instructions ≡ expression_value l s names e
 
+-- what is parsed is an expression, with the value of its instructions; and each expression is parsed so
 pub record ReadsExpressions : Type 0 where
   pub found : (names : List (List ℕ)) (text : List ℕ) (p : List Instruction) → parse names text ≡ Ok p → (e : Expression) × IsExpression names text e × HaveValue names p e
   pub only : (names : List (List ℕ)) (text : List ℕ) (e : Expression) → IsExpression names text e → (p : List Instruction) × (parse names text ≡ Ok p) × HaveValue names p e
 
+-- a fault of parsing is the fault of the text, and the fault of a text is that of its parsing
 pub record FindsFaults : Type 0 where
   pub found : (names : List (List ℕ)) (text : List ℕ) (f : TextFault) → parse names text ≡ Err f → IsFault names text f
   pub only : (names : List (List ℕ)) (text : List ℕ) (f : TextFault) → IsFault names text f → parse names text ≡ Err f
 
+-- numerator, without its sign, and denominator are below 2^127, and the degree is at most 32,767
 pub record IsStorableTerm (t : Term) : Type 0 where
   pub numerator : nat_abs t.1.num < 2 ^ 127
   pub denominator : t.1.den < 2 ^ 127
   pub degree : degree t.0 ≤ 32767
 
+-- each term of the operator is in these ranges
 abbrev pub IsStorable : Operator rationals → Type 0
 IsStorable f = AllByRecursion IsStorableTerm (terms rationals plain_cmp f)
 
+-- there is one name for each variable, as names are declared; the operator is of the signature and in the ranges
 pub record IsPrintable (s : Signature) (names : List (List ℕ)) (f : Operator rationals) : Type 0 where
   pub names_fit : AreNames names
   pub count : length names ≡ length s.kinds
   pub variables : OperatorOf rationals s f
   pub storable : IsStorable f
 
+-- what can be printed has a text that is an expression, and within the limits of the program its value is the operator
 abbrev pub CanonicalIsRead : Type 0
 CanonicalIsRead = (s : Signature) (names : List (List ℕ)) (f : Operator rationals) → IsPrintable s names f →
     (e : Expression) × IsExpression names (operator_text names s.order f) e × (expression_value program s names e ≡ Ok f)
 
+-- two operators that can be printed with one text are the same
 abbrev pub CanonicalIsUnique : Type 0
 CanonicalIsUnique = (s : Signature) (names : List (List ℕ)) (f g : Operator rationals) → IsPrintable s names f → IsPrintable s names g → operator_text names s.order f ≡ operator_text names s.order g → f ≡ g

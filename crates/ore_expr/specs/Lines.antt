@@ -4,6 +4,7 @@
 --     raw_lines       the lines with their ends
 use Rattle.std.specs.Prelude.{ℕ, nat_eq, if◌then◌else◌, List, [], ◌∷◌}
 
+-- where there is no piece, the byte is one
 abbrev pub onto_first : ℕ → List (List ℕ) → List (List ℕ)
 onto_first b [] = (b ∷ []) ∷ []
 onto_first b (x ∷ xs) = (b ∷ x) ∷ xs

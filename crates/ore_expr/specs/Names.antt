@@ -11,10 +11,12 @@ use Rattle.std.specs.List.{AllByRecursion}
 use Rattle.ore_expr.specs.Tokens.{IsName}
 use Rattle.ore_expr.specs.Faults.{index_of}
 
+-- each name differs from all that stand behind it
 abbrev pub IsDistinct : List (List ℕ) → Type 0
 IsDistinct [] = Unit {0}
 IsDistinct (n ∷ names) = AllByRecursion (λ m. m ≢ n) names × IsDistinct names
 
+-- each is a letter with at most 15 name bytes behind it, and no two are the same
 pub record AreNames (names : List (List ℕ)) : Type 0 where
   pub form : AllByRecursion IsName names
   pub distinct : IsDistinct names

@@ -4,5 +4,6 @@ use Rattle.std.specs.Prelude.{reverse}
 use Rattle.ore_expr.specs.declared.parser.Parser.{Parser}
 use Rattle.ore_expr.specs.Parsing.{State}
 
+-- what is due, the operations that wait, and the instructions so far
 abbrev pub state_of : Parser → State
 state_of p = record { due = p.due; level = p.level; outside = reverse p.outside.items; made = p.made.items }

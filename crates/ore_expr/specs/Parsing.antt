@@ -1,12 +1,19 @@
 -- How an expression is read from the left, token by token, into instructions: the operations stand in the order in which
 -- they are formed. `proofs/` shows that this is the grammar, and that its faults are those of the table.
 --     State              what is due, the operations that wait at this depth and at each one outside, the instructions so far
+--     no_level, start    where no operation waits; where nothing is read
 --     ends_atom, ends_factor, ends_sum       instructions that are made once it is known that an atom, a factor, a term ends
 --     ends_product, ends_term                all instructions so far then
 --     has_value, wants_atom                  an operation may follow; an atom may
 --     fault_where, taken_where               a fault where a test holds; a token where one holds
---     takes_number .. takes_close, takes     the state after a token
+--     goes_on            the state with what is due next and its instructions
+--     number_atom, takes_number              the state after a number that is an atom; after a number, by what is due
+--     takes_name, takes_sum, takes_minus, takes_product, takes_slash, takes_caret, takes_open, takes_close
+--                        the state after a name, a sum, a minus, a product and so on
+--     takes_token, takes                     the state after a token, after a lexeme
+--     ◌>>=◌              go on with the value, or keep the fault
 --     follow             the state after some lexemes
+--     is_empty           no parenthesis is open
 --     ends               the instructions where the text ends here
 --     parse              the instructions of a text
 use Rattle.std.specs.Prelude.{ℕ, Bool, true, false, cond, nat_lt, nat_eq, not, ◌&&◌, List, [], ◌∷◌, ◌++◌, length, pos}
@@ -35,9 +42,11 @@ pub record State : Type 0 where
   pub outside : List Level
   pub made : List Instruction
 
+-- no sum and no product waits
 abbrev pub no_level : Level
 no_level = record { sum = waiting.Nothing; product = false }
 
+-- an expression is due, no parenthesis is open, and there are no instructions
 abbrev pub start : State
 start = record { due = Start; level = no_level; outside = []; made = [] }
 
@@ -57,9 +66,11 @@ ends_sum waiting.Nothing = []
 ends_sum waiting.Add = code.Add ∷ []
 ends_sum waiting.Subtract = code.Subtract ∷ []
 
+-- the instructions so far, then those of the atom and of the product that waits
 abbrev pub ends_product : State → List Instruction
 ends_product s = s.made ++ (ends_atom s.due ++ ends_factor s.level.product)
 
+-- the same, then that of the sum that waits
 abbrev pub ends_term : State → List Instruction
 ends_term s = ends_product s ++ ends_sum s.level.sum
 
@@ -77,6 +88,7 @@ wants_atom Start = true
 wants_atom Operand = true
 wants_atom due = false
 
+-- the fault where the test holds, else what is given
 abbrev pub fault_where : {A : Type 0} → Bool → TextFault → Result A TextFault → Result A TextFault
 fault_where b e r = cond b (Err e) r
 
@@ -86,6 +98,7 @@ fault_where b e r = cond b (Err e) r
 abbrev pub goes_on : State → Due → List Instruction → Result State TextFault
 goes_on s due made = Ok (record { due = due; level = s.level; outside = s.outside; made = made })
 
+-- a number as an atom, which a denominator or a power may follow
 abbrev pub number_atom : State → ℕ → ℕ → Result State TextFault
 number_atom s place n = fault_where (nat_lt greatest_number n) (fault.NumberTooWide place) (goes_on s (AfterNumber (pos n)) s.made)
 
@@ -119,10 +132,12 @@ takes_minus s place due = cond (has_value due) (takes_sum s waiting.Subtract) (E
 abbrev pub takes_product : State → Result State TextFault
 takes_product s = Ok (record { due = Operand; level = record { sum = s.level.sum; product = true }; outside = s.outside; made = ends_product s })
 
+-- a slash behind a number, whose denominator is due then
 abbrev pub takes_slash : State → ℕ → Due → Result State TextFault
 takes_slash s place (AfterNumber n) = goes_on s (Denominator n) s.made
 takes_slash s place due = Err (fault.Syntax place)
 
+-- a caret behind an atom: the exponent of a name is due, or the power of another atom
 abbrev pub takes_caret : State → ℕ → Due → Result State TextFault
 takes_caret s place (AfterNumber n) = goes_on s Power (s.made ++ ends_atom (AfterNumber n))
 takes_caret s place (AfterName x) = goes_on s (Exponent x) s.made
@@ -143,6 +158,7 @@ takes_close s place (level ∷ outside) = Ok (record { due = AfterAtom; level = 
 abbrev pub taken_where : Bool → ℕ → Result State TextFault → Result State TextFault
 taken_where b place r = cond b r (Err (fault.Syntax place))
 
+-- each kind of token as its own function says; a stray byte is a syntax fault
 abbrev pub takes_token : List (List ℕ) → State → ℕ → Token → Result State TextFault
 takes_token names s place (Number digits) = takes_number s place (digits_value 10 digits) s.due
 takes_token names s place (Name name) = taken_where (wants_atom s.due) place (takes_name s place (index_of names name))
@@ -155,20 +171,24 @@ takes_token names s place Open = taken_where (wants_atom s.due) place (takes_ope
 takes_token names s place Close = taken_where (has_value s.due) place (takes_close s place s.outside)
 takes_token names s place (Stray b) = Err (fault.Syntax place)
 
+-- the token of the lexeme, at its place
 abbrev pub takes : List (List ℕ) → State → Lexeme → Result State TextFault
 takes names s x = takes_token names s x.place x.token
 
 -- ---- texts
 
 infixl 10 ◌>>=◌
+-- with the value to the next step; a fault stays
 abbrev pub ◌>>=◌ : {A B : Type 0} → Result A TextFault → (A → Result B TextFault) → Result B TextFault
 (Ok x) >>= f = f x
 (Err e) >>= f = Err e
 
+-- the lexemes are taken in order, up to the first fault
 abbrev pub follow : List (List ℕ) → State → List Lexeme → Result State TextFault
 follow names s [] = Ok s
 follow names s (x ∷ xs) = takes names s x >>= λ t. follow names t xs
 
+-- no parenthesis is open
 abbrev pub is_empty : List Level → Bool
 is_empty [] = true
 is_empty (level ∷ levels) = false
@@ -177,5 +197,6 @@ is_empty (level ∷ levels) = false
 abbrev pub ends : ℕ → State → Result (List Instruction) TextFault
 ends place s = cond (has_value s.due && is_empty s.outside) (Ok (ends_term s)) (Err (fault.Syntax place))
 
+-- the lexemes of the text from the start, and the end at the length of the text
 abbrev pub parse : List (List ℕ) → List ℕ → Result (List Instruction) TextFault
 parse names text = follow names start (lexemes text) >>= λ s. ends (length text) s

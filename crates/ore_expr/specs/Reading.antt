@@ -1,4 +1,5 @@
 -- What reading a text of an operator answers.
+--     FaultReads       the fault that a call answers is that which is given
 --     Reads            a call answered what a reading function gives, unless memory ran out
 --     stop_of          a cause of a stop as a fault of a text
 --     IsValue          the text is an expression, and its value is this, or it stops with this cause
@@ -24,17 +25,22 @@ abbrev pub FaultReads : {Y : Type 0} → TextFault → Result Y TextFault → Ty
 FaultReads (fault.Stop stop.Memory) given = Unit {0}
 FaultReads f given = given ≡ Err f
 
+-- a value, seen through the view, is what is given, and so is a fault but want of memory
 abbrev pub Reads : {X Y : Type 0} → (X → Y) → Result X TextFault → Result Y TextFault → Type 0
 Reads view (Ok x) given = given ≡ Ok (view x)
 Reads view (Err f) given = FaultReads f given
 
+-- the stop of an operation that has the same cause
 abbrev pub stop_of : Cause → TextFault
 stop_of cause.Overflow = fault.Stop stop.Overflow
 stop_of cause.Degree = fault.Stop stop.Degree
 
+-- some expression is spelled by the text and has, within the limits of the program, this value or this cause
 abbrev pub IsValue : Signature → List (List ℕ) → List ℕ → Result (Operator rationals) Cause → Type 0
 IsValue s names text value = (e : Expression) × IsExpression names text e × (expression_value program s names e ≡ value)
 
+-- a value and a stop are those of the expression, and any other fault is that of the text; of want of memory it
+-- says nothing
 abbrev pub IsRead : Signature → List (List ℕ) → List ℕ → Result Ordered TextFault → Type 0
 IsRead s names text (Ok f) = IsValue s names text (Ok f.sum)
 IsRead s names text (Err (fault.Stop stop.Overflow)) = IsValue s names text (Err cause.Overflow)

@@ -15,14 +15,17 @@ use Rattle.ore_expr.specs.declared.evaluation.Operation.TheVariants.{Sum, Differ
 use Rattle.ore_expr.specs.declared.instruction.Instruction.{Instruction}
 use Rattle.ore_expr.specs.declared.instruction.Instruction.TheVariants.{Add, Subtract, Multiply}
 
+-- the stack turned round, without the orders of its operators
 unfoldable pub values_of : List Ordered → List (Operator rationals)
 values_of fs = reverse (map (λ f. f.sum) fs)
 
+-- what the operation makes of the lower operator f, as its left side, and of g on top
 abbrev pub outcome : Limits → Signature → Operation → Operator rationals → Operator rationals → Result (Operator rationals) Cause
 outcome l s Sum f g = plus_within l f g
 outcome l s Difference f g = minus_within l f g
 outcome l s Product f g = times_within l s f g
 
+-- the instruction that does this to the two operators on top
 abbrev pub instruction_of : Operation → Instruction
 instruction_of Sum = Add
 instruction_of Difference = Subtract

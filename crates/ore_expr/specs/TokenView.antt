@@ -7,6 +7,7 @@ use Rattle.ore_expr.specs.Tokens.{Token, Number, Name, Plus, Minus, Star, Slash,
 use Rattle.ore_expr.specs.declared.token.Token.{Token as LentToken}
 use Rattle.ore_expr.specs.declared.token.Token.TheVariants as lent
 
+-- the token with the bytes of its text
 abbrev pub token_of : LentToken → Token
 token_of (lent.Number digits) = Number digits.now
 token_of (lent.Name bytes) = Name bytes.now
@@ -19,6 +20,7 @@ token_of lent.Open = Open
 token_of lent.Close = Close
 token_of (lent.Stray b) = Stray b
 
+-- each byte of a number is a digit; of any other token this says nothing
 abbrev pub IsNumeric : Token → Type 0
 IsNumeric (Number digits) = AllPass is_ascii_digit digits
 IsNumeric token = Unit {0}

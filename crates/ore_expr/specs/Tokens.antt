@@ -12,13 +12,16 @@ use Rattle.std.specs.Prelude.{◌≡◌, ℕ, zero, suc, ◌-◌, ◌≤◌, Boo
 use Rattle.std.specs.Char.{is_ascii_digit, is_ascii_alphabetic, is_ascii_alphanumeric}
 use Rattle.std.specs.List.{AllPass}
 
+-- an ASCII letter, a digit, or `_`, which is the byte 95
 abbrev pub is_name_byte : ℕ → Bool
 is_name_byte b = is_ascii_alphanumeric b || nat_eq b 95
 
+-- 1 to 16 name bytes, the first of them a letter
 abbrev pub IsName : List ℕ → Type 0
 IsName [] = ⊥
 IsName (b ∷ bs) = (is_ascii_alphabetic b ≡ true) × (length bs ≤ 15) × AllPass is_name_byte bs
 
+-- a number and a name with their bytes; the symbols `+ - * / ^ ( )`; a byte that begins no token
 pub data Token : Type 0 where
   Number : List ℕ → Token
   Name : List ℕ → Token
@@ -44,11 +47,13 @@ token_at b bs =
     else if is_ascii_alphabetic b then Name (b ∷ take_while is_name_byte bs)
     else symbol b
 
+-- all bytes of the token but its first
 abbrev pub more_bytes : Token → ℕ
 more_bytes (Number digits) = length digits - 1
 more_bytes (Name bytes) = length bytes - 1
 more_bytes symbol = 0
 
+-- the place is that of the first byte of the token in its text, where the first byte of the text has place 0
 pub record Lexeme : Type 0 where
   pub place : ℕ
   pub token : Token
@@ -61,8 +66,10 @@ lexemes_from zero place (b ∷ bs) =
     if nat_eq b 32 then lexemes_from 0 (suc place) bs
     else record { place = place; token = token_at b bs } ∷ lexemes_from (more_bytes (token_at b bs)) (suc place) bs
 
+-- the tokens of the whole text, with their places
 abbrev pub lexemes : List ℕ → List Lexeme
 lexemes text = lexemes_from 0 0 text
 
+-- the tokens in order, without their places
 abbrev pub tokens_of : List Lexeme → List Token
 tokens_of ls = map (λ x. x.token) ls

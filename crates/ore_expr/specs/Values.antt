@@ -1,6 +1,8 @@
 -- The value of an expression: its operations in the order in which they are formed, inner ones first and the left side
 -- before the right, each within limits.
+--     zero_operator                    zero
 --     constant, power_of_variable      a number as an operator; a power of a variable
+--     variable_index                   the index of a name, 0 where it isn't declared
 --     power_within                     so many factors, from the left
 --     expression_value, term_value, factor_value, atom_value      the value of each
 use Rattle.std.specs.Prelude.{ℕ, zero, suc, List, pos}
@@ -19,9 +21,11 @@ use Rattle.ore_ring.specs.Within.{plus_within, minus_within, times_within}
 use Rattle.ore_expr.specs.Grammar.{Expression, Single, Negated, Sum, Difference, Term, Alone, Product, Factor, Plain, Power, Atom, Whole, Quotient, Variable, Group}
 use Rattle.ore_expr.specs.Faults.{index_of}
 
+-- the operator without terms
 abbrev pub zero_operator : Operator rationals
 zero_operator = none rationals plain_cmp
 
+-- the number times the monomial 1
 unfoldable pub constant : Fraction → Operator rationals
 constant q = single rationals plain_cmp unit q
 
@@ -44,6 +48,7 @@ module _ (l : Limits) (s : Signature) where
 
 module _ (l : Limits) (s : Signature) (names : List (List ℕ)) where
   unfoldable mutual
+    -- the left side has its value first; a minus before the first term takes the term from zero
     pub expression_value : Expression → Result (Operator rationals) Cause
     expression_value (Single t) = term_value t
     expression_value (Negated t) = do
@@ -58,6 +63,7 @@ module _ (l : Limits) (s : Signature) (names : List (List ℕ)) where
       g ← term_value t
       minus_within l f g
 
+    -- the product of the factors before the last, times the last
     pub term_value : Term → Result (Operator rationals) Cause
     term_value (Alone f) = factor_value f
     term_value (Product t f) = do
@@ -65,6 +71,7 @@ module _ (l : Limits) (s : Signature) (names : List (List ℕ)) where
       h ← factor_value f
       times_within l s g h
 
+    -- a power of a name is one monomial, and that of another atom is multiplied out
     pub factor_value : Factor → Result (Operator rationals) Cause
     factor_value (Plain a) = atom_value a
     factor_value (Power (Variable name) digits) = Ok (power_of_variable (variable_index names name) (digits_value 10 digits))
@@ -72,6 +79,7 @@ module _ (l : Limits) (s : Signature) (names : List (List ℕ)) where
       f ← atom_value a
       power_within l s (digits_value 10 digits) f
 
+    -- the quotient of two numbers is one fraction, in lowest terms
     pub atom_value : Atom → Result (Operator rationals) Cause
     atom_value (Whole digits) = Ok (constant (whole (pos (digits_value 10 digits))))
     atom_value (Quotient digits others) = Ok (constant (reduce (pos (digits_value 10 digits)) (digits_value 10 others)))

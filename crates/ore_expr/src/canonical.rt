@@ -25,7 +25,12 @@ use ore_ring::Op;
 use std::alloc::Global;
 use std::str;
 
-/// The operator whose canonical text this is, if there is one.
+/// The operator whose canonical text this is, if there is one of the signature.
+///
+/// There is one name for each variable of the signature.
+///
+/// # Errors
+/// Want of memory.
 pub fn read_canonical(
     alloc: Global,
     sig: &Signature,

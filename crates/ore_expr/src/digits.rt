@@ -24,6 +24,9 @@ fn digits_number(digits: &[u8]) -> u128
 }
 
 /// The number that digits write as an atom.
+///
+/// # Errors
+/// It is above `2^127 - 1`; with this place.
 pub(crate) fn number(place: usize, digits: &[u8]) -> Result<i128, TextFault>
     requires { AllPass is_ascii_digit digits.now }
     ensures value { result ≡ number_at place (digits_value 10 digits.now) }
@@ -32,7 +35,10 @@ pub(crate) fn number(place: usize, digits: &[u8]) -> Result<i128, TextFault>
     i128::try_from(digits_number(digits)).or(Err(TextFault::NumberTooWide(place)))
 }
 
-/// The number that they write as a denominator.
+/// The number that digits write as a denominator.
+///
+/// # Errors
+/// It is above `2^127 - 1`, or 0; with this place.
 pub(crate) fn denominator(place: usize, digits: &[u8]) -> Result<i128, TextFault>
     requires { AllPass is_ascii_digit digits.now }
     ensures value { result ≡ denominator_at place (digits_value 10 digits.now) }
@@ -46,7 +52,10 @@ pub(crate) fn denominator(place: usize, digits: &[u8]) -> Result<i128, TextFault
     Ok(n)
 }
 
-/// The number that they write as a power, which has a limit.
+/// The number that digits write as a power.
+///
+/// # Errors
+/// It is above the limit; with this place.
 pub(crate) fn power(limit: u16, place: usize, digits: &[u8]) -> Result<u16, TextFault>
     requires { AllPass is_ascii_digit digits.now }
     ensures { result ≡ power_at limit place (digits_value 10 digits.now) }

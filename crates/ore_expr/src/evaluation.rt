@@ -24,7 +24,10 @@ enum Operation {
     Product,
 }
 
-/// The operator that instructions leave.
+/// The operator that instructions leave on top, zero where they leave none.
+///
+/// A power of a variable has the index of a variable of the ring's signature and an exponent of at most 32,767. What
+/// `parse` answers is so, where there is one name for each variable.
 ///
 /// # Errors
 /// The stop of the first operation that stops, and want of memory.

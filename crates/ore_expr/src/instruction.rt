@@ -2,19 +2,19 @@
 
 use ore_rational::Rational;
 
-/// One step of the evaluation of an expression, on a stack of operators.
+/// One step of the evaluation of an expression, on a stack of operators. Where that has too few, nothing happens.
 #[derive(Clone, Copy, Drop)]
 pub enum Instruction {
-    /// A number.
+    /// A number is put on top.
     Constant(Rational),
-    /// A power of a variable.
+    /// A power of the variable with this index is put on top, where the first variable has index 0.
     Power { variable: usize, exponent: u16 },
-    /// The sum of the two operators on top.
+    /// The two operators on top are replaced by their sum.
     Add,
-    /// The operator below the top less the top.
+    /// They are replaced by the operator below the top less the top.
     Subtract,
-    /// The operator below the top times the top.
+    /// They are replaced by the operator below the top times the top.
     Multiply,
-    /// So many factors of the operator on top.
+    /// The operator on top is replaced by the product of so many factors of it, 1 where there are none.
     Raise(u16),
 }

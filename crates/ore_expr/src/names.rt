@@ -40,21 +40,21 @@ impl Names {
         }
     }
 
-    /// Each name is of the form of a name, and no two are the same.
+    /// Does nothing: its clause says that each name is of the form of a name, and that no two are the same.
     pub fn names_fit(&self)
         ensures { AreNames self.now }
     {
         let _ = &self.names;
     }
 
-    /// The index of a name.
+    /// The index of a name, where the first one has index 0, if it is there.
     pub fn find(&self, name: &[u8]) -> Option<usize>
         ensures { result ≡ index_of self.now name.now }
     {
         self.names.get_index_of(name)
     }
 
-    /// The name with the index `k`.
+    /// The name with the index `k`, which is below [`Names::len`].
     pub fn name(&self, k: usize) -> &[u8]
         requires { k < length self.now }
         ensures { slice_get self.now k ≡ Some result.now }
@@ -70,6 +70,11 @@ impl Names {
     }
 
     /// Adds a name behind the others. False where it is there already.
+    ///
+    /// The name is a letter with at most 15 letters, digits or underscores behind it.
+    ///
+    /// # Errors
+    /// Want of memory. Then the names are the same as before.
     pub fn add(&mut self, name: &[u8]) -> Result<bool, NoMemory>
         requires { IsName name.now }
         ensures { IsAdded result self.old self.new name.now }
@@ -81,6 +86,9 @@ impl Names {
     }
 
     /// The same names, in memory of their own.
+    ///
+    /// # Errors
+    /// Want of memory.
     pub fn copy(&self, alloc: Global) -> Result<Names, NoMemory>
         ensures { IfOk result (λ n. n ≡ self.now) }
     {

@@ -33,15 +33,20 @@ pub enum Due {
 /// The sum that waits for its right side.
 #[derive(Clone, Copy, Drop)]
 pub enum Waiting {
+    /// The term is the first.
     Nothing,
+    /// The term is added to those before it.
     Add,
+    /// The term is taken from those before it, or from 0.
     Subtract,
 }
 
 /// The operations that wait for their right sides between two parentheses.
 #[derive(Clone, Copy, Drop)]
 pub struct Level {
+    /// What is done with the term that is read.
     pub sum: Waiting,
+    /// Whether the factor that is read is multiplied with those before it.
     pub product: bool,
 }
 

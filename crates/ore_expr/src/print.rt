@@ -16,6 +16,11 @@ use ore_ring::Op;
 use std::alloc::Global;
 
 /// The canonical text of an operator.
+///
+/// The operator is of the signature, and there is one name for each variable.
+///
+/// # Errors
+/// Want of memory.
 pub fn print_operator(
     alloc: Global,
     sig: &Signature,
@@ -32,6 +37,11 @@ pub fn print_operator(
 }
 
 /// Appends the canonical text of an operator.
+///
+/// The operator is of the signature, and there is one name for each variable.
+///
+/// # Errors
+/// Want of memory. Then nothing is said of `text`.
 pub fn append_operator(
     text: &mut Vec<u8>,
     sig: &Signature,

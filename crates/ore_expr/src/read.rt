@@ -60,8 +60,11 @@ fn step(
 
 /// The operator that a text spells as an expression.
 ///
+/// There is one name for each variable of the ring's signature.
+///
 /// # Errors
-/// The fault of the text where it is no expression, else the stop of the first operation that stops.
+/// The fault of the text where it is no expression, else the stop of the first operation that stops; and want of
+/// memory, as a stop.
 pub fn read_operator<R: OreRing>(
     ring: &R,
     alloc: Global,

@@ -18,7 +18,12 @@ use ore_monomial::{NoMemory, Signature};
 use ore_ring::Op;
 use std::alloc::Global;
 
-/// Appends the line of a row: its entries by their canonical texts.
+/// Appends the line of a row: its entries by their canonical texts, and the line end.
+///
+/// The entries are of the signature, and there is one name for each variable.
+///
+/// # Errors
+/// Want of memory. Then nothing is said of `out`.
 pub fn append_row(
     out: &mut Vec<u8>,
     sig: &Signature,
@@ -55,7 +60,12 @@ fn append_entry(
     append_operator(out, sig, names, op)
 }
 
-/// The row of so many entries whose line this is, with its line end, if there is one.
+/// The row of `cols` entries whose line this is, with its line end, if there is one of the signature.
+///
+/// There is one name for each variable of the signature.
+///
+/// # Errors
+/// Want of memory.
 pub fn read_row(
     alloc: Global,
     sig: &Signature,

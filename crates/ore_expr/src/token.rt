@@ -34,7 +34,7 @@ impl Token<'_> {
     }
 }
 
-/// The token at the front of a text.
+/// The token at the front of a text, which isn't empty. A number and a name are as long as they reach.
 pub(crate) fn token_at(text: &[u8]) -> Token<'_>
     requires { 0 < length text.now }
     ensures value { (b : ℕ) (bs : List ℕ) → text.now ≡ b ∷ bs → token_of result ≡ token_from b bs }

@@ -1,5 +1,5 @@
 -- Counts of faults.
---     most_faults   where a count stands still
+--     most_faults   the greatest count; one that is there stays there
 --     one_more      a count after one more
 --     Rose          a count has risen, or stands where it can't
 use Rattle.std.specs.Prelude.{◌≡◌, ℕ, ◌+◌, ◌<◌, ◌⊎◌, min}

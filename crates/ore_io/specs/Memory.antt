@@ -5,12 +5,14 @@
 use Rattle.std.specs.Prelude.{ℕ, List}
 use Rattle.ore_io.specs.Calls.{Calls}
 
+-- left are the bytes to read; a call gives chunk bytes at most; faults counts the calls that failed
 pub record MemReading : Type 0 where
   pub left : List ℕ
   pub chunk : ℕ
   pub calls : Calls
   pub faults : ℕ
 
+-- spare is how many bytes can still be written; a call takes chunk bytes at most; faults counts the calls that failed
 pub record MemWriting : Type 0 where
   pub written : List ℕ
   pub spare : ℕ
@@ -18,6 +20,7 @@ pub record MemWriting : Type 0 where
   pub calls : Calls
   pub faults : ℕ
 
+-- spare is how many bytes can still be written, and faults counts the calls that found no room
 pub record SureWriting : Type 0 where
   pub written : List ℕ
   pub spare : ℕ

@@ -1,11 +1,11 @@
-// Calls that are counted, of which some fail.
+//! Calls that are counted, of which some fail.
 
 ghost use Rattle.std.specs.Prelude.{◌≡◌, ◌↔◌, Contains, IsTrue};
 ghost use Rattle.ore_io.specs.Calls.{next_call, one_call};
 
 use std::marker::Model;
 
-// The numbers of the calls that fail, from 1, and how many calls were made.
+/// The numbers of the calls that fail, from 1, and how many calls were made.
 #[derive(Drop)]
 pub struct Schedule {
     failing: Vec<u64>,
@@ -24,6 +24,7 @@ impl Model for Schedule {
 }
 
 impl Schedule {
+    /// No call was made yet, and those with these numbers fail.
     pub fn new(failing: Vec<u64>) -> Schedule
         ensures failing { result.failing ≡ failing.items }
         ensures made { result.made ≡ 0 }
@@ -31,7 +32,7 @@ impl Schedule {
         Schedule { failing, made: 0 }
     }
 
-    // Counts one more call, and says whether it fails. Past 2^64 - 1 calls none does.
+    /// Counts one more call, and says whether it fails. Past 2^64 - 1 calls none does.
     pub fn next_fails(&mut self) -> bool
         ensures fails { IsTrue result ↔ Contains self.old.failing (next_call self.old) }
         ensures counted { self.new ≡ one_call self.old }

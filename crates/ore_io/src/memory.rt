@@ -37,6 +37,8 @@ impl Model for MemSource {
 }
 
 impl MemSource {
+    /// All of `bytes` is left to read. A call gives at most `chunk` bytes, which is at least 1, and
+    /// fails where its number, from 1, is in `failing`.
     pub fn new(bytes: Vec<u8>, chunk: usize, failing: Vec<u64>) -> MemSource
         requires { 0 < chunk }
         ensures left { result.left ≡ bytes.items }
@@ -122,7 +124,8 @@ impl Model for MemSink {
 }
 
 impl MemSink {
-    /// All of `room` is room for what is written, whatever it holds.
+    /// All of `room` is room for what is written, whatever it holds. A call takes at most `chunk`
+    /// bytes, which is at least 1, and fails where its number, from 1, is in `failing`.
     pub fn new(room: Vec<u8>, chunk: usize, failing: Vec<u64>) -> MemSink
         requires { 0 < chunk }
         ensures written { result.written ≡ [] }

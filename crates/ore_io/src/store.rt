@@ -1,10 +1,10 @@
-// Bytes in memory that are read, or written, from the front on.
+//! Bytes in memory that are read, or written, from the front on.
 
 ghost use Rattle.std.specs.Prelude.{◌≡◌, ◌++◌, ◌-◌, [], length, min, take, drop, vec_len};
 
 use std::marker::Model;
 
-// Bytes of which the first were read. Contracts see those that are left.
+/// Bytes of which the first were read. Contracts see those that are left.
 #[derive(Drop)]
 pub struct Unread {
     bytes: Vec<u8>,
@@ -22,19 +22,21 @@ impl Model for Unread {
 }
 
 impl Unread {
+    /// None of the bytes was read yet.
     pub fn new(bytes: Vec<u8>) -> Unread
         ensures { result ≡ bytes.items }
     {
         Unread { bytes, at: 0 }
     }
 
+    /// The bytes that weren't read yet.
     pub fn left(&self) -> &[u8]
         ensures { result.now ≡ self.now }
     {
         &self.bytes[self.at..]
     }
 
-    // Reads as many bytes as there are, as fit into the slice, and as are allowed.
+    /// Reads as many bytes as there are, as fit into the slice, and as are allowed: `most`. How many it read.
     pub fn read(&mut self, into: &mut [u8], most: usize) -> usize
         ensures count { result ≡ min most (min (length into.old) (length self.old)) }
         ensures into { into.new ≡ take result self.old ++ drop result into.old }
@@ -48,7 +50,7 @@ impl Unread {
     }
 }
 
-// Bytes of which the first were written. Contracts see those, and how many are left.
+/// Bytes of which the first were written. Contracts see those, and how many are left.
 #[derive(Drop)]
 pub struct Room {
     bytes: Vec<u8>,
@@ -70,7 +72,7 @@ impl Model for Room {
 }
 
 impl Room {
-    // All of the bytes are room, whatever they hold.
+    /// All of the bytes are room, whatever they hold.
     pub fn new(bytes: Vec<u8>) -> Room
         ensures written { result.written ≡ [] }
         ensures spare { result.spare ≡ vec_len bytes }
@@ -78,19 +80,21 @@ impl Room {
         Room { bytes, len: 0 }
     }
 
+    /// The bytes that were written so far.
     pub fn written(&self) -> &[u8]
         ensures { result.now ≡ self.now.written }
     {
         &self.bytes[..self.len]
     }
 
+    /// How many bytes of the room are left.
     pub fn spare(&self) -> usize
         ensures { result ≡ self.now.spare }
     {
         self.bytes.len() - self.len
     }
 
-    // Writes as many bytes as the piece has, as there is room for, and as are allowed.
+    /// Writes as many bytes as the piece has, as there is room for, and as are allowed: `most`. How many it wrote.
     pub fn write(&mut self, piece: &[u8], most: usize) -> usize
         ensures count { result ≡ min most (min (length piece.now) self.old.spare) }
         ensures written { self.new.written ≡ self.old.written ++ take result piece.now }

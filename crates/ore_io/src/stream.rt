@@ -26,6 +26,7 @@ impl<T> Model for StreamSource<T> {
 }
 
 impl<T: Read> StreamSource<T> {
+    /// A source over this reader, with no fault counted yet.
     pub fn new(input: T) -> StreamSource<T>
         ensures { result ≡ 0 }
     {
@@ -74,6 +75,7 @@ impl<T> Model for StreamSink<T> {
 }
 
 impl<T: Write> StreamSink<T> {
+    /// A sink over this writer, with no fault counted yet.
     pub fn new(output: T) -> StreamSink<T>
         ensures { result ≡ 0 }
     {

@@ -22,6 +22,7 @@ impl Model for SureSource {
 }
 
 impl SureSource {
+    /// All of `bytes` is left to read.
     pub fn new(bytes: Vec<u8>) -> SureSource
         ensures { result ≡ bytes.items }
     {

@@ -34,7 +34,7 @@ impl Lead {
     }
 }
 
-/// A list of leads: each is a monomial in a column.
+/// A list of leads: each is a monomial in a column, where the first column has number 0.
 #[derive(Drop)]
 pub struct Leads {
     items: Vec<Lead>,
@@ -72,7 +72,7 @@ impl Leads {
     /// One more lead, at the end.
     ///
     /// # Errors
-    /// Want of memory. Then nothing has changed.
+    /// Want of memory. Then the list is the same as before.
     pub fn push(&mut self, column: usize, exps: Exps) -> Result<(), NoMemory>
         ensures pushed { IfOk result (λ _. self.new ≡ self.old ++ record { monomial = exps; column = column } ∷ []) }
         ensures kept { IfErr result (λ _. self.new ≡ self.old) }
@@ -81,7 +81,7 @@ impl Leads {
         Ok(())
     }
 
-    /// The column and the exponents of the lead at place `k`, where the first has place 0.
+    /// The column and the exponents of the lead at place `k`, which is below [`Leads::len`]; the first has place 0.
     pub fn get(&self, k: usize) -> (usize, Exps)
         requires { k < length self.now }
         ensures { slice_get self.now k ≡ Some (record { monomial = result.1; column = result.0 }) }
@@ -90,7 +90,7 @@ impl Leads {
         (lead.column, lead.exps)
     }
 
-    /// The least place whose lead stands in this column and divides these exponents, if there is one.
+    /// The least place, counted from 0, whose lead stands in this column and divides these exponents, if there is one.
     pub fn first_divisor(&self, column: usize, exps: &Exps) -> Option<usize>
         ensures { result ≡ first_divisor self.now (record { monomial = exps.now; column = column }) }
     {

@@ -1,10 +1,18 @@
 -- The declarations that are read are those of an accepted text.
---     fault_after-append      the faults of kinds in two parts
---     Limited                 what a kind acts on is one of twelve, and its step at most 1000
---     limited                 so it is of a kind without a fault
---     declares, declared_by-words      the words of a declaration, from the reader's and to it
---     frame_back, frame_due            one declaration more
---     declarations_back, declarations_due      all declarations up to the matrix line
+--     fault_after-append             the faults of kinds in two parts
+--     first_of_next                  kinds without a fault, up to one of them
+--     Limited, limited               what a kind acts on is one of twelve, and its step at most 1000; so it is of a
+--                                    kind without a fault
+--     Shows                          the words are those of a declaration, whose name is one
+--     declares, declared_by-words    the words of a declaration, from the reader's and to it
+--     Grows                          from one frame to another, these names and kinds are more
+--     OneMore                        the same of one declaration, by its words
+--     frame_back, frame_due          one declaration more
+--     Found                          the lines of the declarations and the matrix line, beside what is read of them
+--     Passed                         what is read of such lines
+--     all_front                      a fact of all of a list holds of its front, and of the item behind
+--     declarations_back, declarations_due    all declarations up to the matrix line
+--     same_frame                     a frame is its names, kinds and order
 use Rattle.std.proofs.Common.{◌≡◌, ◌≢◌, ℕ, suc, ◌+◌, ◌<◌, ◌≤◌, Bool, true, false, ◌&&◌, cond, List, [], ◌∷◌, ◌++◌, length, get_or, refl, sym, ap, ◌∙◌, subst, inl, inr, arith, append_assoc, append-nil, min}
 use Rattle.std.specs.Prelude.{if◌then◌else◌, nat_le, codes}
 use Rattle.std.specs.declared.option.Option.{Option}

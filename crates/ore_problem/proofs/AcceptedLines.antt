@@ -1,9 +1,11 @@
 -- The lines that are passed from one cursor to another.
 --     cursor           a cursor by its parts
 --     Goes             from a cursor these lines, beside comments before each, lead to another cursor
+--     GoesFrom         the same, from a cursor as a whole
+--     arrived, stays   no lines lead to the cursor itself, and from it
 --     goes_same        so they do from the same cursor
---     step             the first of them is the next line
---     back             the next line, and the lines behind it
+--     step, due        the first of them is the next line, and the line that is due
+--     back, due_back   the next line, or the line that is due, and the lines behind it
 --     over             the cursor behind some lines
 --     goes_over        the lines that count lead over all lines
 --     goes_all         where nothing is left, all lines that count are passed

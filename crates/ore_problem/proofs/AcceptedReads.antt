@@ -1,10 +1,12 @@
 -- A text is read as a problem where it is accepted, and this is its problem.
+--     header                       the words of the first line
 --     header_back, header_due      the first line
 --     order_back, order_due        the second line
 --     end_back, end_due            the last line
 --     Stands                       from a cursor to another the lines of a problem stand
 --     prefix_stands                they stand where a problem is read at the front
 --     stands_prefix                and where they stand, it is read
+--     accepted_prefix, accepted_read    an accepted text is read at the front of any lines, and alone
 --     reads_exactly                the law
 use Rattle.std.proofs.Common.{◌≡◌, ℕ, suc, ◌+◌, List, [], ◌∷◌, ◌++◌, length, refl, sym, ap, ◌∙◌, subst, append-nil}
 use Rattle.std.specs.Prelude.{codes}

@@ -1,5 +1,6 @@
 -- The rows that are read are those of an accepted text.
 --     frame_of                         the names and the signature of a system
+--     HaveValues                       each of some texts is an expression with its value in a row
 --     entries_back, entries_due        the entries of a row that has some
 --     all_back, all_due                the entries of a row
 --     row_back, row_due                one row line

@@ -1,10 +1,14 @@
 -- What the tests of the reader show, one at a time.
---     bound            what a reading that goes on found first
---     passed_test      a test that was passed
---     same_words       words that pass the test are these
---     order_words      the words of an order
---     name_test        a name passes the test of names
---     AreSizes, size_words, sizes_of-words      the words of a matrix line
+--     bound                               what a reading that goes on found first
+--     same_ok, same_some                  values that are equal under Ok, and under Some, are equal
+--     passed_test, found                  a test that was passed; a value that was found
+--     same_words                          words that pass the test are these
+--     deg_lex_words, deg_rev_lex_words    the words of the second line, for each order
+--     order_words, order_of-words         the words of an order, from the reader's and to it
+--     name_test, name_tested              a name passes the test of names, and nothing else does
+--     decimal_count, decimal_value        a number up to 64, as a text, is a count; the digits of a number have its
+--                                         value
+--     AreSizes, size_words, sizes_of-words    the words of a matrix line
 use Rattle.std.proofs.Common.{◌≡◌, ℕ, zero, suc, ◌<◌, ◌≤◌, ◌^◌, Bool, true, false, ◌&&◌, not, List, [], ◌∷◌, length, refl, sym, ap, ◌∙◌, subst, arith}
 use Rattle.std.specs.Prelude.{if◌then◌else◌, nat_eq, nat_lt, nat_le, codes, decimal}
 use Rattle.std.specs.declared.option.Option.{Option}

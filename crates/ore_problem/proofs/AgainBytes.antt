@@ -3,7 +3,12 @@
 --     IsPlain, AllPlain       each byte of a text is plain; of each of some texts
 --     IsBare                  each byte of a text is of a name
 --     Lacks                   a byte stands nowhere in a text
+--     list_all-weaker, all_append    a weaker test passes too; a fact of all of two lists
 --     plain_lacks, bare_lacks        so it is where the byte isn't plain; isn't of a name
+--     plain_bare              a text with bytes of names alone is plain
+--     plain_append, plain_cons    plain texts in a row, and a plain byte before one
+--     plain_ten, plain_thirteen, plain_hash, plain_comma, plain_space    which of these bytes are plain: the space
+--                                                                        alone
 --     bare_decimal, bare_name        a number and a name have bytes of names alone
 --     plain_operator          an operator is plain
 use Rattle.std.proofs.Common.{◌≡◌, ℕ, zero, suc, ◌/◌, ◌%◌, ◌<◌, Bool, true, false, not, ◌&&◌, ◌||◌, if◌then◌else◌, List, [], ◌∷◌, ◌++◌, refl, sym, ap, ◌∙◌, arith, ℤ, pos, negsuc, true≢false}

@@ -1,5 +1,6 @@
 -- The declarations of a printed text.
 --     index_of-get_or         a name is found by its index
+--     number_word, name_word  a number and a name are words
 --     words_of, line_of       the words of a declaration, and its line without its end
 --     IsNext                  a name and its kind stand behind these in the signature
 --     declares_words          the words declare the name and its kind

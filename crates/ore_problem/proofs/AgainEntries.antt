@@ -3,6 +3,7 @@
 --     sound_moves           whether a token has a fault doesn't tell either
 --     expression_behind_space      a space before an expression changes nothing
 --     entry_is              the canonical text of an entry, behind a space, is an expression with the entry as its value
+--     AllPrint              each entry of a row can be printed
 --     row_line, prints_row  the line of a row
 --     row_is                and it is a row line of an accepted text
 use Rattle.std.proofs.Common.{◌≡◌, ℕ, zero, suc, Bool, true, false, List, [], ◌∷◌, ◌++◌, length, map, refl, sym, ap, ◌∙◌, subst}

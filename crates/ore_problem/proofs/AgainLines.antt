@@ -1,11 +1,15 @@
 -- The lines of a printed text, and the words of each.
---     ended            a line with its end
---     split_at-append  the pieces of a text that is put together at a byte
---     words_joined     the words of a line that is put together from words
---     IsLine           no line end and no sign of a comment stands in a line
---     counted_ended    lines are no comments, and are what stands between the line ends
---     Prints           a text has these lines, wherever it stands
---     prints_line, prints_append, prints_all      one line; two texts; the texts of a list
+--     ended                               a line with its end
+--     split_at-append, split_at-piece     the pieces of a text that is put together at a byte, and of one that lacks
+--                                         the byte
+--     IsWord                              a text has a byte, and bytes of names alone
+--     words_joined, plain_joined          the words of a line that is put together from words; such a line is plain
+--     IsLine                              no line end and no sign of a comment stands in a line
+--     plain_line, line_append             plain texts are such lines, and so are two in a row
+--     AllLines                            each of some texts is such a line
+--     counted_ended, last_counts_ended    lines are no comments, and are what stands between the line ends
+--     Prints                              a text has these lines, wherever it stands
+--     prints_none, prints_line, prints_append, prints_all    no line; one line; two texts; the texts of a list
 use Rattle.std.proofs.Common.{◌≡◌, ℕ, Bool, true, false, not, cond, List, [], ◌∷◌, ◌++◌, map, refl, sym, ap, ◌∙◌, true≢false, append_assoc}
 use Rattle.std.specs.Prelude.{nat_eq, if◌then◌else◌, ◌&&◌}
 use Rattle.std.specs.List.{AllByRecursion, list_all, join_with_byte, filter, flat_map}

@@ -1,7 +1,6 @@
 -- The declarations, line by line.
---     declared_line           what a line that is due makes of the declarations before it
+--     declared_words, declared_line    what words, and a line that is due, make of the declarations before them
 --     declarations_of-due     the declarations from the line that is due on
---     declared_line-matrix, declared_line-other      a matrix line ends them; another line is one more
 --     declarations_stop, declarations_end, declarations_fail, declarations_more      the steps of a loop that reads them
 use Rattle.std.proofs.Common.{◌≡◌, ℕ, suc, ◌+◌, Bool, true, false, cond, List, [], ◌∷◌, length, refl, sym, ap, ◌∙◌}
 use Rattle.std.specs.declared.result.Result.TheVariants.{Ok, Err}

@@ -1,5 +1,6 @@
 -- The exit of a `?` that hands a fault on.
 --     fault_reads_like      where one definition has the fault of another, a call that fails like the one fails like the other
+--     fault_reads_on        a fault of the first part is a fault of the whole
 use Rattle.std.proofs.Common.{◌≡◌, ℕ, refl}
 use Rattle.std.specs.declared.result.Result.TheVariants.{Err}
 use Rattle.ore_problem.specs.declared.fault.ProblemFault.{ProblemFault}

@@ -25,10 +25,12 @@ use Rattle.ore_problem.specs.Declarations.{is_digits}
 use Rattle.ore_problem.specs.Problems.{System, is_space, begins_with_space}
 use Rattle.ore_problem.specs.ProblemText.{order_word}
 
+-- the lines in order, without their ends; comments are left out
 abbrev pub counted : List (List ℕ) → List (List ℕ)
 counted [] = []
 counted (raw ∷ left) = if is_comment raw then counted left else content raw ∷ counted left
 
+-- no comment stands last; of a text without lines this says nothing
 abbrev pub LastCounts : List (List ℕ) → Type 0
 LastCounts [] = Unit {0}
 LastCounts (raw ∷ []) = is_comment raw ≡ false

@@ -10,6 +10,7 @@ use Rattle.ore_problem.specs.ProblemText.{problem_text}
 use Rattle.ore_problem.specs.Stored.{IsPrintableSystem}
 use Rattle.ore_problem.specs.Accepted.{Accepted}
 
+-- a text is read as this problem exactly where it is accepted, and this is its problem
 abbrev pub IsReadExactly : Type 0
 IsReadExactly = (text : List ℕ) (p : System) → (problem_of text ≡ Ok p) ↔ Accepted text p
 
@@ -17,6 +18,7 @@ IsReadExactly = (text : List ℕ) (p : System) → (problem_of text ≡ Ok p) �
 abbrev pub behind : System → List ℕ → Cursor
 behind p rest = record { line = length (raw_lines (problem_text p)); used = length (problem_text p); left = raw_lines rest }
 
+-- a problem that can be printed is read from its text, and from the front of any text that begins with that
 pub record PrintedIsRead : Type 0 where
   pub alone : (p : System) → IsPrintableSystem p → problem_of (problem_text p) ≡ Ok p
   pub before : (p : System) → IsPrintableSystem p → (rest : List ℕ) → prefix_of (problem_text p ++ rest) ≡ Ok (p, behind p rest)

@@ -1,6 +1,8 @@
 -- The text of a problem: single spaces, no comments, the byte 10 after every line, and canonical entries.
 --     line               words with a space between, and a line end
---     order_word, kind_words, declaration_text      of an order, of a kind, of one variable
+--     order_word         the word of an order
+--     kind_word, kind_words    the word of a kind, before the name; the words behind the name
+--     declaration_text   the line of one variable
 --     matrix_text        the sizes, and a line for each row
 --     problem_text       all lines
 use Rattle.std.specs.Prelude.{ℕ, List, [], ◌∷◌, ◌++◌, length, get_or, codes, decimal}
@@ -14,9 +16,11 @@ use Rattle.ore_expr.specs.RowText.{row_text}
 use Rattle.ore_rows.specs.Rows.{Row}
 use Rattle.ore_problem.specs.Problems.{System}
 
+-- the byte 32 stands between the words, and the byte 10 behind them
 abbrev pub line : List (List ℕ) → List ℕ
 line ws = join_with_byte 32 ws ++ 10 ∷ []
 
+-- the word that names the order in the second line
 abbrev pub order_word : Order → List ℕ
 order_word DegLex = codes "deglex"
 order_word DegRevLex = codes "degrevlex"
@@ -30,12 +34,14 @@ kind_word (Differential on) = codes "differential"
 kind_word (Shift on step) = codes "shift"
 kind_word (Delay on step) = codes "delay"
 
+-- of an operator that acts on a coordinate, the name of that; of a shift and a delay, the step too
 abbrev pub kind_words : List (List ℕ) → VarKind → List (List ℕ)
 kind_words names (Differential on) = get_or names on [] ∷ []
 kind_words names (Shift on step) = get_or names on [] ∷ decimal step ∷ []
 kind_words names (Delay on step) = get_or names on [] ∷ decimal step ∷ []
 kind_words names kind = []
 
+-- the line of a variable with its name and kind, where all names are given
 abbrev pub declaration_text : List (List ℕ) → List ℕ × VarKind → List ℕ
 declaration_text names d = line (kind_word d.1 ∷ d.0 ∷ kind_words names d.1)
 
@@ -43,6 +49,7 @@ declaration_text names d = line (kind_word d.1 ∷ d.0 ∷ kind_words names d.1)
 abbrev pub matrix_text : List (List ℕ) → Order → ℕ → List (Row rationals) → List ℕ
 matrix_text names o cols rows = line (codes "matrix" ∷ decimal (length rows) ∷ decimal cols ∷ []) ++ flat_map (row_text names o) rows
 
+-- `ore 1`, the order, a line for each variable, the matrix, and `end`
 unfoldable pub problem_text : System → List ℕ
 problem_text p =
     codes "ore 1\n"

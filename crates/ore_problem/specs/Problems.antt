@@ -1,16 +1,31 @@
 -- Problem texts: the lines in the order in which they are due, each with its faults. The first faulty line decides.
---     System                 names, signature, and a matrix by its columns and rows
---     ◌>>=◌                  go on with the value, or keep the fault
---     accepted_where         the value where a test passes, else a fault of the line before the cursor
---     line_due               the next line, or none is left before the end
---     header_after, order_after      the first and the second line
---     Frame, declared_frame          the names and the signature so far; with one declaration more
---     declarations_after             the declarations up to the matrix line
---     sizes_of                       the numbers of a matrix line
---     parsed, evaluated, row_of      the entries of a row line: each is parsed before any is evaluated
---     rows_after, end_after          the row lines; the last line
---     prefix_of, problem_of          the problem at the front of a text; the problem that is the whole text
---     prefix_sizes                   the problem at the front, with the numbers of bytes and lines that it takes
+--     System                              names, signature, and a matrix by its columns and rows
+--     Read                                a value, or the first faulty line with its fault
+--     ◌>>=◌                               go on with the value, or keep the fault
+--     fault_at                            a fault of a line
+--     accepted_where                      the value where a test passes, else a fault of the line before the cursor
+--     found_or                            the value where there is one, else a fault of a line
+--     line_due                            the next line, or none is left before the end
+--     are_words                           the words of a line are these
+--     order_of                            the order that words name
+--     header_after, order_after           the first and the second line
+--     Frame                               the names and the signature so far
+--     fault_or                            the fault where there is one, else the value
+--     with_declared, declared_frame       with one declaration more; with that of a line, if it has no fault
+--     is_matrix                           a line is the matrix line
+--     Declarations                        the names, the signature and the words of the matrix line
+--     declarations_of, declarations_after
+--                                         the declarations up to the matrix line, by the parts of a cursor; from a
+--                                         cursor on
+--     sizes_of                            the numbers of a matrix line
+--     is_space, begins_with_space         a byte is a space; a text is empty or begins with one
+--     is_row                              a line is a row line
+--     text_read, value_read               a fault of an entry, and the stop of one, as a fault of its line
+--     parsed, evaluated, entries_of       the entries of a row line: each is parsed before any is evaluated
+--     row_after, rows_after, end_after    a row line; the row lines; the last line
+--     prefix_of                           the problem at the front of a text
+--     prefix_sizes                        the same, with the numbers of bytes and lines that it takes
+--     ends_there, problem_of              a problem is the whole text; the problem that is the whole text
 use Rattle.std.specs.Prelude.{ℕ, zero, suc, ◌+◌, Bool, true, false, ◌&&◌, nat_lt, nat_eq, if◌then◌else◌, cond, List, [], ◌∷◌, ◌++◌, length, drop, take, codes}
 use Rattle.std.specs.List.{list_all}
 use Rattle.std.specs.Str.{bytes_eq}
@@ -37,6 +52,7 @@ use Rattle.ore_problem.specs.declared.fault.ProblemReason.TheVariants as reason
 use Rattle.ore_problem.specs.Lines.{Cursor, at_start, split_at, content, is_comment, next, words}
 use Rattle.ore_problem.specs.Declarations.{Declared, declared_by, fault_of, is_count}
 
+-- the names are in the order of the variables; the rows have cols entries each, which is also known without rows
 pub record System : Type 0 where
   pub names : List (List ℕ)
   pub signature : Signature
@@ -48,16 +64,20 @@ abbrev pub Read : Type 0 → Type 0
 Read A = Result A ProblemFault
 
 infixl 10 ◌>>=◌
+-- with the value to the next step; a fault stays
 abbrev pub ◌>>=◌ : {A B : Type 0} → Read A → (A → Read B) → Read B
 (Ok x) >>= f = f x
 (Err e) >>= f = Err e
 
+-- the line has this number, where the first line has number 1
 abbrev pub fault_at : {A : Type 0} → ℕ → ProblemReason → Read A
 fault_at line r = Err (record { line = line; reason = r })
 
+-- what is given where the test passes, else a fault of the line before the cursor
 abbrev pub accepted_where : {A : Type 0} → Bool → Cursor → ProblemReason → A → Read A
 accepted_where b c r x = cond b (Ok x) (fault_at c.line r)
 
+-- what was found, else a fault of this line
 abbrev pub found_or : {A : Type 0} → Option A → ℕ → ProblemReason → Read A
 found_or (Some x) line r = Ok x
 found_or None line r = fault_at line r
@@ -74,17 +94,20 @@ are_words ws vs = false
 
 -- ---- the first two lines
 
+-- the words of the next line are `ore` and `1`
 unfoldable pub header_after : Cursor → Read Cursor
 header_after c = do
   x ← line_due c
   accepted_where (are_words (words x.0) (codes "ore" ∷ codes "1" ∷ [])) x.1 reason.Header x.1
 
+-- the words are `order` and `deglex`, or `order` and `degrevlex`
 abbrev pub order_of : List (List ℕ) → Option Order
 order_of ws =
     if are_words ws (codes "order" ∷ codes "deglex" ∷ []) then Some DegLex
     else if are_words ws (codes "order" ∷ codes "degrevlex" ∷ []) then Some DegRevLex
     else None
 
+-- the next line names an order, or is a faulty header
 unfoldable pub order_after : Cursor → Read (Order × Cursor)
 order_after c = do
   x ← line_due c
@@ -93,22 +116,27 @@ order_after c = do
 
 -- ---- declarations
 
+-- one name for each variable, in the order of declaration
 pub record Frame : Type 0 where
   pub names : List (List ℕ)
   pub signature : Signature
 
+-- the fault of the line where there is one, else what is given
 abbrev pub fault_or : {A : Type 0} → Option ProblemReason → ℕ → A → Read A
 fault_or None line x = Ok x
 fault_or (Some r) line x = fault_at line r
 
+-- the declared variable is the last one
 abbrev pub with_declared : Frame → Declared → Frame
 with_declared f d = record { names = f.names ++ d.name ∷ []; signature = signature_of (f.signature.kinds ++ d.kind ∷ []) f.signature.order }
 
+-- the words of the line declare a variable, which has no fault behind those before it
 unfoldable pub declared_frame : Frame → ℕ → List (List ℕ) → Read Frame
 declared_frame f line ws = do
   d ← found_or (declared_by f.names ws) line reason.BadDeclaration
   fault_or (fault_of f.names f.signature.kinds d) line (with_declared f d)
 
+-- the first word is `matrix`
 abbrev pub is_matrix : List (List ℕ) → Bool
 is_matrix [] = false
 is_matrix (w ∷ ws) = bytes_eq w (codes "matrix")
@@ -127,6 +155,7 @@ declarations_of f line used (raw ∷ left) =
     else if is_matrix (words (content raw)) then Ok (record { frame = f; sizes = words (content raw); cursor = record { line = suc line; used = used + length raw; left = left } })
     else (declared_frame f (suc line) (words (content raw)) >>= λ g. declarations_of g (suc line) (used + length raw) left)
 
+-- from the cursor on, where nothing is declared yet
 abbrev pub declarations_after : Order → Cursor → Read Declarations
 declarations_after o c = declarations_of (record { names = []; signature = signature_of [] o }) c.line c.used c.left
 
@@ -142,9 +171,11 @@ sizes_of line (word ∷ q ∷ p ∷ []) =
     else fault_at line reason.BadMatrix
 sizes_of line others = fault_at line reason.BadMatrix
 
+-- the byte 32
 abbrev pub is_space : ℕ → Bool
 is_space b = nat_eq b 32
 
+-- the first byte is a space, or there is none
 abbrev pub begins_with_space : List ℕ → Bool
 begins_with_space [] = true
 begins_with_space (b ∷ bs) = is_space b
@@ -153,14 +184,17 @@ begins_with_space (b ∷ bs) = is_space b
 abbrev pub is_row : List ℕ → Bool
 is_row line = bytes_eq (take 3 line) (codes "row") && begins_with_space (drop 3 line)
 
+-- a fault of the text of an entry is a fault of this line
 abbrev pub text_read : {A : Type 0} → ℕ → Result A TextFault → Read A
 text_read line (Ok x) = Ok x
 text_read line (Err f) = fault_at line (reason.Text f)
 
+-- the stop of an operation in an entry is a fault of this line
 abbrev pub value_read : {A : Type 0} → ℕ → Result A Cause → Read A
 value_read line (Ok x) = Ok x
 value_read line (Err e) = fault_at line (reason.Text (stop_of e))
 
+-- the entries in order, up to the first that has a fault
 unfoldable pub parsed : List (List ℕ) → ℕ → List (List ℕ) → Read (List (List Instruction))
 parsed names line [] = Ok []
 parsed names line (part ∷ parts) = do
@@ -168,6 +202,7 @@ parsed names line (part ∷ parts) = do
   ps ← parsed names line parts
   Ok (p ∷ ps)
 
+-- the entries in order, up to the first that stops
 unfoldable pub evaluated : Signature → ℕ → List (List Instruction) → Read (Row rationals)
 evaluated s line [] = Ok []
 evaluated s line (p ∷ ps) = do
@@ -182,6 +217,7 @@ entries_of f (suc p) line rest =
     if nat_eq (length (split_at 44 rest)) (suc p) then (parsed f.names line (split_at 44 rest) >>= λ ps. evaluated f.signature line ps)
     else fault_at line reason.WrongLength
 
+-- the row of p entries in the next line
 unfoldable pub row_after : Frame → ℕ → Cursor → Read (Row rationals × Cursor)
 row_after f p c = do
   x ← line_due c
@@ -189,6 +225,7 @@ row_after f p c = do
   r ← entries_of f p x.1.line rest
   Ok (r, x.1)
 
+-- n rows of p entries, each in the next line
 unfoldable pub rows_after : Frame → ℕ → ℕ → Cursor → Read (List (Row rationals) × Cursor)
 rows_after f p zero c = Ok ([], c)
 rows_after f p (suc n) c = do
@@ -196,6 +233,7 @@ rows_after f p (suc n) c = do
   rs ← rows_after f p n r.1
   Ok (r.0 ∷ rs.0, rs.1)
 
+-- the next line is `end`
 unfoldable pub end_after : Cursor → Read Cursor
 end_after c = do
   x ← line_due c
@@ -220,10 +258,12 @@ prefix_sizes text = do
   x ← prefix_of text
   Ok (x.0, (x.1.used, x.1.line))
 
+-- no line is left, else the first one that is has a fault
 abbrev pub ends_there : System → Cursor → List (List ℕ) → Read System
 ends_there p e [] = Ok p
 ends_there p e (raw ∷ left) = fault_at (suc e.line) reason.AfterEnd
 
+-- nothing follows the problem at the front
 unfoldable pub problem_of : List ℕ → Read System
 problem_of text = do
   x ← prefix_of text

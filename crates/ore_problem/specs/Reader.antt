@@ -29,21 +29,26 @@ use Rattle.ore_problem.specs.Declarations.{Declared}
 use Rattle.ore_problem.specs.Problems.{System, Read, ◌>>=◌, header_after, order_after, declarations_after, sizes_of, entries_of, rows_after, end_after}
 use Rattle.ore_problem.specs.Lines.{Cursor, raw_lines}
 
+-- up to the byte 10 and with it; all bytes where there is none
 abbrev pub line_length : List ℕ → ℕ
 line_length [] = 0
 line_length (b ∷ bs) = if nat_eq b 10 then 1 else suc (line_length bs)
 
+-- line is the number of lines, and used that of bytes, that were passed
 pub record Position : Type 0 where
   pub text : List ℕ
   pub line : ℕ
   pub used : ℕ
 
+-- the lines that are left are those of the text from there on
 abbrev pub cursor_of : Position → Cursor
 cursor_of p = record { line = p.line; used = p.used; left = raw_lines (drop p.used p.text) }
 
+-- the bytes of the name, and the kind
 abbrev pub shown : Declaration → Declared
 shown d = record { name = d.name.now; kind = d.kind }
 
+-- what is made has all the kinds in the order of s; a refusal is the fault that they have
 abbrev pub IsExtended : Result Signature SignatureFault → Signature → VarKind → Type 0
 IsExtended (Ok made) s kind = (first_fault (s.kinds ++ kind ∷ []) ≡ None) × (made ≡ signature_of (s.kinds ++ kind ∷ []) s.order)
 IsExtended (Err fault) s kind = first_fault (s.kinds ++ kind ∷ []) ≡ Some fault
@@ -56,6 +61,7 @@ size_pair line rows cols = sizes_of line (codes "matrix" ∷ rows ∷ cols ∷ [
 abbrev pub spaces_read : ℕ → List ℕ → Read (Row rationals)
 spaces_read line rest = entries_of (record { names = []; signature = signature_of [] DegLex }) 0 line rest
 
+-- a fault of this line; but want of memory has line 0
 abbrev pub text_fault : ℕ → TextFault → ProblemFault
 text_fault line (Stop out_of.Memory) = record { line = 0; reason = Memory }
 text_fault line f = record { line = line; reason = Text f }

@@ -1,6 +1,8 @@
 -- What contracts see of a problem, and of what reading one answers.
 --     system_of         the names, the signature and the matrix, without the orders that its operators carry
 --     IsProblem         the names fit the signature, and the matrix belongs to it
+--     IsPrintableSystem        a problem that can be printed and read again
+--     FaultReads        the fault that a call answers is that which is given
 --     Reads             a call answered what a reading function gives, unless memory ran out
 use Rattle.std.specs.Prelude.{◌≡◌, ◌≤◌, ℕ, length}
 use Rattle.std.specs.List.{All, AllByRecursion}
@@ -16,9 +18,11 @@ use Rattle.ore_problem.specs.declared.fault.ProblemReason.TheVariants.{Memory}
 use Rattle.ore_problem.specs.declared.problem.Problem.{Problem}
 use Rattle.ore_problem.specs.Problems.{System}
 
+-- the rows of the matrix are plain operators
 abbrev pub system_of : Problem → System
 system_of p = record { names = p.names; signature = p.signature; cols = p.matrix.cols; rows = rows_of p.matrix }
 
+-- there is one name for each variable, as names are declared, and each entry is of the signature
 pub record IsProblem (p : Problem) : Type 0 where
   pub names : AreNames p.names
   pub count : length p.names ≡ length p.signature.kinds
@@ -38,6 +42,7 @@ abbrev pub FaultReads : {Y : Type 0} → ℕ → ProblemReason → Result Y Prob
 FaultReads line Memory given = line ≡ 0
 FaultReads line r given = given ≡ Err (record { line = line; reason = r })
 
+-- a value, seen through the view, is what is given, and so is a fault but want of memory
 abbrev pub Reads : {X Y : Type 0} → (X → Y) → Result X ProblemFault → Result Y ProblemFault → Type 0
 Reads view (Ok x) given = given ≡ Ok (view x)
 Reads view (Err e) given = FaultReads e.line e.reason given

@@ -12,7 +12,9 @@ use thiserror::Error;
 #[derive(Clone, Copy, Debug, PartialEq, Eq, Drop, Error)]
 #[error("line {line}")]
 pub struct ProblemFault {
+    /// The number of the line, where the first line has number 1; 0 for want of memory.
     pub line: usize,
+    /// What is wrong there.
     pub reason: ProblemReason,
 }
 
@@ -48,12 +50,14 @@ pub enum ProblemReason {
 }
 
 impl ProblemFault {
+    /// A fault of the line with this number, from 1.
     pub(crate) fn at(line: usize, reason: ProblemReason) -> ProblemFault
         ensures { result ≡ record { line = line; reason = reason } }
     {
         ProblemFault { line, reason }
     }
 
+    /// Want of memory, which has line 0.
     pub(crate) fn memory() -> ProblemFault
         ensures { result ≡ record { line = 0; reason = Memory } }
     {

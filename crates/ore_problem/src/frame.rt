@@ -18,7 +18,7 @@ use ore_rows::Matrix;
 use std::alloc::{AllocError, Global};
 use std::marker::Model;
 
-/// The number that stands for no coordinate.
+/// The index that stands for no coordinate.
 const NO_COORDINATE: u8 = 255;
 
 /// The number that stands for a step above 1000.
@@ -30,7 +30,9 @@ const MOST_VARIABLES: usize = 12;
 /// A declared name, and its kind.
 #[derive(Clone, Copy, Drop)]
 pub(crate) struct Declaration<'a> {
+    /// The bytes of the name.
     pub name: &'a [u8],
+    /// What the variable is.
     pub kind: VarKind,
 }
 
@@ -53,6 +55,7 @@ impl Model for Frame {
 }
 
 impl Frame {
+    /// No names yet, in this order of monomials.
     pub fn new(alloc: Global, order: Order) -> Frame
         ensures { result ≡ record { names = []; signature = signature_of [] order } }
     {
@@ -62,6 +65,7 @@ impl Frame {
         }
     }
 
+    /// The names in the order of declaration, one for each variable.
     pub fn names(&self) -> &Names
         ensures value { result.now ≡ self.now.names }
         ensures form { AreNames self.now.names }
@@ -71,6 +75,7 @@ impl Frame {
         &self.names
     }
 
+    /// The signature of the declared variables.
     pub fn signature(&self) -> &Signature
         ensures { result.now ≡ self.now.signature }
     {
@@ -91,7 +96,11 @@ impl Frame {
         }
     }
 
-    /// The declaration that the words of a line are, behind the others.
+    /// Adds the declaration that the words of a line are, behind the others.
+    ///
+    /// # Errors
+    /// The words are no declaration, or it has a fault behind the others; and want of memory. Then nothing is said of
+    /// the frame.
     #[tactic(auto, unfolding(crate::specs::Problems::declared_frame))]
     pub fn declare(
         &mut self,
@@ -166,7 +175,7 @@ fn kinds_of(alloc: Global, signature: &Signature) -> Result<Vec<VarKind>, AllocE
     Ok(kinds)
 }
 
-/// The declaration that some words are.
+/// The declaration that some words are, behind at most 12 names.
 #[tactic(auto, unfolding(crate::specs::Declarations::declared_by))]
 pub(crate) fn declared_by<'a>(names: &Names, words: &[&'a [u8]]) -> Option<Declaration<'a>>
     requires { length names.now ≤ 12 }

@@ -16,7 +16,10 @@ use std::alloc::Global;
 /// The greatest number of rows, and of columns.
 const MOST_SIZE: u32 = 64;
 
-/// The first line.
+/// Passes the first line.
+///
+/// # Errors
+/// It isn't `ore 1`, or there is none; and want of memory.
 #[tactic(auto, using(crate::proofs::ReadLemmas::fault_reads_on), unfolding(crate::specs::Problems::header_after))]
 pub(crate) fn header(alloc: Global, lines: &mut Lines) -> Result<(), ProblemFault>
     ensures reads { Reads (λ _. cursor_of lines.new) result (header_after (cursor_of lines.old)) }
@@ -31,6 +34,9 @@ pub(crate) fn header(alloc: Global, lines: &mut Lines) -> Result<(), ProblemFaul
 }
 
 /// The order that the second line names.
+///
+/// # Errors
+/// It names none, or there is no line; and want of memory.
 #[tactic(auto, using(crate::proofs::ReadLemmas::fault_reads_on), unfolding(crate::specs::Problems::order_after))]
 pub(crate) fn order(alloc: Global, lines: &mut Lines) -> Result<Order, ProblemFault>
     ensures reads { Reads (λ o. (o, cursor_of lines.new)) result (order_after (cursor_of lines.old)) }
@@ -56,7 +62,10 @@ fn order_of(words: &[&[u8]]) -> Option<Order>
     None
 }
 
-/// The declarations, and the words of the matrix line behind them.
+/// Adds the declarations to the frame. The words of the matrix line behind them.
+///
+/// # Errors
+/// The first line with a fault, or that there is no matrix line; and want of memory. Then nothing is said of the frame.
 pub(crate) fn declarations<'a>(
     alloc: Global,
     lines: &mut Lines<'a>,
@@ -85,7 +94,10 @@ fn is_matrix(words: &[&[u8]]) -> bool
     }
 }
 
-/// The numbers of rows and columns.
+/// The numbers of rows and columns, by the words of the matrix line. Each is at most 64.
+///
+/// # Errors
+/// The words aren't two numbers behind the first, or a number is too great, that of the rows first.
 #[tactic(auto, unfolding(crate::specs::Problems::sizes_of))]
 pub(crate) fn sizes(line: usize, words: &[&[u8]]) -> Result<(usize, usize), ProblemFault>
     ensures reads { Reads (λ n. n) result (sizes_of line (map (λ w. w.now) words.now)) }
@@ -121,7 +133,10 @@ fn are_counts(rows: &[u8], cols: &[u8]) -> bool
     is_count(rows) && is_count(cols)
 }
 
-/// The line behind the rows.
+/// Passes the line behind the rows.
+///
+/// # Errors
+/// It isn't `end`, or there is none; and want of memory.
 #[tactic(auto, using(crate::proofs::ReadLemmas::fault_reads_on), unfolding(crate::specs::Problems::end_after))]
 pub(crate) fn end(alloc: Global, lines: &mut Lines) -> Result<(), ProblemFault>
     ensures reads { Reads (λ _. cursor_of lines.new) result (end_after (cursor_of lines.old)) }

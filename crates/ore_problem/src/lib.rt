@@ -13,8 +13,8 @@
 //! just the accepted texts ([`laws::law_is_read_exactly`]). [`print_problem`] writes the one printed text, which
 //! is read as the same problem, whatever follows it ([`laws::law_printed_is_read`]).
 //!
-//! A reader passes over the text once. A line without an end, a number of any length and any bytes have an
-//! answer, and nothing is allocated by a number that a text names.
+//! A line without an end, a number of any length and any bytes have an answer. Not proved: a reader passes over the
+//! text once, and allocates nothing by a number that a text names.
 //!
 //! The crate stands on `ore_expr` for entries and names, on `ore_rows` for matrices, on `ore_mixed` for the ring
 //! in which entries are evaluated, on `thiserror` for the fault and on `itoa` for numbers.

@@ -29,6 +29,7 @@ impl<'a> Model for Lines<'a> {
 }
 
 impl<'a> Lines<'a> {
+    /// No line is passed yet.
     pub fn new(text: &'a [u8]) -> Lines<'a>
         ensures { result ≡ record { text = text.now; line = 0; used = 0 } }
     {
@@ -55,6 +56,9 @@ impl<'a> Lines<'a> {
     }
 
     /// The next line that is no comment, without its end.
+    ///
+    /// # Errors
+    /// No such line is left: the text lacks its end, behind its last line.
     pub fn due(&mut self) -> Result<&'a [u8], ProblemFault>
         ensures reads { Reads (λ line. (line.now, cursor_of self.new)) result (line_due (cursor_of self.old)) }
         ensures goes_on { IfOk result (λ _. suc self.old.used ≤ self.new.used) }

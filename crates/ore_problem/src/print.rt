@@ -15,6 +15,11 @@ use ore_rows::Matrix;
 use std::alloc::{AllocError, Global};
 
 /// The text of a problem, in its one printed form.
+///
+/// There is one name for each variable, and the entries of the matrix are of the signature.
+///
+/// # Errors
+/// Want of memory.
 #[tactic(auto, unfolding(crate::specs::ProblemText::problem_text))]
 pub fn print_problem(alloc: Global, problem: &Problem) -> Result<Vec<u8>, NoMemory>
     requires { IsProblem problem.now }

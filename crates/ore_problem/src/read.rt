@@ -17,7 +17,7 @@ use std::alloc::Global;
 /// The problem that a whole text is.
 ///
 /// # Errors
-/// The first faulty line, from 1, with what is wrong there.
+/// The first faulty line, from 1, with what is wrong there, and want of memory, with line 0.
 pub fn read_problem(alloc: Global, text: &[u8]) -> Result<Problem, ProblemFault>
     ensures reads { Reads system_of result (problem_of text.now) }
     ensures problem { IfOk result IsProblem }
@@ -34,7 +34,8 @@ pub fn read_problem(alloc: Global, text: &[u8]) -> Result<Problem, ProblemFault>
 /// number of lines.
 ///
 /// # Errors
-/// The first faulty line, from 1, with what is wrong there. What follows the problem is no fault.
+/// The first faulty line, from 1, with what is wrong there, and want of memory, with line 0. What follows the problem
+/// is no fault.
 pub fn read_prefix(alloc: Global, text: &[u8]) -> Result<(Problem, usize, usize), ProblemFault>
     ensures reads { Reads (λ r. (system_of r.0, (r.1, r.2))) result (prefix_sizes text.now) }
     ensures problem { IfOk result (λ r. IsProblem r.0) }

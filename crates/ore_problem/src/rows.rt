@@ -22,7 +22,10 @@ use ore_ring::Op;
 use ore_rows::Row;
 use std::alloc::{AllocError, Global};
 
-/// So many rows.
+/// So many rows of `cols` entries, each in the next line.
+///
+/// # Errors
+/// The first line with a fault, or that a line is missing; and want of memory.
 pub(crate) fn rows(
     alloc: Global,
     lines: &mut Lines,

@@ -12,7 +12,10 @@ ghost use Rattle.ore_problem.specs.Problems.{are_words};
 
 use std::alloc::{AllocError, Global};
 
-/// What stands between the spaces of a line.
+/// What stands between the spaces of a line, but for empty pieces.
+///
+/// # Errors
+/// Want of memory.
 pub(crate) fn split_words(alloc: Global, line: &[u8]) -> Result<Vec<&[u8]>, AllocError>
     ensures { IfOk result (λ words. map (λ w. w.now) words.items ≡ words_of line.now) }
 {
@@ -21,6 +24,7 @@ pub(crate) fn split_words(alloc: Global, line: &[u8]) -> Result<Vec<&[u8]>, Allo
         .collect(alloc)
 }
 
+/// Whether a word is this one.
 pub(crate) fn is_word(word: &[u8], known: &[u8]) -> bool
     ensures { result ≡ bytes_eq word.now known.now }
 {
@@ -50,6 +54,7 @@ pub(crate) fn are_two(words: &[&[u8]], first: &[u8], second: &[u8]) -> bool
     }
 }
 
+/// A letter, and at most 15 letters, digits or underscores behind it.
 pub(crate) fn is_name(word: &[u8]) -> bool
     ensures { result ≡ is_name_of word.now }
 {
@@ -69,6 +74,7 @@ fn are_name_bytes(bytes: &[u8]) -> bool
         .all(|b| b.is_ascii_alphanumeric() || *b == b'_')
 }
 
+/// One digit or more, and nothing else.
 pub(crate) fn is_digits(word: &[u8]) -> bool
     ensures { result ≡ is_digits_of word.now }
 {

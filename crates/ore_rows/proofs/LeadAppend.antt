@@ -3,6 +3,7 @@
 --     coefficient-append_left, coefficient-append_own     the coefficient of a term before the new entry, and at it
 --     within_row                what has a coefficient stands within the row
 --     later_column              a term of a later column is greater where its monomial is
+--     Tops, TopsEntry           no term of a row, and none of the new entry, is greater than a term
 --     lead-append_zero          the lead stays where a zero is appended
 --     lead-append_first         it is that of the appended entry where all before are zero
 --     lead-append_less, lead-append_greater     and else the greater of both

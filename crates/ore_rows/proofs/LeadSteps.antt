@@ -1,5 +1,6 @@
 -- One turn of the loop that looks for the lead of a row.
---     found_next     the greater lead is that of one more entry
+--     IsOperatorLead    no lead and the operator zero, or the lead of an operator with its coefficient
+--     found_next        the greater lead is that of one more entry
 use Rattle.std.proofs.Common.{◌≡◌, ℕ, ◌+◌, ◌<◌, Bool, true, false, cond, List, [], ◌∷◌, ◌++◌, length, take, refl, sym, ◌∙◌, subst, arith}
 use Rattle.std.specs.Prelude.{MatchOption}
 use Rattle.std.specs.declared.option.Option.{Option}

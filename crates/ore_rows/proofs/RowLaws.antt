@@ -1,15 +1,32 @@
 -- The laws of rows and matrices, over any domain.
+--     scale-zero_row, scale-row_plus, scale-scale    multiples of zeros, of sums and of multiples of rows
 --     of_zero_row, of_row_plus, of_row_scale, of_combine
---                                    zeros, sums, multiples and combinations of rows of a signature are of it
---     scale-combine                  a multiple of a combination of rows is a combination of them
---     scale-reflects                 where a nonzero operator takes a row to zeros, the row is zeros
---     torsion_free                   exactness leaves no torsion
---     entry                          the entry of a row at a place
---     entry-combine                  an entry of a combination is the coefficients times a column
---     adjoint-product, adjoint_twice     the transposed adjoint of a product, and of a transposed adjoint
---     combine-combine, matrix_assoc  combinations of combinations; products of matrices are associative
---     module_plus, module_scale      row modules are closed under sums and multiples by operators of the signature
---     long_adjoint                   the shape of the transposed adjoint
+--                                       zeros, sums, multiples and combinations of rows of a signature are of it
+--     scale-combine                     a multiple of a combination of rows is a combination of them
+--     scale-reflects                    where a nonzero operator takes a row to zeros, the row is zeros
+--     length-row_scale, length-row_plus, length-zero_row, length-combine
+--                                       the lengths of multiples, sums, zeros and combinations
+--     torsion_free                      exactness leaves no torsion
+--     nil, entry                        the empty row; the entry of a row at a place, zero past the last
+--     entry-zero_row, entry-row_plus, entry-row_scale    an entry of zeros, of a sum and of a multiple
+--     adjoint-dot                       the adjoint of a row times a column, as the adjoints of the column times those
+--                                       of the row
+--     row_at                            a row of a matrix of n columns has n entries
+--     length-adjoint_columns            each of the columns gives one row of adjoints
+--     row_of_columns                    the row at a place has the adjoints of the column at that place
+--     column_row, length-column         a column has one entry from each row
+--     column-adjoint                    the columns of the transposed adjoint are the adjoints of the rows
+--     entry-combine                     an entry of a combination is the coefficients times a column
+--     long_columns                      a row of adjoints has as many entries as the matrix has rows
+--     adjoint-product, adjoint_twice    the transposed adjoint of a product, and of a transposed adjoint
+--     row_swap, zero_row_twice, zero_row_plus    sums of four rows in another order; sums with zeros
+--     scale_sum, none_scale_row         multiples of a row by a sum, and by zero
+--     combine-plus, combine-zero        combinations with the sums of coefficients, and with zeros
+--     combine-combine, matrix_assoc     combinations of combinations; products of matrices are associative
+--     module_plus, module_scale         row modules are closed under sums and multiples by operators of the signature
+--     long_adjoint, length-adjoint      the shape of the transposed adjoint: its columns are as many as the rows, and
+--                                       its rows as the columns
+--     row_of_adjoint                    a row of it has the adjoints of a column
 use Rattle.std.proofs.Common.{◌≡◌, ◌≢◌, ⊎_elim, ℕ, zero, suc, pred, ◌+◌, ◌<◌, List, [], ◌∷◌, length, map, replicate, get_or, refl, sym, ap, ◌∙◌, subst, arith}
 use Rattle.std.specs.List.{AllByRecursion}
 use Rattle.std.proofs.lemmas.List.{get_or-map, length-map, ext_get_or}

@@ -20,6 +20,7 @@ use Rattle.ore_ring.specs.Product.{times}
 use Rattle.ore_ring.specs.Within.{minus_within, times_within}
 use Rattle.ore_rows.specs.Rows.{Row}
 
+-- the product and the difference of two operators, each a value or the cause of a stop, and whether a degree fits
 pub record Arithmetic (K : Domain) : Type 0 where
   pub product : Operator K → Operator K → Result (Operator K) Cause
   pub difference : Operator K → Operator K → Result (Operator K) Cause

@@ -8,6 +8,7 @@
 --     step_operator                the fraction times the monomial
 --     Work                         a row, its cofactor row, and the steps that made them
 --     after                        what is left of a row when steps are taken from it
+--     step_by                      the step by a basis row that takes a term of a row away
 --     next_step                    the step that a row calls for, if a lead divides its lead
 --     less_multiple                a row less a multiple of another
 --     subtract                     a row and its cofactor row, less a step
@@ -37,6 +38,7 @@ use Rattle.ore_rows.specs.Arithmetic.{Arithmetic, scaled, less}
 
 -- ---- rows with lead coefficient 1
 
+-- a basis row, its cofactor row and its lead; that the coefficient is 1 is said by `IsMonic`
 pub record Monic (R : Type 0) : Type 0 where
   pub row : R
   pub cofactor : R
@@ -46,15 +48,19 @@ pub record Monic (R : Type 0) : Type 0 where
 abbrev pub IsMonic : (K : Domain) → Order → Monic (Row K) → Type 0
 IsMonic K o b = IsRowLead K o b.row b.lead K.one
 
+-- the noted lead of each basis row is its lead, with the coefficient 1
 abbrev pub AreMonic : (K : Domain) → Order → List (Monic (Row K)) → Type 0
 AreMonic K o basis = All (IsMonic K o) basis
 
+-- the rows of a basis alone, in order
 abbrev pub rows_of : {R : Type 0} → List (Monic R) → List R
 rows_of basis = map (λ b. b.row) basis
 
+-- the cofactor rows alone, in order
 abbrev pub cofactors_of : {R : Type 0} → List (Monic R) → List R
 cofactors_of basis = map (λ b. b.cofactor) basis
 
+-- the noted leads alone, in order
 abbrev pub leads_of : {R : Type 0} → List (Monic R) → List Term
 leads_of basis = map (λ b. b.lead) basis
 
@@ -72,11 +78,13 @@ lead_at basis i = get_or (leads_of basis) i origin
 
 -- ---- steps
 
+-- the number times the monomial, from the left, times the basis row at the place index, where the first has place 0
 pub record Step (K : Domain) : Type 0 where
   pub index : ℕ
   pub monomial : Monomial
   pub number : K.Number
 
+-- what is left of a row and of its cofactor row, and the steps that were taken from them, in order
 pub record Work (K : Domain) : Type 0 where
   pub row : Row K
   pub cofactor : Row K

@@ -14,7 +14,8 @@
 --     IsTorsion, IsTorsionFree       a nonzero operator of the signature takes a row into a row module; of the rows of
 --                                    the signature only its own are taken there
 --     matrix_times                   the product of matrices
---     column, transpose_adjoint      a column of a matrix; the transpose, each entry replaced by its adjoint
+--     column, adjoint_columns        a column of a matrix; columns from one on, each as a row of adjoints
+--     transpose_adjoint              the transpose, each entry replaced by its adjoint
 use Rattle.std.specs.Prelude.{◌≡◌, ◌≢◌, ◌↔◌, ℕ, zero, suc, nat_eq, cond, List, [], ◌∷◌, length, map, replicate, get_or}
 use Rattle.std.specs.List.{AllByRecursion, range_with_len}
 use Rattle.ore_algebra.specs.Domain.{Domain}

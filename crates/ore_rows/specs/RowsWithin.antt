@@ -2,8 +2,9 @@
 -- in which they stand here.
 --     scale_within                       an operator times each entry
 --     sum_within, difference_within      of two rows, entry by entry
+--     product_added                      a product of operators, added to an operator
 --     dot_within                         a row times a column
---     combine_within                     a row times a matrix, column by column
+--     combine_from, combine_within       a row times some columns of a matrix, or all of them, column by column
 --     matrix_times_within                a matrix times a matrix, row by row
 use Rattle.std.specs.Prelude.{ℕ, zero, suc, List, [], ◌∷◌}
 use Rattle.std.specs.List.{zip}

@@ -45,21 +45,26 @@ pub data Account (K : Domain) : Type 0 where
   Treated : List (Step K) → Account K
   Skipped : ℕ → Account K
 
+-- the pair of the basis rows at the places first and second, where the first row has place 0, and how it was dealt with
 pub record Line (K : Domain) : Type 0 where
   pub first : ℕ
   pub second : ℕ
   pub account : Account K
 
+-- the basis so far, the pairs that were dealt with, and the syzygies that were found: rows c with cA = 0, for the
+-- matrix A of the run
 pub record State (K : Domain) : Type 0 where
   pub basis : List (Monic (Row K))
   pub listed : List (Line K)
   pub syzygies : List (Row K)
 
+-- the choice isn't lawful in the state it comes to, or an operation stops for a cause
 pub data Refusal : Type 0 where
   Unlawful : Refusal
   Stopped : Cause → Refusal
 
 module _ (K : Domain) where
+  -- k times the monomial 1
   abbrev pub constant : K.Number → Operator K
   constant k = single K plain_cmp unit k
 
@@ -69,10 +74,12 @@ module _ (K : Domain) where
 
   -- ---- pairs
 
+  -- the pair stands in the list in this order of its rows
   unfoldable pub is_listed : ℕ → ℕ → List (Line K) → Bool
   is_listed i j [] = false
   is_listed i j (l ∷ ls) = (nat_eq i l.first && nat_eq j l.second) || is_listed i j ls
 
+  -- the pair, or the one with its rows exchanged, stands in the list
   abbrev pub either_listed : ℕ → ℕ → List (Line K) → Bool
   either_listed i j ls = is_listed i j ls || is_listed j i ls
 
@@ -110,6 +117,7 @@ module _ (K : Domain) where
   unfoldable pub IsComplete : State K → Type 0
   IsComplete st = (i j : ℕ) (a b : Monic (Row K)) → slice_get st.basis i ≡ Some a → slice_get st.basis j ≡ Some b → i < j → a.lead.column ≡ b.lead.column → is_listed i j st.listed ≡ true
 
+-- a value stays; a cause becomes the refusal that has it
 unfoldable pub stopping : {X : Type 0} → Result X Cause → Result X Refusal
 stopping (Ok x) = Ok x
 stopping (Err cause) = Err (Stopped cause)

@@ -14,6 +14,7 @@ use Rattle.ore_monomial.specs.Monomial.{plain_cmp}
 use Rattle.ore_ring.specs.Ordered.{Ordered, ordered_code}
 use Rattle.ore_rows.specs.Rows.{Row}
 
+-- the number of columns, also where there is no row, and the rows in order, each the list of its entries
 pub record OperatorMatrix : Type 0 where
   pub cols : ℕ
   pub rows : List (List Ordered)
@@ -40,8 +41,10 @@ places j rows = map (λ r. get_or r j (none rationals plain_cmp)) (map sums_of r
 
 -- ---- codes
 
+-- the codes of the entries, in order
 abbrev pub row_code : Coded (List Ordered)
 row_code = coded_list ordered_code
 
+-- the number of columns beside the codes of the rows, in order
 abbrev pub matrix_code : Coded OperatorMatrix
 matrix_code = code_by (ℕ × List (List Ordered)) (coded× coded_ℕ (coded_list row_code)) (λ m. (m.cols, m.rows)) (λ p. record { cols = p.0; rows = p.1 }) (λ _. refl)

@@ -1,11 +1,12 @@
 -- What contracts see of a stored basis: rows and cofactor rows beside their leads.
 --     StoredBasis             the numbers of columns and of cofactors, and the basis rows
---     monics                  the basis rows, of plain operators: what the definitions of reduction speak of
+--     monic_of, monics        a basis row, and all of them, of plain operators: what the definitions of reduction
+--                             speak of
 --     HaveWidths              each row has one entry a column, and each cofactor row its number of entries
 --     AllBelong               each entry belongs to a signature
 --     with_leads              rows and cofactor rows, each beside its lead
 --     IsStored                there is a lead for each row, and the rows have their widths
---     basis_code              the code of a basis as lists of numbers
+--     monic_code, basis_code  codes of a basis row and of a basis as lists of numbers
 use Rattle.std.specs.Prelude.{◌≡◌, ℕ, List, map, length, refl}
 use Rattle.std.specs.List.{All, zip}
 use Rattle.std.specs.Coded.{Coded, coded×, coded_list, coded_ℕ, code_by}
@@ -21,6 +22,7 @@ use Rattle.ore_rows.specs.Reduction.{Monic}
 use Rattle.ore_rows.specs.Stored.{sums_of, row_code}
 use Rattle.ore_rows.specs.declared.basis.Entry.{Entry}
 
+-- the numbers of entries of a row and of a cofactor row, and the basis rows in order
 pub record StoredBasis : Type 0 where
   pub cols : ℕ
   pub width : ℕ
@@ -48,12 +50,15 @@ AllBelong s items = All (λ b. All (Belongs s) b.row × All (Belongs s) b.cofact
 abbrev pub with_leads : List Entry → List Term → List (Monic (List Ordered))
 with_leads rows leads = map (λ p. record { row = p.0.row; cofactor = p.0.cofactor; lead = p.1 }) (zip rows leads)
 
+-- there are as many leads as rows, and rows have cols entries, cofactor rows width entries
 pub record IsStored (cols width : ℕ) (rows : List Entry) (leads : List Term) : Type 0 where
   pub long : length leads ≡ length rows
   pub widths : All (λ e. (length e.row ≡ cols) × (length e.cofactor ≡ width)) rows
 
+-- the codes of the row and of its cofactor row, beside the monomial and the column of the lead
 abbrev pub monic_code : Coded (Monic (List Ordered))
 monic_code = code_by ((List Ordered × List Ordered) × (Monomial × ℕ)) (coded× (coded× row_code row_code) (coded× monomial_code coded_ℕ)) (λ b. ((b.row, b.cofactor), (b.lead.monomial, b.lead.column))) (λ p. record { row = p.0.0; cofactor = p.0.1; lead = record { monomial = p.1.0; column = p.1.1 } }) (λ _. refl)
 
+-- both numbers of entries, beside the codes of the basis rows in order
 abbrev pub basis_code : Coded StoredBasis
 basis_code = code_by ((ℕ × ℕ) × List (Monic (List Ordered))) (coded× (coded× coded_ℕ coded_ℕ) (coded_list monic_code)) (λ b. ((b.cols, b.width), b.items)) (λ p. record { cols = p.0.0; width = p.0.1; items = p.1 }) (λ _. refl)

@@ -24,8 +24,11 @@ struct Entry {
     cofactor: Row,
 }
 
-/// Rows of `cols` entries whose lead coefficients are 1, each with a cofactor row of `width` entries and
-/// with its lead.
+/// Rows of `cols` entries, each with a cofactor row of `width` entries and with its lead.
+///
+/// The type's invariant has these numbers of entries, and that there is one lead for each row. It doesn't have that a
+/// lead is that of its row, with coefficient 1: [`Basis::push`] asks it of each row, for the signature that it is given,
+/// and callers owe it of all rows where it is needed (`AreMonic` in `specs/Reduction.antt`).
 #[derive(Drop)]
 pub struct Basis {
     cols: usize,
@@ -47,7 +50,7 @@ impl Model for Basis {
 }
 
 impl Basis {
-    /// The basis without rows.
+    /// The basis without rows, for rows of `cols` and cofactor rows of `width` entries.
     pub fn new(alloc: Global, cols: usize, width: usize) -> Basis
         ensures { result ≡ record { cols = cols; width = width; items = [] } }
     {
@@ -81,7 +84,7 @@ impl Basis {
         self.width
     }
 
-    /// The row at place `k`, where the first has place 0.
+    /// The row at place `k`, which is below [`Basis::len`]; the first has place 0.
     pub fn row(&self, k: usize) -> &Row
         requires { k < length self.now.items }
         ensures value { slice_get (rows_of self.now.items) k ≡ Some result.now }
@@ -91,7 +94,7 @@ impl Basis {
         &entry.row
     }
 
-    /// The cofactor row at place `k`.
+    /// The cofactor row at place `k`, which is below [`Basis::len`]; the first has place 0.
     pub fn cofactor(&self, k: usize) -> &Row
         requires { k < length self.now.items }
         ensures value { slice_get (cofactors_of self.now.items) k ≡ Some result.now }
@@ -108,10 +111,13 @@ impl Basis {
         &self.leads
     }
 
-    /// One more row with its cofactor row, at the end. Its lead coefficient is 1.
+    /// One more row with its cofactor row, at the end; its lead is found and kept.
+    ///
+    /// The row has [`Basis::cols`] entries and the cofactor row [`Basis::width`], all of the signature, and the lead
+    /// coefficient of the row is 1.
     ///
     /// # Errors
-    /// Want of memory. Then nothing has changed.
+    /// Want of memory. Then the basis is the same as before, and both rows are dropped.
     pub fn push(&mut self, sig: &Signature, row: Row, cofactor: Row) -> Result<(), NoMemory>
         requires row_width { length row ≡ self.old.cols }
         requires cofactor_width { length cofactor ≡ self.old.width }

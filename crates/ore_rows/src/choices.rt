@@ -4,7 +4,8 @@ ghost use Rattle.std.specs.Prelude.{◌≡◌, ◌<◌, length, slice_get};
 
 use std::marker::Model;
 
-/// What is done with a pair of basis rows, given by their indices.
+/// What is done with a pair of basis rows, given by their places in the basis, where the first row has place 0. In a
+/// lawful choice `i` is below `j`.
 #[derive(Clone, Copy, Debug, PartialEq, Eq, Drop)]
 pub enum Choice {
     /// The combination of the two rows in which their leads cancel is reduced.
@@ -50,7 +51,7 @@ impl Choices {
         self.items.len()
     }
 
-    /// The choice at place `k`, where the first has place 0.
+    /// The choice at place `k`, which is below [`Choices::len`]; the first has place 0.
     pub fn get(&self, k: usize) -> &Choice
         requires { k < length self.now }
         ensures { slice_get self.now k ≡ Some result.now }
@@ -96,7 +97,7 @@ impl Runs {
         self.items.len()
     }
 
-    /// The choices of the run at place `k`, where the first has place 0.
+    /// The choices of the run at place `k`, which is below [`Runs::len`]; the first has place 0.
     pub fn get(&self, k: usize) -> &Choices
         requires { k < length self.now }
         ensures { slice_get self.now k ≡ Some result.now }

@@ -13,8 +13,9 @@ use ore_monomial::{Exps, Order, Signature, compare};
 use ore_rational::Rational;
 use ore_ring::lead;
 
-/// The greatest term of a row: its column, its monomial and its coefficient. There is none in a row of zeros.
-/// Of terms with one monomial that in the first column is the greatest.
+/// The greatest term of a row in the order of the signature: its column, where the first is 0, its monomial and its
+/// coefficient. There is none in a row of zeros. Of terms with one monomial that in the first column is the greatest.
+/// The entries are of the signature.
 pub fn row_lead(sig: &Signature, row: &Row) -> Option<(usize, Exps, Rational)>
     requires { All (Belongs sig.now) row.now }
     ensures { MatchOption result (IsZeroRow row.now) (λ t. IsRowLead rationals sig.now.order (sums_of row.now) (record { monomial = t.1; column = t.0 }) t.2) }

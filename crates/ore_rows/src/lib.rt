@@ -12,8 +12,9 @@
 //! is the one answer beside it. [`row_copy`] and [`stack`], which puts a row above a matrix, stop for want of
 //! memory alone.
 //!
-//! A [`Basis`] keeps rows with lead coefficient 1, each with a cofactor row and beside its lead. What it is seen as
-//! stands in `specs/StoredBasis.antt`.
+//! A [`Basis`] keeps rows, each with a cofactor row and beside its lead. What it is seen as stands in
+//! `specs/StoredBasis.antt`. Its type knows how many entries its rows have, and not that their lead coefficients are 1:
+//! [`Basis::push`] asks that of each row, and callers owe it where all rows must be so.
 //!
 //! Contracts see a row as the list of its entries, and a matrix as its number of columns beside the list
 //! of its rows (`specs/Stored.antt`). Whoever holds a matrix can learn from [`Matrix::cols`] that its rows

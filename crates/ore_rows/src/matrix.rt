@@ -6,7 +6,7 @@ ghost use Rattle.ore_rows.specs.Stored.{HasColumns};
 use crate::row::Row;
 use std::marker::Model;
 
-/// A number of columns, and rows with one entry for each column.
+/// A number of columns, below 2^63, and rows with one entry for each column.
 #[derive(Drop)]
 pub struct Matrix {
     cols: usize,
@@ -27,7 +27,9 @@ impl Model for Matrix {
 }
 
 impl Matrix {
-    /// The matrix with these rows, in their order. There may be none.
+    /// The matrix with these rows, in their order, each of `cols` entries. There may be none.
+    ///
+    /// `cols` is below 2^63.
     pub fn from_rows(cols: usize, rows: Vec<Row>) -> Matrix
         requires fits { HasColumns cols rows.items }
         requires few { cols < 2 ^ 63 }
@@ -61,7 +63,7 @@ impl Matrix {
         self.rows.as_slice()
     }
 
-    /// The row at place `k`, where the first has place 0.
+    /// The row at place `k`, which is below [`Matrix::rows`]; the first has place 0. It has [`Matrix::cols`] entries.
     pub fn row(&self, k: usize) -> &Row
         requires { k < length self.now.rows }
         ensures value { slice_get self.now.rows k ≡ Some result.now }

@@ -16,7 +16,8 @@ use ore_monomial::RingStop;
 use ore_ring::{Op, OreRing};
 use std::alloc::Global;
 
-/// The row `c` times the matrix `m`: the columns in order, and for each the products in order.
+/// The row `c` times the matrix `m`: q entries times q rows by p columns make p entries. The columns are taken in
+/// order, and for each the products in order. All entries are of the signature of the ring.
 ///
 /// # Errors
 /// The stop of the first product or sum that stops, and want of memory.
@@ -36,7 +37,8 @@ pub fn combine<R: OreRing>(ring: &R, alloc: Global, c: &Row, m: &Matrix) -> Resu
     Ok(Row::from_vec(out))
 }
 
-/// The product of two matrices, row by row.
+/// The product of two matrices, row by row: q rows by r columns times r rows by p columns make q rows by p
+/// columns. All entries are of the signature of the ring.
 ///
 /// # Errors
 /// The stop of the first row that stops, and want of memory.
@@ -60,7 +62,8 @@ pub fn times<R: OreRing>(
     Ok(Matrix::from_rows(b.cols(), out))
 }
 
-/// The row `z` above the rows of `m`, all of them copied.
+/// The row `z` above the rows of `m`, all of them copied: p entries above q rows by p columns make q + 1 rows by
+/// p columns. All entries are of the signature of the ring.
 ///
 /// # Errors
 /// Want of memory.

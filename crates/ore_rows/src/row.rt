@@ -39,7 +39,7 @@ impl Row {
         self.entries.len()
     }
 
-    /// The entry at place `k`, where the first has place 0.
+    /// The entry at place `k`, which is below [`Row::len`]; the first has place 0.
     pub fn entry(&self, k: usize) -> &Op
         requires { k < length self.now }
         ensures { slice_get self.now k ≡ Some result.now }

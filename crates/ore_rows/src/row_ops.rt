@@ -14,7 +14,7 @@ use ore_monomial::RingStop;
 use ore_ring::{Op, OreRing};
 use std::alloc::Global;
 
-/// `f` times each entry, in order.
+/// `f` times each entry, in order. `f` and the entries are of the signature of the ring.
 ///
 /// # Errors
 /// The stop of the first product that stops, and want of memory.
@@ -32,7 +32,7 @@ pub fn scale<R: OreRing>(ring: &R, alloc: Global, f: &Op, row: &Row) -> Result<R
     Ok(Row::from_vec(out))
 }
 
-/// An equal row.
+/// An equal row, its entries copied in order.
 ///
 /// # Errors
 /// Want of memory.
@@ -47,7 +47,7 @@ pub fn row_copy<R: OreRing>(ring: &R, alloc: Global, row: &Row) -> Result<Row, R
     Ok(Row::from_vec(out))
 }
 
-/// The sum of two rows of one length, entry by entry.
+/// The sum of two rows of one length, entry by entry. All entries are of the signature of the ring.
 ///
 /// # Errors
 /// The stop of the first sum that stops, and want of memory.
@@ -66,7 +66,7 @@ pub fn row_add<R: OreRing>(ring: &R, alloc: Global, a: &Row, b: &Row) -> Result<
     Ok(Row::from_vec(out))
 }
 
-/// The difference of two rows of one length, entry by entry.
+/// The difference of two rows of one length, entry by entry. All entries are of the signature of the ring.
 ///
 /// # Errors
 /// The stop of the first difference that stops, and want of memory.

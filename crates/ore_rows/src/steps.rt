@@ -6,11 +6,14 @@ use ore_monomial::Exps;
 use ore_rational::Rational;
 use std::marker::Model;
 
-/// A fraction times a monomial times the row at an index of a basis.
+/// A fraction times a monomial, from the left, times a row of a basis.
 #[derive(Drop)]
 pub struct Step {
+    /// The place of the basis row, where the first has place 0.
     pub index: usize,
+    /// The monomial.
     pub exps: Exps,
+    /// The fraction.
     pub coef: Rational,
 }
 
@@ -67,7 +70,7 @@ impl Steps {
         self.items.len()
     }
 
-    /// The step at place `k`, where the first has place 0.
+    /// The step at place `k`, which is below [`Steps::len`]; the first has place 0.
     pub fn get(&self, k: usize) -> &Step
         requires { k < length self.now }
         ensures { slice_get self.now k ≡ Some result.now }

@@ -17,7 +17,8 @@ use ore_rational::Rational;
 use ore_ring::Op;
 use std::alloc::Global;
 
-/// The row of `n` zeros, but for a 1 at place `i`.
+/// The row of `n` zeros, but for a 1 at place `i`, where the first has place 0. There is no 1 where `i` isn't below
+/// `n`.
 ///
 /// # Errors
 /// Want of memory.
@@ -33,7 +34,9 @@ pub fn unit_row(alloc: Global, sig: &Signature, n: usize, i: usize) -> Result<Ro
     Ok(Row::from_vec(out))
 }
 
-/// The matrix of the `n` unit rows of `n` entries.
+/// The matrix of the `n` unit rows of `n` entries: `n` rows by `n` columns.
+///
+/// `n` is below 2^63.
 ///
 /// # Errors
 /// Want of memory.

@@ -13,7 +13,13 @@ use ore_rows::Matrix;
 /// How many pairs a run may treat.
 const BUDGET: u32 = 100_000;
 
-/// Runs on the rows of a matrix, and prints the numbers of the run in a line.
+/// Runs on the rows of a matrix, and prints the numbers of the run in a line. The live chooser skips no pair, so each
+/// event, and each choice, is a treated pair.
+///
+/// The entries of the matrix are of the signature of the ring.
+///
+/// # Errors
+/// The line can't be printed. That the run stops is none: the line says so.
 pub fn print_run(rt: &HostRuntime, ring: &MixedRing, name: &str, a: &Matrix) -> Result<(), Fault>
     requires { All (All (Belongs ring.now)) a.now.rows }
 {
@@ -52,7 +58,7 @@ fn steps(events: &Events) -> usize {
     count
 }
 
-// How many pairs were treated in the first run.
+// How many pairs were chosen in the first run, including the one at which it stopped.
 fn treated(chooser: LiveChooser) -> usize {
     let runs = chooser.into_runs();
     if runs.len() == 0 {

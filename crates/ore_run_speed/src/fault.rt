@@ -7,7 +7,7 @@ use std::io;
 /// Why the program ends before all is printed.
 #[derive(Clone, Copy, Debug, PartialEq, Eq, Drop)]
 pub enum Fault {
-    /// The input isn't a problem.
+    /// The input isn't a problem, an operation in an entry of it stops, or there is no memory to read it.
     Problem,
     /// An operation on operators stopped.
     Ring(RingStop),
@@ -28,6 +28,7 @@ impl Fault {
     }
 }
 
+// Each fault of the problem is one, want of memory too.
 impl From<ProblemFault> for Fault {
     fn from(_fault: ProblemFault) -> Fault {
         Fault::Problem

@@ -151,7 +151,10 @@ impl Parser {
         }
     }
 
-    /// Takes a token that begins at this place.
+    /// Takes a token that begins at this place of the text.
+    ///
+    /// # Errors
+    /// The fault of the token, with this place, and want of memory, as a stop. Then nothing is said of the state.
     pub(crate) fn take(
         &mut self,
         names: &Names,
@@ -318,7 +321,10 @@ impl Parser {
         Ok(())
     }
 
-    /// The instructions, where the text ends here.
+    /// The instructions, where the text ends at this place.
+    ///
+    /// # Errors
+    /// Syntax, with this place, where the expression isn't whole, and want of memory, as a stop.
     pub(crate) fn finish(self, place: usize) -> Result<Vec<Instruction>, TextFault>
         ensures { Reads (λ made. made.items) result (ends place (state_of self)) }
     {
