@@ -14,4 +14,5 @@ pub mod Bases
 pub mod Exact
 pub mod Outside
 pub mod Examples
+pub mod PairRuleLaws
 pub mod StoredPairs

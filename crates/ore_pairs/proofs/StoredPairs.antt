@@ -4,11 +4,13 @@
 --     bind_flat                    three operations in order, and then what goes on with their value
 --     s_row_parts                  the combination of a pair as that of its rows and that of its cofactor rows
 --     s_row_degree, s_row_first, s_row_second, s_row_gives     where it stops, and what it gives
---     stops_degree, stops_first, stops_second, combined        the same of the code's pieces
+--     lead_first, lead_second, common_here                     the leads of a pair, and their common multiple
+--     stops_degree, stops_first, stops_second, combined        where the combination stops, and what it gives, by the
+--                                  code's pieces
 --     one_more_exponent, divides_to_twelve     dividing, exponent by exponent
 --     lead_read                    the lead that is read at a place
---     skip_inside, skip_outside    whether a pair may be skipped, from what the code reads
---     tests_fail_first, tests_fail_second, tests_hold    some tests in order, from what is known of the first
+--     skip_inside, skip_outside    whether a run may skip a pair, from what the code reads
+--     skip_is                      a run may skip a pair exactly where the rule for pairs lets it
 --     found_is_in, added_is_in     the set finds the pairs of its list, and one more that was added
 use Rattle.std.proofs.Common.{◌≡◌, ◌⊎◌, ⊎_elim, ℕ, ◌+◌, ◌<◌, ◌≤◌, Bool, true, false, List, [], ◌∷◌, length, get_or, refl, sym, ap, ◌∙◌, subst, arith, rules}
 use Rattle.std.specs.Prelude.{◌&&◌, ◌||◌, nat_eq, nat_le, not, cond}
@@ -20,6 +22,7 @@ use Rattle.std.specs.declared.option.Option.TheVariants.{None, Some}
 use Rattle.std.specs.declared.result.Result.{Result}
 use Rattle.std.specs.declared.result.Result.TheVariants.{Ok, Err}
 use Rattle.std.specs.BTreeMap.{is_at}
+use Rattle.std.proofs.lemmas.Bool.{cases_lt}
 use Rattle.std.proofs.lemmas.Bool.Decides.{nat_tests}
 use Rattle.std.proofs.lemmas.List.{get_or-map, length-map}
 use Rattle.std.proofs.lemmas.Option.{slice_get_within, slice_get-get_or, slice_get_past, get_or_from_slice_get}
@@ -38,21 +41,25 @@ use Rattle.ore_monomial.proofs.Stops.{fails_like}
 use Rattle.ore_ring.specs.Ordered.{Ordered}
 use Rattle.ore_leads.specs.FirstDivisor.{divides_term}
 use Rattle.ore_rows.specs.Arithmetic.{Arithmetic, within, scaled, less}
-use Rattle.ore_rows.specs.Reduction.{Monic, IsMonic, AreMonic, Work, rows_of, cofactors_of, leads_of, lead_at, origin}
+use Rattle.ore_rows.specs.Reduction.{Monic, IsMonic, AreMonic, Work, rows_of, cofactors_of, leads_of, origin}
 use Rattle.ore_rows.specs.Rows.{Row}
-use Rattle.ore_rows.specs.Run.{State, common, either_listed, may_skip, multiplier, s_row}
+use Rattle.ore_rows.specs.Run.{State, common, multiplier, s_row}
+use Rattle.ore_rows.specs.Run as run
 use Rattle.ore_rows.specs.Stored.{sums_of}
 use Rattle.ore_rows.specs.StoredBasis.{StoredBasis, AllBelong, monic_of, monics}
 use Rattle.ore_rows.proofs.BasisParts.{leads_monics, row_value, cofactor_value, lead_of_signature}
 use Rattle.ore_pairs.specs.Listed.{is_in, AreAt, HasPairsOf, multiples_less}
+use Rattle.ore_pairs.specs.PairRule.{either_listed, may_skip}
+use Rattle.ore_pairs.specs.Steps.{lead_at, pair_term}
+use Rattle.ore_pairs.proofs.PairRuleLaws.{skip_past, skip_within}
 
 -- ---- reading the basis
 
 blank : Monic (List Ordered)
 blank = record { row = []; cofactor = []; lead = origin }
 
-pub lead_of_basis : (s : Signature) (b : StoredBasis) (k : ℕ) → k < length b.items → AllBelong s b.items → AreMonic rationals s.order (monics b) → MonomialOf s (lead_at b.items k).monomial
-lead_of_basis s b k l belong monic = subst (λ (t : Term). MonomialOf s t.monomial) (sym (get_or-map (λ (m : Monic (List Ordered)). m.lead) b.items k blank origin l)) (lead_of_signature s item.row item.lead rationals.one (belong k blank l).0 here)
+pub lead_of_basis : (s : Signature) (b : StoredBasis) (leads : List Term) (k : ℕ) → leads ≡ leads_of b.items → k < length b.items → AllBelong s b.items → AreMonic rationals s.order (monics b) → MonomialOf s (lead_at leads k).monomial
+lead_of_basis s b leads k stored l belong monic = subst (λ (ts : List Term). MonomialOf s (lead_at ts k).monomial) (sym stored) (subst (λ (t : Term). MonomialOf s t.monomial) (sym (get_or-map (λ (m : Monic (List Ordered)). m.lead) b.items k blank origin l)) (lead_of_signature s item.row item.lead rationals.one (belong k blank l).0 here))
   where
     item : Monic (List Ordered)
     item = get_or b.items k blank
@@ -67,7 +74,7 @@ module _ (b : StoredBasis) (k : ℕ) (a : Monic (Row rationals)) (at : slice_get
   itself : get_or (monics b) k a ≡ a
   itself = get_or_from_slice_get (monics b) k a a at
 
-  pub lead_here : lead_at b.items k ≡ a.lead
+  lead_here : lead_at (leads_of b.items) k ≡ a.lead
   lead_here = ap (λ ls. get_or ls k origin) (sym (leads_monics b.items)) ∙ get_or-map (λ (m : Monic (Row rationals)). m.lead) (monics b) k a origin inside ∙ ap (λ (m : Monic (Row rationals)). m.lead) itself
 
   pub row_here : (r : List Ordered) → slice_get (rows_of b.items) k ≡ Some r → sums_of r ≡ a.row
@@ -120,12 +127,18 @@ module _ (K : Domain) (A : Arithmetic K) (a b : Monic (Row K)) where
 
 -- ---- what the code gives
 
-module _ (s : Signature) (b : StoredBasis) (i j : ℕ) (x y : Monic (Row rationals)) (at : AreAt b i j x y) where
+module _ (s : Signature) (b : StoredBasis) (leads : List Term) (stored : leads ≡ leads_of b.items) (i j : ℕ) (x y : Monic (Row rationals)) (at : AreAt b i j x y) where
   abbrev common_multiple : Monomial
-  common_multiple = lcm (lead_at b.items i).monomial (lead_at b.items j).monomial
+  common_multiple = (pair_term leads i j).monomial
+
+  lead_first : lead_at leads i ≡ x.lead
+  lead_first = ap (λ ts. lead_at ts i) stored ∙ lead_here b i x at.0
+
+  lead_second : lead_at leads j ≡ y.lead
+  lead_second = ap (λ ts. lead_at ts j) stored ∙ lead_here b j y at.1
 
   common_here : common_multiple ≡ lcm x.lead.monomial y.lead.monomial
-  common_here = λ n. lcm (lead_here b i x at.0 n).monomial (lead_here b j y at.1 n).monomial
+  common_here = λ n. lcm (lead_first n).monomial (lead_second n).monomial
 
   pub stops_degree : ¬ (degree common_multiple ≤ 32767) → s_row rationals (within program s) x y ≡ Err Degree
   stops_degree h = s_row_degree rationals (within program s) x y (ap (λ m. nat_le (degree m) 32767) (sym common_here) ∙ passes_not (degree common_multiple) h)
@@ -133,7 +146,7 @@ module _ (s : Signature) (b : StoredBasis) (i j : ℕ) (x y : Monic (Row rationa
       passes_not : (d : ℕ) → ¬ (d ≤ 32767) → nat_le d 32767 ≡ false
       passes_not d h = grind (arith, nat_tests)
 
-  module _ (m : Monomial) (found : (degree common_multiple ≤ 32767) × (m ≡ common_multiple)) (d e : Operator rationals) (first : d ≡ single rationals plain_cmp (quotient m (lead_at b.items i).monomial) rationals.one) (second : e ≡ single rationals plain_cmp (quotient m (lead_at b.items j).monomial) rationals.one) (row_i row_j : List Ordered) (at_i : slice_get (rows_of b.items) i ≡ Some row_i) (at_j : slice_get (rows_of b.items) j ≡ Some row_j) where
+  module _ (m : Monomial) (found : (degree common_multiple ≤ 32767) × (m ≡ common_multiple)) (d e : Operator rationals) (first : d ≡ single rationals plain_cmp (quotient m (lead_at leads i).monomial) rationals.one) (second : e ≡ single rationals plain_cmp (quotient m (lead_at leads j).monomial) rationals.one) (row_i row_j : List Ordered) (at_i : slice_get (rows_of b.items) i ≡ Some row_i) (at_j : slice_get (rows_of b.items) j ≡ Some row_j) where
     m_here : m ≡ lcm x.lead.monomial y.lead.monomial
     m_here = found.1 ∙ common_here
 
@@ -144,10 +157,10 @@ module _ (s : Signature) (b : StoredBasis) (i j : ℕ) (x y : Monic (Row rationa
         passes d h = grind (arith, nat_tests)
 
     d_here : d ≡ multiplier rationals (lcm x.lead.monomial y.lead.monomial) x
-    d_here = first ∙ (λ n. single rationals plain_cmp (quotient (m_here n) (lead_here b i x at.0 n).monomial) rationals.one)
+    d_here = first ∙ (λ n. single rationals plain_cmp (quotient (m_here n) (lead_first n).monomial) rationals.one)
 
     e_here : e ≡ multiplier rationals (lcm x.lead.monomial y.lead.monomial) y
-    e_here = second ∙ (λ n. single rationals plain_cmp (quotient (m_here n) (lead_here b j y at.1 n).monomial) rationals.one)
+    e_here = second ∙ (λ n. single rationals plain_cmp (quotient (m_here n) (lead_second n).monomial) rationals.one)
 
     as_rows : multiples_less rationals (within program s) d (sums_of row_i) e (sums_of row_j) ≡ rows_less rationals (within program s) x y (lcm x.lead.monomial y.lead.monomial)
     as_rows = λ n. multiples_less rationals (within program s) (d_here n) (row_here b i x at.0 row_i at_i n) (e_here n) (row_here b j y at.1 row_j at_j n)
@@ -211,49 +224,47 @@ divides_to_twelve m n k l h x = ⊎_elim (h x) past (split x k)
     split x k = grind arith
 
 -- the lead that is read at a place
-pub lead_read : (b : StoredBasis) (k : ℕ) (ls : List Term) (t : Term) → ls ≡ leads_of b.items → slice_get ls k ≡ Some t → t ≡ lead_at b.items k
-lead_read b k ls t e f = sym (get_or_from_slice_get ls k t origin f) ∙ ap (λ ls. get_or ls k origin) e
+pub lead_read : (leads : List Term) (k : ℕ) (t : Term) → slice_get leads k ≡ Some t → t ≡ lead_at leads k
+lead_read leads k t e = sym (get_or_from_slice_get leads k t origin e)
 
 -- ---- skipping
 
 module _ (b : StoredBasis) (ps : List (ℕ × ℕ)) (st : State rationals) (i j k : ℕ) (x y : Monic (Row rationals)) (same : st.basis ≡ monics b) where
-  pub skip_outside : length b.items ≤ k → may_skip rationals st i j x y k ≡ false
-  unfolding may_skip
+  abbrev leads : List Term
+  leads = leads_of b.items
+
+  skip_outside : length b.items ≤ k → run.may_skip rationals st i j x y k ≡ false
+  unfolding run.may_skip
   skip_outside l = ap (λ (c : Option (Monic (Row rationals))). elim c [
     | None ↦ false
-    | Some c ↦ not (nat_eq k i) && (not (nat_eq k j) && (divides_term c.lead (common rationals x y) && (either_listed rationals i k st.listed && either_listed rationals j k st.listed)))
+    | Some c ↦ not (nat_eq k i) && (not (nat_eq k j) && (divides_term c.lead (common rationals x y) && (run.either_listed rationals i k st.listed && run.either_listed rationals j k st.listed)))
   ]) (ap (λ ms. slice_get ms k) same ∙ slice_get_past (monics b) k (subst (λ n. n ≤ k) (sym (length-map b.items monic_of)) l))
 
-  module _ (has : HasPairsOf rationals st.listed ps) (at : AreAt b i j x y) (l : k < length b.items) where
-    abbrev third : Monic (Row rationals)
-    third = get_or (monics b) k x
+  module _ (has : HasPairsOf rationals st.listed ps) (at : AreAt b i j x y) where
+    module _ (l : k < length b.items) where
+      abbrev third : Monic (Row rationals)
+      third = get_or (monics b) k x
 
-    at_third : slice_get (monics b) k ≡ Some third
-    at_third = slice_get-get_or (monics b) k x (subst (λ n. k < n) (sym (length-map b.items monic_of)) l)
+      at_third : slice_get (monics b) k ≡ Some third
+      at_third = slice_get-get_or (monics b) k x (subst (λ n. k < n) (sym (length-map b.items monic_of)) l)
 
-    as_read : divides_term third.lead (common rationals x y) ≡ divides_term (lead_at b.items k) (record { monomial = lcm (lead_at b.items i).monomial (lead_at b.items j).monomial; column = (lead_at b.items i).column })
-    as_read = λ n. divides_term (sym (lead_here b k third at_third) n) (record { monomial = lcm (sym (lead_here b i x at.0) n).monomial (sym (lead_here b j y at.1) n).monomial; column = (sym (lead_here b i x at.0) n).column })
+      as_read : divides_term third.lead (common rationals x y) ≡ divides_term (lead_at leads k) (pair_term leads i j)
+      as_read = λ n. divides_term (sym (lead_here b k third at_third) n) (record { monomial = lcm (sym (lead_here b i x at.0) n).monomial (sym (lead_here b j y at.1) n).monomial; column = (sym (lead_here b i x at.0) n).column })
 
-    pub skip_inside : may_skip rationals st i j x y k ≡ ((not (nat_eq k i) && not (nat_eq k j)) && (divides_term (lead_at b.items k) (record { monomial = lcm (lead_at b.items i).monomial (lead_at b.items j).monomial; column = (lead_at b.items i).column }) && ((is_in i k ps || is_in k i ps) && (is_in j k ps || is_in k j ps))))
-    unfolding may_skip
-    skip_inside =
-        ap (λ (c : Option (Monic (Row rationals))). elim c [
-          | None ↦ false
-          | Some c ↦ not (nat_eq k i) && (not (nat_eq k j) && (divides_term c.lead (common rationals x y) && (either_listed rationals i k st.listed && either_listed rationals j k st.listed)))
-        ]) (ap (λ ms. slice_get ms k) same ∙ at_third)
-        ∙ (λ n. not (nat_eq k i) && (not (nat_eq k j) && (as_read n && ((sym (has i k) n || sym (has k i) n) && (sym (has j k) n || sym (has k j) n)))))
-        ∙ and_assoc (not (nat_eq k i)) (not (nat_eq k j)) _
+      skip_inside : run.may_skip rationals st i j x y k ≡ (not (nat_eq k i) && (not (nat_eq k j) && (divides_term (lead_at leads k) (pair_term leads i j) && (either_listed i k ps && either_listed j k ps))))
+      unfolding run.may_skip
+      skip_inside =
+          ap (λ (c : Option (Monic (Row rationals))). elim c [
+            | None ↦ false
+            | Some c ↦ not (nat_eq k i) && (not (nat_eq k j) && (divides_term c.lead (common rationals x y) && (run.either_listed rationals i k st.listed && run.either_listed rationals j k st.listed)))
+          ]) (ap (λ ms. slice_get ms k) same ∙ at_third)
+          ∙ (λ n. not (nat_eq k i) && (not (nat_eq k j) && (as_read n && ((sym (has i k) n || sym (has k i) n) && (sym (has j k) n || sym (has k j) n)))))
+
+    pub skip_is : run.may_skip rationals st i j x y k ≡ may_skip leads ps i j k
+    skip_is = ⊎_elim
+        (λ l. skip_inside l ∙ sym (skip_within leads ps i j k (subst (λ n. k < n) (sym as_many) l)))
+        (λ l. skip_outside l ∙ sym (skip_past leads ps i j k (subst (λ n. n ≤ k) (sym as_many) l)))
+        (cases_lt k (length b.items))
       where
-        and_assoc : (p q r : Bool) → (p && (q && r)) ≡ ((p && q) && r)
-        and_assoc true q r = refl
-        and_assoc false q r = refl
-
-pub tests_fail_first : (p q : Bool) → p ≡ false → (p && q) ≡ false
-tests_fail_first p q h = ap (λ p. p && q) h
-
-pub tests_fail_second : (p q r : Bool) → q ≡ false → (p && (q && r)) ≡ false
-tests_fail_second true q r h = ap (λ q. q && r) h
-tests_fail_second false q r h = refl
-
-pub tests_hold : (p q r : Bool) → p ≡ true → q ≡ true → (p && (q && r)) ≡ r
-tests_hold p q r h k = λ n. h n && (k n && r)
+        as_many : length (leads_of b.items) ≡ length b.items
+        as_many = length-map b.items (λ (m : Monic (List Ordered)). m.lead)

@@ -3,3 +3,4 @@ pub mod PairList
 pub mod Blocks
 pub mod Laws
 pub mod Listed
+pub mod PairRule

@@ -22,10 +22,17 @@
 //! module of a matrix. The law functions of [`laws`] say so of every block that meets its conditions.
 //! `proofs/Examples.antt` has blocks that do.
 //!
-//! The code is what a run needs of pairs. [`common`] is the least common multiple of two leads,
-//! [`s_row`] the combination of a pair with its cofactor row, [`may_skip`] the test whether a pair may
-//! be skipped by way of a third row. They meet the definitions of `ore_rows/specs/Run.antt`, `s_row`
-//! at the limits of the program. [`Listed`] keeps the pairs that were dealt with in an ordered set.
+//! The code is what a run and the check of a certificate need of pairs. Over the leads of a basis,
+//! [`multiples`] has the common multiple of two leads, the operator that takes a lead to it, and the
+//! difference of two multiples of rows, and [`rule`] the test whether a pair may be skipped by way of a
+//! third row. Over a whole basis, [`common`] is the common multiple of two leads, [`s_row`] the
+//! combination of a pair with its cofactor row, and [`may_skip`] that test. They call those over leads,
+//! and meet the definitions of `ore_rows/specs/Run.antt`, `s_row` at the limits of the program.
+//! [`Listed`] keeps the pairs that were dealt with in an ordered set.
+//!
+//! Which pair may be treated, and which skipped, stands in `specs/PairRule.antt`, by the leads and the
+//! listed pairs alone. The rule of choosers and the check of certificates cite it, and a run may skip
+//! a pair exactly where it says so (`skip_is` in `proofs/StoredPairs.antt`).
 //!
 //! The crate stands on `ore_rows` for rows, row modules, their leads and bases, on `ore_leads` for the
 //! leads of a basis, and on `ore_ring` for operators.
@@ -33,7 +40,9 @@
 
 pub mod laws;
 pub mod listed;
+pub mod multiples;
 pub mod pairs;
+pub mod rule;
 
 pub use listed::Listed;
 pub use pairs::{common, may_skip, s_row};

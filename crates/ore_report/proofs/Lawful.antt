@@ -2,7 +2,6 @@
 --     leads, as_many              the leads of a basis, one for each row
 --     open_can, can_open          a pair may be chosen exactly where it may be treated
 --     lines_of, lines_have        lines with the pairs of a list
---     regroup                     the tests of a skipped pair in another grouping
 --     state, none, row_in, at, both, passes     a state with these rows and pairs, in which the pair may be skipped
 --     skip_allowed                a pair that may be skipped passes the tests of the rule
 --     lawful_allowed              every lawful choice is allowed
@@ -12,12 +11,10 @@
 --     answer_allowed              whatever a chooser may answer is allowed
 --     not_false                   a test that isn't false is true
 --     least_answer                the least pair is an answer
-use Rattle.std.proofs.Common.{◌≡◌, ⊎_elim, ℕ, ◌<◌, Bool, true, false, List, [], ◌∷◌, length, get_or, refl, sym, ap, ◌∙◌, subst, true≢false, arith, zero-add}
-use Rattle.std.specs.Prelude.{◌&&◌, ◌||◌, not, nat_eq, nat_lt}
+use Rattle.std.proofs.Common.{◌≡◌, ℕ, ◌<◌, Bool, true, false, List, [], ◌∷◌, length, get_or, refl, sym, ap, ◌∙◌, subst, true≢false, arith, zero-add}
+use Rattle.std.specs.Prelude.{◌&&◌, ◌||◌, nat_eq}
 use Rattle.std.specs.List.{list_any, range_with_len, slice_get}
 use Rattle.std.specs.declared.option.Option.TheVariants.{Some}
-use Rattle.std.proofs.lemmas.Bool.{cases_lt}
-use Rattle.std.proofs.lemmas.Bool.Decides.{nat_tests}
 use Rattle.std.proofs.lemmas.List.{length-map}
 use Rattle.std.proofs.lemmas.List.Folds.{list_any_at}
 use Rattle.std.proofs.lemmas.List.FromFn.{get_or-range_with_len, length-range_with_len}
@@ -25,23 +22,24 @@ use Rattle.std.proofs.lemmas.Option.{slice_get-get_or}
 use Rattle.ore_rational.proofs.FractionLaws.{rationals}
 use Rattle.ore_monomial.specs.Term.{Term}
 use Rattle.ore_ring.specs.Ordered.{Ordered}
-use Rattle.ore_leads.specs.FirstDivisor.{divides_term}
-use Rattle.ore_rows.specs.Reduction.{Monic, leads_of, lead_at, origin}
+use Rattle.ore_rows.specs.Reduction.{Monic, leads_of, origin}
 use Rattle.ore_rows.specs.Rows.{Row}
-use Rattle.ore_rows.specs.Run.{State, Line, Skipped, is_listed, may_skip}
+use Rattle.ore_rows.specs.Run.{State, Line, Skipped, is_listed}
+use Rattle.ore_rows.specs.Run as run
 use Rattle.ore_rows.specs.StoredBasis.{StoredBasis, monic_of, monics}
 use Rattle.ore_rows.specs.declared.choices.Choice.{Choice}
 use Rattle.ore_rows.specs.declared.choices.Choice.TheVariants.{Treat, Skip}
 use Rattle.ore_pairs.specs.Listed.{is_in, AreAt, HasPairsOf}
-use Rattle.ore_pairs.proofs.StoredPairs.{skip_inside, skip_outside}
+use Rattle.ore_pairs.specs.PairRule.{may_treat, may_skip}
+use Rattle.ore_pairs.proofs.PairRuleLaws.{treat_from, treat_to}
+use Rattle.ore_pairs.proofs.StoredPairs.{skip_is}
 use Rattle.ore_groebner.specs.Choosing.{IsOpen, HasOpen, MaySkip, IsLawful, IsAfforded, IsAnswer}
 use Rattle.ore_groebner.specs.Rules.{IsAllowed}
 use Rattle.ore_groebner.specs.Shown.{shown_of}
 use Rattle.ore_groebner.specs.declared.chooser.Next.{Next}
 use Rattle.ore_groebner.specs.declared.chooser.Next.TheVariants.{Choose, Complete, Spent, NoLawful}
-use Rattle.ore_report.specs.AnyRule.{common_of, either_in, may_treat, some_may_treat, may_skip_by, any_allows, any_allows_spent}
+use Rattle.ore_report.specs.AnyRule.{some_may_treat, any_allows, any_allows_spent}
 use Rattle.ore_report.specs.Live.{IsLeastAnswer}
-use Rattle.ore_report.proofs.Treatable.{may_from, may_to}
 
 -- ---- pairs that may be chosen
 
@@ -53,10 +51,10 @@ module _ (basis : StoredBasis) (ps : List (ℕ × ℕ)) where
   as_many = length-map basis.items (λ (b : Monic (List Ordered)). b.lead)
 
   pub open_can : (i j : ℕ) → IsOpen basis ps i j → may_treat leads ps i j ≡ true
-  open_can i j h = may_to leads ps i j (record { ordered = h.ordered; inside = subst (λ n. j < n) (sym as_many) h.inside; columns = h.columns; unlisted = h.unlisted })
+  open_can i j h = treat_to leads ps i j (record { ordered = h.ordered; within = subst (λ n. j < n) (sym as_many) h.inside; columns = h.columns; unlisted = h.unlisted })
 
   pub can_open : (i j : ℕ) → may_treat leads ps i j ≡ true → IsOpen basis ps i j
-  can_open i j e = let h = may_from leads ps i j e in record { ordered = h.ordered; inside = subst (λ n. j < n) as_many h.inside; columns = h.columns; unlisted = h.unlisted }
+  can_open i j e = let h = treat_from leads ps i j e in record { ordered = h.ordered; inside = subst (λ n. j < n) as_many h.within; columns = h.columns; unlisted = h.unlisted }
 
 -- ---- skipped pairs
 
@@ -68,9 +66,6 @@ lines_have : (ps : List (ℕ × ℕ)) → HasPairsOf rationals (lines_of ps) ps
 unfolding is_in is_listed lines_of
 lines_have [] i j = refl
 lines_have (p ∷ ps) i j = ap (λ b. (nat_eq i p.0 && nat_eq j p.1) || b) (lines_have ps i j)
-
-regroup : (k n : ℕ) (a b r : Bool) → k < n → ((a && b) && r) ≡ true → (nat_lt k n && (a && (b && r))) ≡ true
-regroup k n a b r l h = grind (arith, nat_tests)
 
 module _ (basis : StoredBasis) (ps : List (ℕ × ℕ)) (i j via : ℕ) (o : IsOpen basis ps i j) (may : MaySkip basis ps i j via) where
   abbrev state : State rationals
@@ -88,15 +83,11 @@ module _ (basis : StoredBasis) (ps : List (ℕ × ℕ)) (i j via : ℕ) (o : IsO
   both : AreAt basis i j (row_in i) (row_in j)
   both = (at i (let h = o.ordered in let k = o.inside in omega arith), at j o.inside)
 
-  passes : may_skip rationals state i j (row_in i) (row_in j) via ≡ true
+  passes : run.may_skip rationals state i j (row_in i) (row_in j) via ≡ true
   passes = may state (row_in i) (row_in j) refl (lines_have ps) both
 
-  pub skip_allowed : may_skip_by (leads_of basis.items) ps i j via ≡ true
-  unfolding may_skip_by
-  skip_allowed =
-      ⊎_elim (λ l. regroup via (length (leads_of basis.items)) (not (nat_eq via i)) (not (nat_eq via j)) (divides_term (lead_at basis.items via) (common_of (lead_at basis.items i) (lead_at basis.items j)) && (either_in i via ps && either_in j via ps)) (subst (λ n. via < n) (sym (as_many basis ps)) l) (sym (skip_inside basis ps state i j via (row_in i) (row_in j) refl (lines_have ps) both l) ∙ passes))
-      (λ l. absurd (true≢false (sym passes ∙ skip_outside basis ps state i j via (row_in i) (row_in j) refl l)))
-      (cases_lt via (length basis.items))
+  pub skip_allowed : may_skip (leads_of basis.items) ps i j via ≡ true
+  skip_allowed = sym (skip_is basis ps state i j via (row_in i) (row_in j) refl (lines_have ps) both) ∙ passes
 
 -- ---- answers
 
@@ -120,8 +111,8 @@ module _ (leads : List Term) (ps : List (ℕ × ℕ)) where
   pub some_may : (i j : ℕ) → may_treat leads ps i j ≡ true → some_may_treat leads ps ≡ true
   unfolding some_may_treat
   some_may i j e =
-      let can = may_from leads ps i j e in
-      let second = can.inside in
+      let can = treat_from leads ps i j e in
+      let second = can.within in
       let first : i < length leads = let h = can.ordered in omega arith in
       list_any_at has_partner places i 0 (within i first)
       (ap has_partner (there i first) ∙ list_any_at (may_treat leads ps i) places j 0 (within j second) (ap (may_treat leads ps i) (there j second) ∙ e))

@@ -10,10 +10,11 @@ use Rattle.std.proofs.lemmas.List.{length-append}
 use Rattle.std.proofs.lemmas.Bool.{cases_lt}
 use Rattle.ore_monomial.specs.Term.{Term}
 use Rattle.ore_pairs.specs.Listed.{is_in}
+use Rattle.ore_pairs.specs.PairRule.{may_treat}
+use Rattle.ore_pairs.proofs.PairRuleLaws.{treat_same}
 use Rattle.ore_groebner.specs.Shown.{BeginsWith}
-use Rattle.ore_report.specs.AnyRule.{may_treat}
 use Rattle.ore_report.specs.Searching.{place_of, IsSearched, IsLeast, MayNone}
-use Rattle.ore_report.proofs.Treatable.{may_past, may_before, may_more_leads, may_same_pairs, may_more_pairs}
+use Rattle.ore_report.proofs.Treatable.{may_past, may_before, may_more_leads, may_more_pairs}
 
 at_nothing : (leads : List Term) (ps : List (ℕ × ℕ)) → IsSearched leads ps [] 0 0
 at_nothing leads ps = record { inside = λ i. omega arith; passed = λ i j l. absurd (omega arith); full = λ i l. absurd (omega arith) }
@@ -33,7 +34,7 @@ module _ (leads : List Term) (ps : List (ℕ × ℕ)) (places : List ℕ) (least
       }
 
   pub same_pairs : (qs : List (ℕ × ℕ)) → ((i j : ℕ) → is_in i j ps ≡ is_in i j qs) → IsSearched leads qs places least seen
-  same_pairs qs e = record { inside = s.inside; passed = λ i j l. sym (may_same_pairs leads ps qs i j (e i j)) ∙ s.passed i j l; full = s.full }
+  same_pairs qs e = record { inside = s.inside; passed = λ i j l. sym (treat_same leads ps i j qs (e i j)) ∙ s.passed i j l; full = s.full }
 
   pub more_pairs : (qs : List (ℕ × ℕ)) (b : ℕ → ℕ → Bool) → ((i j : ℕ) → is_in i j qs ≡ (b i j || is_in i j ps)) → IsSearched leads qs places least seen
   more_pairs qs b e = record { inside = s.inside; passed = λ i j l. may_more_pairs leads ps qs i j (b i j) (e i j) (s.passed i j l); full = s.full }

@@ -8,7 +8,7 @@ use Rattle.std.specs.Prelude.{◌≡◌, ℕ, ◌<◌, ◌≤◌, true, false, L
 use Rattle.std.specs.declared.option.Option.{Option}
 use Rattle.std.specs.declared.option.Option.TheVariants.{None, Some}
 use Rattle.ore_monomial.specs.Term.{Term}
-use Rattle.ore_report.specs.AnyRule.{may_treat}
+use Rattle.ore_pairs.specs.PairRule.{may_treat}
 
 -- 0 past the last row that was looked at
 abbrev pub place_of : List ℕ → ℕ → ℕ

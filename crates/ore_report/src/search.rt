@@ -1,7 +1,8 @@
 //! The search for the least pair that may be treated.
 
 ghost use Rattle.std.specs.Prelude.{◌≡◌, ◌≤◌, ◌<◌, ◌⊎◌, ℕ, true, false, nat_eq, [], length, IfOk, slice_set, vec_len};
-ghost use Rattle.ore_report.specs.AnyRule.{lead_in, may_treat};
+ghost use Rattle.ore_pairs.specs.PairRule.{may_treat};
+ghost use Rattle.ore_pairs.specs.Steps.{lead_at};
 ghost use Rattle.ore_report.specs.Searching.{IsSearched, IsFound, place_of};
 
 use ore_leads::Leads;
@@ -117,6 +118,7 @@ fn next_partner(leads: &Leads, listed: &Listed, i: usize, from: usize) -> usize
 }
 
 // Whether the pair may be treated.
+#[tactic(auto, unfolding(ore_pairs::specs::PairRule::may_treat))]
 fn treatable(leads: &Leads, listed: &Listed, i: usize, j: usize) -> bool
     ensures { result ≡ may_treat leads.now listed.now i j }
 {
@@ -136,7 +138,7 @@ fn treatable(leads: &Leads, listed: &Listed, i: usize, j: usize) -> bool
 fn same_column(leads: &Leads, i: usize, j: usize) -> bool
     requires first { i < length leads.now }
     requires second { j < length leads.now }
-    ensures { result ≡ nat_eq (lead_in leads.now i).column (lead_in leads.now j).column }
+    ensures { result ≡ nat_eq (lead_at leads.now i).column (lead_at leads.now j).column }
 {
     leads.get(i).0 == leads.get(j).0
 }

@@ -1,5 +1,5 @@
 use Rattle.std.proofs.Common.{◌≡◌, ◌≤◌, ◌<◌, ℕ, false}
-use Rattle.ore_report.specs.AnyRule.{may_treat}
+use Rattle.ore_pairs.specs.PairRule.{may_treat}
 use Rattle.ore_report.proofs.search.next_partner.Given as goal
 
 abbrev pub invariant-loop-j : goal.invariant-loop-j

@@ -4,7 +4,7 @@ use Rattle.ore_monomial.specs.Signature.{Signature, MonomialOf}
 use Rattle.ore_monomial.specs.declared.stop.NoMemory.{NoMemory}
 use Rattle.ore_monomial.proofs.Declared.{MonomialOf-quotient}
 use Rattle.ore_rows.proofs.Dots.{term_belongs}
-use Rattle.ore_pairs.proofs.pairs.multiplier.Goals as goal
+use Rattle.ore_pairs.proofs.multiples.multiplier.Goals as goal
 
 pub returns-clause-of : goal.returns-clause-of
 returns-clause-of g c =

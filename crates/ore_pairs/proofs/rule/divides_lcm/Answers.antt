@@ -1,7 +1,7 @@
 use Rattle.std.proofs.Common.{sym, refl, true≢false, arith}
 use Rattle.ore_monomial.proofs.Monomials.{exponent-lcm}
 use Rattle.ore_pairs.proofs.StoredPairs.{divides_to_twelve, one_more_exponent}
-use Rattle.ore_pairs.proofs.pairs.divides_lcm.Goals as goal
+use Rattle.ore_pairs.proofs.rule.divides_lcm.Goals as goal
 
 pub returns-then-get-max : goal.returns-then-get-max
 returns-then-get-max c =

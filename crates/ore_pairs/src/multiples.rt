@@ -1,0 +1,88 @@
+//! The common multiple of two leads, and multiples of rows whose leads meet there.
+
+ghost use Rattle.std.specs.Prelude.{◌≡◌, ◌<◌, ◌≤◌, length, OkIff, IfOk, IfErr};
+ghost use Rattle.std.specs.List.{All};
+ghost use Rattle.ore_algebra.specs.Free.{single};
+ghost use Rattle.ore_algebra.specs.Limits.{program};
+ghost use Rattle.ore_rational.proofs.FractionLaws.{rationals};
+ghost use Rattle.ore_monomial.specs.Gives.{Gives};
+ghost use Rattle.ore_monomial.specs.Monomial.{Divides, degree, plain_cmp, quotient};
+ghost use Rattle.ore_monomial.specs.Signature.{MonomialOf};
+ghost use Rattle.ore_monomial.specs.declared.stop.RingStop.TheVariants.{Memory};
+ghost use Rattle.ore_ring.specs.Belongs.{Belongs};
+ghost use Rattle.ore_rows.specs.Arithmetic.{within};
+ghost use Rattle.ore_rows.specs.Stored.{sums_of};
+ghost use Rattle.ore_pairs.specs.Listed.{multiples_less};
+ghost use Rattle.ore_pairs.specs.Steps.{lead_at, pair_term};
+
+use ore_leads::Leads;
+use ore_monomial::{DegreePassed, Exps, RingStop};
+use ore_rational::Rational;
+use ore_ring::{Op, OreRing};
+use ore_rows::{Row, row_sub, scale};
+use std::alloc::Global;
+
+/// The least common multiple of the leads at two places.
+///
+/// # Errors
+/// Where its degree would be greater than 32,767.
+pub fn common_multiple(leads: &Leads, i: usize, j: usize) -> Result<Exps, DegreePassed>
+    requires first { i < length leads.now }
+    requires second { j < length leads.now }
+    ensures { OkIff result (degree (pair_term leads.now i j).monomial ≤ 32767) (pair_term leads.now i j).monomial }
+{
+    let first = leads.get(i);
+    let second = leads.get(j);
+    first.1.lcm(&second.1)
+}
+
+/// The operator that takes the lead at `k` to a multiple of it.
+///
+/// # Errors
+/// Want of memory.
+pub fn multiplier<R: OreRing>(
+    ring: &R,
+    alloc: Global,
+    leads: &Leads,
+    k: usize,
+    multiple: &Exps,
+) -> Result<Op, RingStop>
+    requires place { k < length leads.now }
+    requires divides { Divides (lead_at leads.now k).monomial multiple.now }
+    requires of { MonomialOf (R.signature_of ring.now) multiple.now }
+    ensures value { IfOk result (λ f. f.sum ≡ single rationals plain_cmp (quotient multiple.now (lead_at leads.now k).monomial) rationals.one) }
+    ensures of { IfOk result (Belongs (R.signature_of ring.now)) }
+    ensures memory { IfErr result (λ e. e ≡ Memory) }
+{
+    let lead = leads.get(k);
+    let order = ring.signature().order();
+    let lacking = multiple.minus(&lead.1);
+    Ok(Op::term(alloc, order, lacking, Rational::one())?)
+}
+
+/// The first multiple of the first row less the second multiple of the second row.
+///
+/// # Errors
+/// The stop of the first product or difference that stops, and want of memory.
+#[tactic(auto, unfolding(crate::specs::Listed::multiples_less))]
+pub fn multiples_less<R: OreRing>(
+    ring: &R,
+    alloc: Global,
+    first: &Op,
+    row: &Row,
+    second: &Op,
+    other: &Row,
+) -> Result<Row, RingStop>
+    requires width { length row.now ≡ length other.now }
+    requires first_of { Belongs (R.signature_of ring.now) first.now }
+    requires row_of { All (Belongs (R.signature_of ring.now)) row.now }
+    requires second_of { Belongs (R.signature_of ring.now) second.now }
+    requires other_of { All (Belongs (R.signature_of ring.now)) other.now }
+    ensures gives { Gives sums_of result (multiples_less rationals (within program (R.signature_of ring.now)) first.now.sum (sums_of row.now) second.now.sum (sums_of other.now)) }
+    ensures of { IfOk result (All (Belongs (R.signature_of ring.now))) }
+    ensures width { IfOk result (λ r. length r ≡ length row.now) }
+{
+    let multiple = scale(ring, alloc, first, row)?;
+    let taken = scale(ring, alloc, second, other)?;
+    row_sub(ring, alloc, &multiple, &taken)
+}
