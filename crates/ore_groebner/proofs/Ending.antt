@@ -1,13 +1,16 @@
 -- How a run ends.
 --     refusal_halts      the chooser refuses
+--     refusal_spent      it says that the budget is spent only where its rule allows it
 --     stop_in, stop_halts    a choice stops
+--     stop_not_spent     then the budget isn't spent
+--     runs_after         which runs are given after a halt
 --     all_complete       each pair is listed, so the state is complete
 --     IsEnded            the parts of a complete run, made of the progress
 --     first_same         the number of first rows stays
 --     led_honest         the parts of a complete run
-use Rattle.std.proofs.Common.{◌≡◌, ℕ, ◌<◌, Bool, true, List, [], ◌∷◌, ◌++◌, length, map, refl, sym, ap, ◌∙◌, subst, arith}
-use Rattle.std.specs.List.{All, AllZip, slice_get}
-use Rattle.std.specs.declared.option.Option.TheVariants.{Some}
+use Rattle.std.proofs.Common.{◌≡◌, ℕ, Bool, List, [], ◌∷◌, ◌++◌, length, refl, sym, ap, ◌∙◌, subst, arith}
+use Rattle.std.proofs.Common.{inr}
+use Rattle.std.specs.List.{All}
 use Rattle.std.specs.declared.result.Result.TheVariants.{Ok, Err}
 use Rattle.std.proofs.lemmas.List.{length-map}
 use Rattle.std.proofs.lemmas.Option.{slice_get_within}
@@ -16,27 +19,27 @@ use Rattle.ore_rational.proofs.FractionLaws.{rationals}
 use Rattle.ore_monomial.specs.Signature.{Signature}
 use Rattle.ore_monomial.specs.Term.{Term}
 use Rattle.ore_ring.specs.Belongs.{Belongs}
-use Rattle.ore_rows.specs.Reduction.{Monic, lead_at}
-use Rattle.ore_rows.specs.Rows.{Row}
 use Rattle.ore_rows.specs.Run.{State, Stopped, IsComplete, from_rows}
 use Rattle.ore_rows.specs.Stored.{OperatorMatrix, rows_of}
 use Rattle.ore_rows.specs.StoredBasis.{StoredBasis, AllBelong, monic_of, monics}
 use Rattle.ore_rows.specs.declared.choices.Choice.{Choice}
-use Rattle.ore_rows.specs.declared.choices.Choice.TheVariants as choice
 use Rattle.ore_groebner.specs.Choosing.{present, AreAllListed}
-use Rattle.ore_groebner.specs.Following.{step_of, IsRefusal, IsStopIn, IsStopOf, IsLed}
-use Rattle.ore_groebner.specs.Honest.{starts, IsHonest, IsStopped, IsStoppedAt, IsHalted}
+use Rattle.ore_groebner.specs.Following.{step_of, IsRefusal, IsRefusalAllowed, IsStopIn, IsStopOf, IsLed}
+use Rattle.ore_groebner.specs.Honest.{starts, IsHonest, IsStoppedAt, IsHalted, MayBeSpent, HasOneMoreRun, HasRunsAfter}
 use Rattle.ore_groebner.specs.Progressing.{state_of, lines_from, IsKept}
-use Rattle.ore_groebner.specs.Shown.{Shown}
+use Rattle.ore_groebner.specs.Shown.{Shown, shown_of}
 use Rattle.ore_groebner.specs.declared.outcome.Finished.{Finished}
 use Rattle.ore_groebner.specs.declared.outcome.Halt.{Halt}
 use Rattle.ore_groebner.specs.declared.outcome.Halt.TheVariants as halt
 use Rattle.ore_groebner.specs.declared.outcome.StopAt.{StopAt}
 use Rattle.ore_groebner.specs.declared.outcome.StopAt.TheVariants as at
 use Rattle.ore_groebner.specs.declared.progress.Progress.{Progress}
-use Rattle.ore_groebner.proofs.Leading.{led_reached}
-use Rattle.ore_groebner.proofs.Limited.{given}
+use Rattle.ore_groebner.proofs.Leading.{led_reached, spent_here}
+use Rattle.ore_groebner.proofs.Limited.{refused, given}
 use Rattle.ore_groebner.proofs.Opened.{lead_there}
+
+pub stop_not_spent : (s : Signature) (st : State rationals) (c : Choice) (h : Halt) → IsStopOf s st c h → h ≡ halt.Spent → ⊥
+stop_not_spent s st c h stops e = subst (IsStopOf s st c) e stops
 
 module _ (s : Signature) (a : OperatorMatrix) (allows : Shown → List (ℕ × ℕ) → Choice → Bool) (p : Progress) where
   module _ (runs : List (List Choice)) (budget : ℕ) (replays : Bool) (kept : List (List Choice)) where
@@ -57,6 +60,19 @@ module _ (s : Signature) (a : OperatorMatrix) (allows : Shown → List (ℕ × �
     stop_halts cs c led e halt.Spent h = absurd h
     stop_halts cs c led e halt.NoLawful h = absurd h
     stop_halts cs c led e halt.Memory h = tt
+
+  -- where the first basis was made and one more run is given
+  pub runs_after : (before given : List (List Choice)) (start : State rationals) → starts s a ≡ Ok start → HasOneMoreRun before given → (budget : ℕ) (replays : Bool) (kept : List (List Choice)) (h : Halt) → IsHalted s a given budget replays kept h → HasRunsAfter before given h
+  runs_after before given start begun more budget replays kept (halt.Overflow at.Forced) h = absurd (refused (sym h ∙ begun))
+  runs_after before given start begun more budget replays kept (halt.Overflow (at.Treat i j)) h = more
+  runs_after before given start begun more budget replays kept (halt.Degree at.Forced) h = absurd (refused (sym h ∙ begun))
+  runs_after before given start begun more budget replays kept (halt.Degree (at.Treat i j)) h = more
+  runs_after before given start begun more budget replays kept halt.Spent h = more
+  runs_after before given start begun more budget replays kept halt.NoLawful h = more
+  runs_after before given start begun more budget replays kept halt.Memory h = inr more
+
+  pub refusal_spent : (cs : List Choice) → IsLed s a allows cs p → (allows_spent : Shown → List (ℕ × ℕ) → Bool) (h : Halt) → IsRefusalAllowed allows_spent (shown_of p.basis) p.listed h → h ≡ halt.Spent → MayBeSpent s a allows_spent cs
+  refusal_spent cs led allows_spent h r e = spent_here s a allows cs p led allows_spent (subst (IsRefusalAllowed allows_spent (shown_of p.basis) p.listed) e r)
 
   all_complete : IsKept s p → AreAllListed p.basis p.listed → IsComplete rationals (state_of p)
   unfolding IsComplete

@@ -4,13 +4,15 @@
 --     present-with_choice, earlier-with_choice, treats_in-with_choice    what the last run, the others and all treat with one more choice
 --     present-start, earlier-start       the same of a run that begins
 --     runs_are                           the runs are the others and the last
+--     one_more                           the runs of which the others are those that were there before
 --     is_chosen-push, lists_next         the pairs of some choices, and of one more
-use Rattle.std.proofs.Common.{◌≡◌, ◌≢◌, ℕ, suc, ◌+◌, Bool, true, false, List, [], ◌∷◌, ◌++◌, refl, sym, ap, ◌∙◌, arith}
+use Rattle.std.proofs.Common.{◌≡◌, ◌≢◌, ℕ, ◌+◌, Bool, true, false, List, [], ◌∷◌, ◌++◌, refl, sym, ap, ◌∙◌, arith}
 use Rattle.std.specs.Prelude.{◌&&◌, ◌||◌, nat_eq}
 use Rattle.ore_rows.specs.declared.choices.Choice.{Choice}
 use Rattle.ore_rows.specs.declared.choices.Choice.TheVariants.{Treat, Skip}
 use Rattle.ore_groebner.specs.Choosing.{first_of, second_of, is_chosen, treats, treats_in, present, with_choice, ListsChoices}
 use Rattle.ore_groebner.specs.Following.{earlier}
+use Rattle.ore_groebner.specs.Honest.{HasOneMoreRun}
 use Rattle.ore_groebner.specs.Progressing.{Adds}
 
 cons_not_nil : {X : Type 0} (x : X) (xs : List X) → x ∷ xs ≢ []
@@ -78,6 +80,9 @@ unfolding present earlier
 runs_are [] h = absurd (h refl)
 runs_are (cs ∷ []) h = refl
 runs_are (cs ∷ ds ∷ runs) h = ap (λ rs. cs ∷ rs) (runs_are (ds ∷ runs) (cons_not_nil _ _))
+
+pub one_more : (before runs : List (List Choice)) → runs ≢ [] → earlier runs ≡ earlier (before ++ [] ∷ []) → HasOneMoreRun before runs
+one_more before runs h e = runs_are runs h ∙ ap (λ rs. rs ++ present runs ∷ []) (e ∙ earlier-start before)
 
 -- ---- the pairs of choices
 

@@ -5,7 +5,9 @@
 --     leads_push, reached_push   one more choice leads on from there
 --     origin_more, origin_new, origins_push    what syzygies come from, with one more choice
 --     led_reached                the state of the progress is reached
---     IsAllowedAt, allowed_here, allowed_push    a rule allows one more choice
+--     allowed_here               a rule allows something at the state of the progress
+--     allowed_push               a rule allows one more choice
+--     spent_here                 a rule allows that the budget is spent
 --     led_next                   one more choice leads to what it makes of the progress
 --     led_start                  no choices lead to the first basis
 use Rattle.std.proofs.Common.{◌≡◌, ℕ, zero, suc, ◌+◌, ◌<◌, ◌≤◌, Bool, true, List, [], ◌∷◌, ◌++◌, length, map, take, refl, sym, ap, ◌∙◌, subst, arith}
@@ -29,10 +31,10 @@ use Rattle.ore_rows.specs.Rows.{Row}
 use Rattle.ore_rows.specs.Stored.{OperatorMatrix, sums_of}
 use Rattle.ore_rows.specs.StoredBasis.{monic_of}
 use Rattle.ore_rows.specs.declared.choices.Choice.{Choice}
-use Rattle.ore_pairs.specs.Listed.{is_in, HasPairsOf}
+use Rattle.ore_pairs.specs.Listed.{is_in}
 use Rattle.ore_groebner.specs.Choosing.{is_chosen}
 use Rattle.ore_groebner.specs.Following.{step_of, IsFollowed, IsLed}
-use Rattle.ore_groebner.specs.Honest.{starts, leads, IsReached, IsOrigin, shown_in, AreAllowed}
+use Rattle.ore_groebner.specs.Honest.{starts, leads, IsReached, IsOrigin, IsAllowedAt, AreAllowed, MayBeSpent}
 use Rattle.ore_groebner.specs.Progressing.{state_of, event_at, IsKept, IsGrown, IsBegun}
 use Rattle.ore_groebner.specs.Shown.{Shown, shown_of}
 use Rattle.ore_groebner.specs.declared.outcome.Event.{Event}
@@ -131,20 +133,20 @@ module _ (s : Signature) (a : OperatorMatrix) where
     pub led_reached : (cs : List Choice) (p : Progress) → IsLed s a allows cs p → IsReached s a cs (state_of p)
     led_reached cs p led = record { start = led.start; begun = led.begun; led = led.led }
 
-    abbrev IsAllowedAt : State rationals → Choice → Type 0
-    IsAllowedAt st c = (ps : List (ℕ × ℕ)) × HasPairsOf rationals st.listed ps × (allows (shown_in s a st) ps c ≡ true)
+    allowed_here : (cs : List Choice) (p : Progress) → IsLed s a allows cs p → (allowed : Shown → List (ℕ × ℕ) → Bool) → allowed (shown_of p.basis) p.listed ≡ true → IsAllowedAt s a allowed (state_of p)
+    allowed_here cs p led allowed h = (p.listed, led.kept.listed, ap (λ (shown : Shown). allowed shown p.listed) (shown_in-state s a p led.kept) ∙ h)
 
-    allowed_here : (cs : List Choice) (c : Choice) (p : Progress) → IsLed s a allows cs p → allows (shown_of p.basis) p.listed c ≡ true → IsAllowedAt (state_of p) c
-    allowed_here cs c p led h = (p.listed, led.kept.listed, ap (λ (shown : Shown). allows shown p.listed c) (shown_in-state s a p led.kept) ∙ h)
-
-    allowed_push : (cs : List Choice) (c : Choice) (p : Progress) → IsLed s a allows cs p → allows (shown_of p.basis) p.listed c ≡ true → AreAllowed s a allows (cs ++ c ∷ [])
+    pub allowed_push : (cs : List Choice) (c : Choice) (p : Progress) → IsLed s a allows cs p → allows (shown_of p.basis) p.listed c ≡ true → AreAllowed s a allows (cs ++ c ∷ [])
     allowed_push cs c p led here k d st e reached = by (slice_get-push cs c k d e)
       where
-        by : IsOldOrNew cs c k d → IsAllowedAt st d
+        by : IsOldOrNew cs c k d → IsAllowedAt s a (λ shown ps. allows shown ps d) st
         by (inl h) = led.allowed k d st h.0 (subst (λ ds. IsReached s a ds st) (take_front cs c k (let l = h.1 in omega arith)) reached)
         by (inr h) =
             let there : IsReached s a cs st = subst (λ ds. IsReached s a ds st) (ap (λ n. take n (cs ++ c ∷ [])) h.0 ∙ take-append_seam cs (c ∷ [])) reached in
-            subst (λ d. IsAllowedAt st d) h.1 (subst (λ st. IsAllowedAt st c) (determined cs (state_of p) st (led_reached cs p led) there) (allowed_here cs c p led here))
+            subst (λ d. IsAllowedAt s a (λ shown ps. allows shown ps d) st) h.1 (subst (λ st. IsAllowedAt s a (λ shown ps. allows shown ps c) st) (determined cs (state_of p) st (led_reached cs p led) there) (allowed_here cs p led (λ shown ps. allows shown ps c) here))
+
+    pub spent_here : (cs : List Choice) (p : Progress) → IsLed s a allows cs p → (allows_spent : Shown → List (ℕ × ℕ) → Bool) → allows_spent (shown_of p.basis) p.listed ≡ true → MayBeSpent s a allows_spent cs
+    spent_here cs p led allows_spent h st reached = subst (IsAllowedAt s a allows_spent) (determined cs (state_of p) st (led_reached cs p led) reached) (allowed_here cs p led allows_spent h)
 
     pub led_next : (cs : List Choice) (c : Choice) (p q : Progress) → IsLed s a allows cs p → allows (shown_of p.basis) p.listed c ≡ true → IsFollowed s p c q → IsLed s a allows (cs ++ c ∷ []) q
     led_next cs c p q led here f = record {

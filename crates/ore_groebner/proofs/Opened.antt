@@ -5,7 +5,7 @@
 --     open_pair-rows             an open pair has its two rows
 --     step-treat, step-skip      a choice of an open pair is followed
 --     treat_made, treat_stopped, treat_stops    what treating it makes of the state, and why that stops
-use Rattle.std.proofs.Common.{◌≡◌, ℕ, ◌<◌, Bool, true, false, cond, not, ◌&&◌, nat_eq, nat_lt, List, [], ◌∷◌, length, get_or, refl, sym, ap, ◌∙◌, subst, arith}
+use Rattle.std.proofs.Common.{◌≡◌, ℕ, ◌<◌, Bool, true, false, cond, not, ◌&&◌, nat_eq, nat_lt, List, length, get_or, refl, sym, ap, ◌∙◌, arith}
 use Rattle.std.specs.List.{slice_get}
 use Rattle.std.specs.declared.option.Option.{Option}
 use Rattle.std.specs.declared.option.Option.TheVariants.{None, Some}
@@ -27,7 +27,7 @@ use Rattle.ore_rows.specs.Run as run
 use Rattle.ore_rows.specs.StoredBasis.{StoredBasis, monic_of, monics}
 use Rattle.ore_rows.specs.declared.choices.Choice.TheVariants.{Treat, Skip}
 use Rattle.ore_rows.proofs.BasisParts.{leads_monics}
-use Rattle.ore_pairs.specs.Listed.{is_in, AreAt, HasPairsOf}
+use Rattle.ore_pairs.specs.Listed.{AreAt, HasPairsOf}
 use Rattle.ore_groebner.specs.Choosing.{IsOpen}
 use Rattle.ore_groebner.specs.Following.{step_of, IsStopOf}
 use Rattle.ore_groebner.specs.Halting.{halt_of}

@@ -13,20 +13,19 @@ use Rattle.ore_algebra.specs.Free.{none}
 use Rattle.ore_rational.proofs.FractionLaws.{rationals}
 use Rattle.ore_monomial.specs.Monomial.{plain_cmp}
 use Rattle.ore_monomial.specs.Signature.{Signature}
-use Rattle.ore_monomial.specs.Term.{Term}
 use Rattle.ore_monomial.specs.declared.order.Order.{Order}
 use Rattle.ore_ring.specs.Belongs.{Belongs}
 use Rattle.ore_ring.specs.Ordered.{Ordered}
 use Rattle.ore_rows.specs.Reduction.{Monic, IsMonic, AreMonic, leads_of}
 use Rattle.ore_rows.specs.RowLead.{IsRowLead}
 use Rattle.ore_rows.specs.Rows.{Row}
-use Rattle.ore_rows.specs.Stored.{OperatorMatrix, IsZeroRow, sums_of}
+use Rattle.ore_rows.specs.Stored.{OperatorMatrix, sums_of}
 use Rattle.ore_rows.specs.StoredBasis.{AllBelong, monic_of, monics}
 use Rattle.ore_rows.proofs.BasisParts.{leads_monics}
 use Rattle.ore_rows.proofs.StoredBases.{no_lead_of_zeros}
 use Rattle.ore_groebner.specs.Honest.{shown_in}
 use Rattle.ore_groebner.specs.Progressing.{state_of, IsKept}
-use Rattle.ore_groebner.specs.Shown.{order_in, order_of, shown_of, IsGrownFrom}
+use Rattle.ore_groebner.specs.Shown.{order_in, shown_of, IsGrownFrom}
 use Rattle.ore_groebner.specs.declared.progress.Progress.{Progress}
 
 module _ (s : Signature) where

@@ -7,8 +7,12 @@
 --     IsStopped               the last of some choices treats a pair, which stops
 --     IsHalted                why a run stopped
 --     shown_in                what a chooser is shown of a state
+--     IsAllowedAt             a rule allows something at a state
 --     AreAllowed              a rule allows each choice at its place
-use Rattle.std.specs.Prelude.{◌≡◌, ◌≢◌, ℕ, suc, Bool, true, List, [], ◌∷◌, ◌++◌, length, take, map}
+--     MayBeSpent              a rule allows that the budget is spent
+--     HasOneMoreRun           one more run is given than before
+--     HasRunsAt, HasRunsAfter    which runs are given after a halt
+use Rattle.std.specs.Prelude.{◌≡◌, ◌⊎◌, ℕ, suc, Bool, true, List, [], ◌∷◌, ◌++◌, length, take}
 use Rattle.std.specs.List.{All, AllZip, slice_get}
 use Rattle.std.specs.declared.option.Option.TheVariants.{None, Some}
 use Rattle.std.specs.declared.result.Result.{Result}
@@ -115,7 +119,33 @@ module _ (s : Signature) (a : OperatorMatrix) where
   abbrev pub shown_in : State rationals → Shown
   shown_in st = record { order = elim st.basis [ [] ↦ None | b ∷ bs ↦ Some s.order ]; leads = leads_of st.basis }
 
-  -- the rule allows each of the choices by the state before it
+  -- the rule answers true to what is shown of the state and to its listed pairs
+  abbrev pub IsAllowedAt : (Shown → List (ℕ × ℕ) → Bool) → State rationals → Type 0
+  IsAllowedAt allowed st = (ps : List (ℕ × ℕ)) × HasPairsOf rationals st.listed ps × (allowed (shown_in st) ps ≡ true)
+
+  -- the rule allows each of the choices at the state before it
   abbrev pub AreAllowed : (Shown → List (ℕ × ℕ) → Choice → Bool) → List Choice → Type 0
-  AreAllowed allows choices = (k : ℕ) (c : Choice) (st : State rationals) → slice_get choices k ≡ Some c → IsReached (take k choices) st
-      → (ps : List (ℕ × ℕ)) × HasPairsOf rationals st.listed ps × (allows (shown_in st) ps c ≡ true)
+  AreAllowed allows choices = (k : ℕ) (c : Choice) (st : State rationals) → slice_get choices k ≡ Some c → IsReached (take k choices) st → IsAllowedAt (λ shown ps. allows shown ps c) st
+
+  -- the rule allows that the budget is spent, at the state to which the choices lead
+  abbrev pub MayBeSpent : (Shown → List (ℕ × ℕ) → Bool) → List Choice → Type 0
+  MayBeSpent allows_spent choices = (st : State rationals) → IsReached choices st → IsAllowedAt allows_spent st
+
+-- ---- the runs that are given
+
+-- the runs before and one more, the present one
+abbrev pub HasOneMoreRun : List (List Choice) → List (List Choice) → Type 0
+HasOneMoreRun before given = given ≡ before ++ present given ∷ []
+
+-- where the first basis stops no run is given, and where a pair stops one more is
+abbrev pub HasRunsAt : List (List Choice) → List (List Choice) → StopAt → Type 0
+HasRunsAt before given at.Forced = given ≡ before
+HasRunsAt before given (at.Treat i j) = HasOneMoreRun before given
+
+-- a stop has the runs of its place, and a refusal one more run; want of memory has no more, or one
+abbrev pub HasRunsAfter : List (List Choice) → List (List Choice) → Halt → Type 0
+HasRunsAfter before given (halt.Overflow place) = HasRunsAt before given place
+HasRunsAfter before given (halt.Degree place) = HasRunsAt before given place
+HasRunsAfter before given halt.Spent = HasOneMoreRun before given
+HasRunsAfter before given halt.NoLawful = HasOneMoreRun before given
+HasRunsAfter before given halt.Memory = (given ≡ before) ⊎ HasOneMoreRun before given

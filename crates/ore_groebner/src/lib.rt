@@ -12,9 +12,11 @@
 //! the rows of the matrix are multiples of the first basis rows.
 //!
 //! [`run::run`] goes from there to the end by the choices of a chooser. What it answers is a complete state to which
-//! these choices lead (`specs/Honest.antt`), each of them allowed by the rule of the chooser; where it halts, its
-//! clauses say at which state and why. It ends, since each choice lists one more pair and the budget bounds how many
-//! basis rows there can be. `specs/Following.antt` has what the loop keeps.
+//! these choices lead (`specs/Honest.antt`), each of them allowed by the rule of the chooser. Where it halts, its
+//! clauses say at which state and why; that the rule allows each choice up to there, and a spent budget at that state;
+//! and that the chooser has given what it had before, where the first basis stopped, and else one more run (want of
+//! memory leaves open which). It ends, since each choice lists one more pair and the budget bounds how many basis rows
+//! there can be. `specs/Following.antt` has what the loop keeps.
 //!
 //! The law functions of [`laws`] say of each state that a run reaches, within whatever limits:
 //!

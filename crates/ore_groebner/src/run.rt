@@ -5,8 +5,9 @@ ghost use Rattle.std.specs.List.{All};
 ghost use Rattle.ore_ring.specs.Belongs.{Belongs};
 ghost use Rattle.ore_groebner.specs.Choosing.{present, ListsChoices, AreAllListed};
 ghost use Rattle.ore_groebner.specs.Following.{earlier, given_with, IsNext, IsNextAllowed, IsRefusal, IsRefusalAllowed, IsLed};
-ghost use Rattle.ore_groebner.specs.Honest.{AreAllowed, IsHonest, IsHalted};
+ghost use Rattle.ore_groebner.specs.Honest.{AreAllowed, HasOneMoreRun, HasRunsAfter, IsHonest, IsHalted, MayBeSpent};
 ghost use Rattle.ore_groebner.specs.Shown.{shown_of, IsGrownFrom};
+ghost use Rattle.ore_groebner.specs.declared.outcome.Halt.TheVariants.{Spent};
 
 use crate::chooser::{Chooser, Next};
 use crate::entries::from_matrix;
@@ -34,8 +35,11 @@ pub fn run<R: OreRing, C: Chooser>(
     requires { All (All (Belongs (R.signature_of ring.now))) a.now.rows }
     ensures honest { IfOk result (IsHonest (R.signature_of ring.now) a.now (present (C.given chooser.new))) }
     ensures allowed { IfOk result (λ _. AreAllowed (R.signature_of ring.now) a.now C.allows (present (C.given chooser.new))) }
-    ensures given { IfOk result (λ _. C.given chooser.new ≡ C.given chooser.old ++ present (C.given chooser.new) ∷ []) }
+    ensures given { IfOk result (λ _. HasOneMoreRun (C.given chooser.old) (C.given chooser.new)) }
     ensures halted { IfErr result (IsHalted (R.signature_of ring.now) a.now (C.given chooser.new) (C.budget chooser.new) (C.replays chooser.new) (C.kept chooser.new)) }
+    ensures halted_given { IfErr result (HasRunsAfter (C.given chooser.old) (C.given chooser.new)) }
+    ensures halted_allowed { IfErr result (λ _. HasOneMoreRun (C.given chooser.old) (C.given chooser.new) → AreAllowed (R.signature_of ring.now) a.now C.allows (present (C.given chooser.new))) }
+    ensures spent_allowed { IfErr result (λ halt. halt ≡ Spent → MayBeSpent (R.signature_of ring.now) a.now C.allows_spent (present (C.given chooser.new))) }
     ensures budget { C.budget chooser.new ≡ C.budget chooser.old }
     ensures replays { C.replays chooser.new ≡ C.replays chooser.old }
     ensures kept { C.kept chooser.new ≡ C.kept chooser.old }
@@ -72,6 +76,8 @@ fn complete<R: OreRing, C: Chooser>(
     ensures begun { C.given chooser.new ≢ [] }
     ensures earlier { earlier (C.given chooser.new) ≡ earlier (C.given chooser.old) }
     ensures halted { IfErr result (IsHalted (R.signature_of ring.now) a.now (C.given chooser.new) (C.budget chooser.new) (C.replays chooser.new) (C.kept chooser.new)) }
+    ensures allowed { AreAllowed (R.signature_of ring.now) a.now C.allows (present (C.given chooser.new)) }
+    ensures spent_allowed { IfErr result (λ halt. halt ≡ Spent → MayBeSpent (R.signature_of ring.now) a.now C.allows_spent (present (C.given chooser.new))) }
     ensures budget { C.budget chooser.new ≡ C.budget chooser.old }
     ensures replays { C.replays chooser.new ≡ C.replays chooser.old }
     ensures kept { C.kept chooser.new ≡ C.kept chooser.old }

@@ -1,4 +1,4 @@
-use Rattle.std.proofs.Common.{refl, ap, subst, sym}
+use Rattle.std.proofs.Common.{refl, subst, sym}
 use Rattle.ore_groebner.specs.Following.{IsStopOf}
 use Rattle.ore_groebner.specs.Progressing.{state_of}
 use Rattle.ore_rows.specs.declared.choices.Choice.TheVariants as choices

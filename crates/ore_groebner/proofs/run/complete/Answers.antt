@@ -1,16 +1,16 @@
-use Rattle.std.proofs.Common.{◌≡◌, ◌≢◌, ◌<◌, ◌++◌, ◌∷◌, [], sym, ap, ◌∙◌, subst}
+use Rattle.std.proofs.Common.{◌<◌, sym, ap, ◌∙◌, subst}
 use Rattle.std.specs.declared.option.Option.{Option}
 use Rattle.std.proofs.lemmas.Result.{err_from_is_err_and}
 use Rattle.ore_rows.specs.declared.choices.Choice.{Choice}
 use Rattle.ore_groebner.specs.Choosing.{present}
 use Rattle.ore_groebner.specs.Following.{earlier, given_with, IsNext, IsNextAllowed, IsLed}
-use Rattle.ore_groebner.specs.Honest.{IsHalted}
+use Rattle.ore_groebner.specs.Honest.{AreAllowed}
 use Rattle.ore_groebner.specs.Progressing.{state_of}
 use Rattle.ore_groebner.specs.Shown.{Shown, shown_of, IsGrownFrom}
 use Rattle.ore_groebner.proofs.Bounding.{rows_left, left_smaller}
-use Rattle.ore_groebner.proofs.Ending.{refusal_halts, stop_halts}
+use Rattle.ore_groebner.proofs.Ending.{refusal_halts, refusal_spent, stop_halts, stop_not_spent}
 use Rattle.ore_groebner.proofs.Given.{with_choice-begun, present-with_choice, earlier-with_choice}
-use Rattle.ore_groebner.proofs.Leading.{led_next}
+use Rattle.ore_groebner.proofs.Leading.{allowed_push, led_next}
 use Rattle.ore_groebner.proofs.Showing.{grown_shown}
 use Rattle.ore_groebner.proofs.Stepping.{step_longer}
 use Rattle.ore_groebner.proofs.Unlisted.{unlisted}
@@ -24,6 +24,18 @@ returns-in_err-choice-clause-halted g c =
     let p = err_from_is_err_and c.from_residual.result c.from_residual.ensures.1 in
     let h = refusal_halts s a g.C.Rule.allows c.loop-progress.progress (g.C.Chooser.given x) (g.C.Chooser.budget x) (g.C.Chooser.replays x) (g.C.Chooser.kept x) c.loop-progress.invariant.led _ c.in_err-choice.ensures.refusal in
     rw (p.1, p.2, c.in_err-choice.ensures.same, c.chosen.ensures.budget, c.chosen.ensures.replays, c.chosen.ensures.kept) h
+
+pub returns-in_err-choice-clause-allowed : goal.returns-in_err-choice-clause-allowed
+returns-in_err-choice-clause-allowed g c =
+    let s = g.R.OreRing.signature_of c.args.ring.now in
+    subst (λ runs. AreAllowed s c.args.a.now g.C.Rule.allows (present runs)) (sym c.in_err-choice.ensures.same) c.loop-progress.invariant.led.allowed
+
+pub returns-in_err-choice-clause-spent_allowed : goal.returns-in_err-choice-clause-spent_allowed
+returns-in_err-choice-clause-spent_allowed g c =
+    let s = g.R.OreRing.signature_of c.args.ring.now in
+    let x = c.loop-progress in
+    let p = err_from_is_err_and c.from_residual.result c.from_residual.ensures.1 in
+    rw (p.1, p.2, c.in_err-choice.ensures.same) (refusal_spent s c.args.a.now g.C.Rule.allows x.progress (present (g.C.Chooser.given x.chooser)) x.invariant.led g.C.Rule.allows_spent _ c.in_err-choice.ensures.refusal_allowed)
 
 pub returns-in_err-progress-clause-begun : goal.returns-in_err-progress-clause-begun
 returns-in_err-progress-clause-begun g c =
@@ -46,6 +58,22 @@ returns-in_err-progress-clause-halted g c =
     let y = c.chosen.new.chooser in
     let p = err_from_is_err_and c.from_residual-in_err-progress.result c.from_residual-in_err-progress.ensures.1 in
     rw (p.1, p.2) (stop_halts s c.args.a.now g.C.Rule.allows c.loop-progress.progress (g.C.Chooser.given y) (g.C.Chooser.budget y) (g.C.Chooser.replays y) (g.C.Chooser.kept y) (present given) c.in-Some.choice i.led (ap present now ∙ present-with_choice given c.in-Some.choice i.begun) _ c.in_err-progress.ensures.halted)
+
+pub returns-in_err-progress-clause-allowed : goal.returns-in_err-progress-clause-allowed
+returns-in_err-progress-clause-allowed g c =
+    let s = g.R.OreRing.signature_of c.args.ring.now in
+    let i = c.loop-progress.invariant in
+    let given = g.C.Chooser.given c.loop-progress.chooser in
+    let p = c.loop-progress.progress in
+    let now = c.in_ok-choice.ensures.given ∙ ap (λ (o : Option Choice). given_with given o) c.in-Some.is in
+    let allowed = subst (λ (o : Option Choice). IsNextAllowed g.C.Rule.allows (shown_of p.basis) p.listed o) c.in-Some.is c.in_ok-choice.ensures.allowed in
+    subst (AreAllowed s c.args.a.now g.C.Rule.allows) (sym (ap present now ∙ present-with_choice given c.in-Some.choice i.begun)) (allowed_push s c.args.a.now g.C.Rule.allows (present given) c.in-Some.choice p i.led allowed)
+
+pub returns-in_err-progress-clause-spent_allowed : goal.returns-in_err-progress-clause-spent_allowed
+returns-in_err-progress-clause-spent_allowed g c =
+    let s = g.R.OreRing.signature_of c.args.ring.now in
+    let p = err_from_is_err_and c.from_residual-in_err-progress.result c.from_residual-in_err-progress.ensures.1 in
+    rw (p.1, p.2) (λ e. absurd (stop_not_spent s (state_of c.loop-progress.progress) c.in-Some.choice _ c.in_err-progress.ensures.halted e))
 
 pub loop-progress-smaller : goal.loop-progress-smaller
 loop-progress-smaller g c =
@@ -83,3 +111,10 @@ loop-progress-preserved g c =
       replays = c.chosen.ensures.replays ∙ i.replays;
       kept = c.chosen.ensures.kept ∙ i.kept;
     }
+
+pub returns-clause-allowed : goal.returns-clause-allowed
+returns-clause-allowed g c =
+    let s = g.R.OreRing.signature_of c.args.ring.now in
+    let given = g.C.Chooser.given c.loop-progress.chooser in
+    let now = c.in_ok-choice.ensures.given ∙ ap (λ (o : Option Choice). given_with given o) c.in_default.is in
+    subst (λ runs. AreAllowed s c.args.a.now g.C.Rule.allows (present runs)) (sym now) c.loop-progress.invariant.led.allowed

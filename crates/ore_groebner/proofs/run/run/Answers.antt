@@ -1,4 +1,6 @@
-use Rattle.std.proofs.Common.{◌≡◌, ◌++◌, ◌∷◌, [], refl, sym, ap, ◌∙◌, subst, arith}
+use Rattle.std.proofs.Common.{refl, sym, ap, ◌∙◌, subst, arith}
+use Rattle.std.proofs.Common.{inr}
+use Rattle.std.proofs.lemmas.Result.{err_from_is_err_and}
 use Rattle.std.specs.List.{All}
 use Rattle.ore_ring.specs.Belongs.{Belongs}
 use Rattle.ore_monomial.specs.Signature.{Signature}
@@ -8,9 +10,10 @@ use Rattle.ore_rows.specs.Run.{from_rows}
 use Rattle.ore_rows.specs.Stored.{OperatorMatrix, rows_of}
 use Rattle.ore_groebner.specs.Choosing.{present}
 use Rattle.ore_groebner.specs.Following.{earlier, IsLed}
-use Rattle.ore_groebner.specs.Shown.{Shown, IsGrownFrom, none_shown}
-use Rattle.ore_groebner.proofs.Ending.{first_same, led_honest}
-use Rattle.ore_groebner.proofs.Given.{present-start, earlier-start, runs_are}
+use Rattle.ore_groebner.specs.Progressing.{state_of}
+use Rattle.ore_groebner.specs.Shown.{Shown, IsGrownFrom}
+use Rattle.ore_groebner.proofs.Ending.{first_same, led_honest, runs_after}
+use Rattle.ore_groebner.proofs.Given.{present-start, one_more}
 use Rattle.ore_groebner.proofs.Leading.{led_start}
 use Rattle.ore_groebner.proofs.run.run.Goals as goal
 
@@ -59,7 +62,18 @@ returns-clause-honest g c =
       from_of = subst (λ (m : OperatorMatrix). All (All (Belongs s)) m.rows) (sym f.from) (subst (λ (v : Signature). All (All (Belongs v)) c.in-Ok-from_matrix.from.rows) c.signature.ensures e.of);
     })
 
+pub returns-in_err-progress-clause-halted_given : goal.returns-in_err-progress-clause-halted_given
+returns-in_err-progress-clause-halted_given g c =
+    let s = g.R.OreRing.signature_of c.args.ring.now in
+    let p = c.in-Ok.progress in
+    let x = c.complete.new.chooser in
+    let given = g.C.Chooser.given x in
+    let more = one_more (g.C.Chooser.given c.args.chooser.now) given c.complete.ensures.begun (c.complete.ensures.earlier ∙ ap earlier c.in-Ok-start_run.ensures.begun) in
+    let e = err_from_is_err_and c.from_residual.result c.from_residual.ensures.1 in
+    rw (e.1, e.2) (runs_after s c.args.a.now g.C.Rule.allows p (g.C.Chooser.given c.args.chooser.now) given (state_of p) c.in-Ok.ensures.gives more (g.C.Chooser.budget x) (g.C.Chooser.replays x) (g.C.Chooser.kept x) _ c.in_err-progress.ensures.halted)
+
+pub returns-in_default-from_matrix-clause-halted_given : goal.returns-in_default-from_matrix-clause-halted_given
+returns-in_default-from_matrix-clause-halted_given g c = inr (one_more (g.C.Chooser.given c.args.chooser.now) (g.C.Chooser.given c.complete.new.chooser) c.complete.ensures.begun (c.complete.ensures.earlier ∙ ap earlier c.in-Ok-start_run.ensures.begun))
+
 pub returns-clause-given : goal.returns-clause-given
-returns-clause-given g c =
-    let given = g.C.Chooser.given c.complete.new.chooser in
-    runs_are given c.complete.ensures.begun ∙ ap (λ runs. runs ++ present given ∷ []) (c.complete.ensures.earlier ∙ ap earlier c.in-Ok-start_run.ensures.begun ∙ earlier-start (g.C.Chooser.given c.args.chooser.now))
+returns-clause-given g c = one_more (g.C.Chooser.given c.args.chooser.now) (g.C.Chooser.given c.complete.new.chooser) c.complete.ensures.begun (c.complete.ensures.earlier ∙ ap earlier c.in-Ok-start_run.ensures.begun)
