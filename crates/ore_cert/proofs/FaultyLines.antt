@@ -1,12 +1,17 @@
 -- Where the faulty line of a text is.
---     join, join-raw_lines        the lines of a text are the text
+--     join, join-append           lines one after another, as a text; those of two lists
+--     join-raw_lines              the lines of a text are the text
+--     raw_lines-line              the lines of a text that begins with a whole line
 --     IsWhole                     a text is so many whole lines
---     whole_none, whole_line, whole_append
+--     whole_none, whole_line, whole_append     no line, one line, and two such texts
+--     take_past                   the first items of two lists together, past the end of the first
+--     begins                      a text whose first lines are those of whole lines begins with these
 --     Stray                       as many lines as this come before the faulty one
 --     stray_faulty, faulty_stray  so the next line is faulty; and the other way round
 --     stray_behind                a text that begins with whole lines, by what may follow them
 --     stray_same                  sets with the same texts
---     stray_first, stray_end      the first line is faulty
+--     stray_first                 the first line is faulty, where no text of the set begins with it
+--     stray_end                   the first line is faulty, where the set has the empty text alone
 --     one_faulty_line             a text has at most one faulty line, and none where it is in the set
 use Rattle.std.proofs.Common.{◌≡◌, ◌≤◌, ◌⊎◌, inl, inr, ℕ, zero, suc, ◌+◌, ◌-◌, ◌<◌, Bool, true, false, true≢false, not, ◌&&◌, if◌then◌else◌, List, [], ◌∷◌, ◌++◌, length, take, drop, refl, sym, ap, subst, ◌∙◌, append_assoc, append-nil, arith}
 use Rattle.std.specs.Prelude.{nat_eq, slice_get}

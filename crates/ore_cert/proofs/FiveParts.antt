@@ -1,7 +1,8 @@
 -- A line and five parts, as the blocks are.
 --     five, five_is              the sequence, which is a format
 --     four_last                  all but the line and the first part
---     head_fails, a_fails .. e_fails     a fault of the line, or of a part behind those that were read
+--     head_fails                 a fault of the line
+--     a_fails, b_fails, c_fails, d_fails, e_fails     a fault of a part behind those that were read
 --     five_found                 all of it is read
 use Rattle.std.proofs.Common.{◌≡◌, List, ℕ, ◌++◌, Result}
 use Rattle.std.specs.Prelude.{IsErrAnd}

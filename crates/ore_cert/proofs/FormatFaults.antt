@@ -1,5 +1,6 @@
 -- Where the faulty line of a text is that should begin with that of a value.
 --     Strays                     as many lines as this come before the faulty one, whatever were to follow
+--     front_lines                the first lines of whole lines, whatever follows
 --     strays_faulty, faulty_strays     so the next line is faulty; and the other way round
 --     first_strays, second_strays      the faulty line of a value is one of a sequence with it
 --     same_strays                the same texts for other values

@@ -4,7 +4,7 @@
 --     AreWords                words of a line for each value
 --     fixed_is, line_is, sequence_is, items_is, renamed_is    formats
 --     Renames                 two formats have the same texts, for other values
---     same_texts, other_texts from one to the other
+--     same_texts, other_texts     a text of the first is one of the second, and the other way round
 --     one_more, more_items    so many values are one and then the others
 use Rattle.std.proofs.Common.{◌≡◌, ℕ, zero, suc, ◌+◌, List, [], ◌∷◌, ◌++◌, length, refl, sym, ap, subst, ◌∙◌, append_assoc, append-nil, arith}
 use Rattle.std.specs.List.{All, flat_map}

@@ -2,10 +2,10 @@
 --     other_words                a text isn't the one it was compared with
 --     byte_at                    a byte of a text
 --     counted_lacks              a word and a number lack the line end
---     cause_same                 the words of causes differ
+--     cause_text, cause_same     the words of a cause, one after another; those of causes differ
 --     kind_line                  the words of kinds differ
 --     kind_is                    so they are a format
---     no_kind                    words that are none of them
+--     no_kind, no_cause          words that are of no kind, and of no cause
 use Rattle.std.proofs.Common.{◌≡◌, ℕ, ◌<◌, ◌≤◌, Bool, false, if◌then◌else◌, List, [], ◌∷◌, ◌++◌, drop, get_or, refl, sym, ap, ◌∙◌, arith}
 use Rattle.std.specs.Prelude.{◌≢◌, nat_eq, codes, decimal}
 use Rattle.std.specs.List.{join_with_byte}

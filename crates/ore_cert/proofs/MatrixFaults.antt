@@ -1,7 +1,7 @@
 -- The faulty line of a text that should begin with a matrix.
 --     named_line             a fault that names a line names the faulty one
---     rows_fault             where no row follows some of the rows
---     sizes_fault            where no sizes stand first
+--     NoRow, rows_fault      no row stands here; where none follows some of the rows
+--     NoSizes, sizes_fault   no sizes stand here; where none stand first
 --     matrix_rows_fault      where the rows behind the sizes are faulty
 use Rattle.std.proofs.Common.{◌≡◌, ℕ, suc, ◌+◌, ◌-◌, ◌<◌, List, [], ◌∷◌, ◌++◌, length, refl, sym, ap, subst, ◌∙◌, append_assoc, arith}
 use Rattle.std.specs.List.{AllByRecursion}

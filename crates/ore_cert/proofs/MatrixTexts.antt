@@ -1,11 +1,14 @@
 -- The lines of the text of a matrix.
 --     operator_lacks_end              no canonical text has a line end
+--     words_lack_end, sizes_line      the words of the sizes have no line end; their line, with its end
 --     line_of_row, line_of_words      each is one whole line
 --     words_cancel                    the sizes that a line says, and what follows
+--     rows_text                       the lines of some rows
 --     whole_rows, whole_matrix        rows are as many whole lines; a matrix is one more
 --     rows_next, rows_end             the row that follows some of the rows; all rows, and what follows
 --     matrix_cancel                   the matrix that a text begins with, and what follows
---     none_printable, zero_rows, zero_fits    zero, and rows of zeros
+--     none_printable                  zero may be written
+--     zeros, zero_rows, zero_fits     a row of zeros, and some of them, which may be written
 use Rattle.std.proofs.Common.{◌≡◌, ℕ, zero, suc, ◌+◌, ◌<◌, Bool, true, false, true≢false, not, ◌&&◌, ◌||◌, List, [], ◌∷◌, ◌++◌, length, map, drop, replicate, refl, sym, ap, subst, ◌∙◌, append_assoc, arith}
 use Rattle.std.specs.Prelude.{nat_eq, codes, decimal}
 use Rattle.std.specs.List.{list_all, flat_map, AllByRecursion}

@@ -1,8 +1,11 @@
 -- The lines of reports have one value each, and what follows the plan is a format.
---     no_place, no_pair, no_skip     texts that spell no places
 --     plan_words_are, choice_words_are, report_words_are     the words of lines differ
+--     plan_is, choice_is, report_line_is             so these lines are formats
 --     no_plan, no_choice, no_stop, no_report_line    words that are none of them
---     next_sequence, next_names, next_is             a run with its choices, or the last line
+--     choices_behind, choices_of, choices_are        how many choices follow a line; these as a format
+--     next_parts, next_from                          a run with its choices, or the last line, as a line and choices; and back
+--     next_sequence, next_names, next_is             so it is a format
+--     next_again, may_parts, may_next, text_parts, text_next     what this owes
 use Rattle.std.proofs.Common.{◌≡◌, ℕ, suc, ◌+◌, ◌<◌, ◌≤◌, if◌then◌else◌, List, [], ◌∷◌, ◌++◌, length, drop, refl, sym, ap, subst, ◌∙◌, append-nil, arith}
 use Rattle.std.specs.Prelude.{◌≢◌, nat_eq, codes, decimal}
 use Rattle.std.specs.List.{All, flat_map}

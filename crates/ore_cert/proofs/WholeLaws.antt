@@ -2,9 +2,15 @@
 --     unit_words_are, operator_words_are     the words of lines
 --     operator_spelled           what reading a canonical text says of a line
 --     unit_is, operator_is, link_names, link_is      lines and links are formats
---     with_exact_is, with_unit_is, with_row_is, with_operator_is, links_is     the parts of some kinds
+--     with_exact_is, with_unit_is, with_row_is, with_operator_is, autonomous_is, links_is, links_exact_is, links_row_is
+--                                the parts of some kinds
 --     parts_is, body_makes, body_is          the parts of each kind, and what they make
 --     body_found, body_fails     what their readers answer
+--     last, last_is, head, head_is           the last line, and the first
+--     kind_of                    the kind of a certificate
+--     may_kind                   a certificate that may be written has a kind, and parts, that may be written
+--     made_kind, made_written    what parts of a kind make is of that kind, and may be written
+--     closed_text                what follows the first line is the line of the kind, the rest and the last line
 --     closed_names, closed_is, kinds_names, kinds_is, certificate_names, certificate_is      the whole text
 use Rattle.std.proofs.Common.{◌≡◌, ℕ, suc, ◌<◌, ◌≤◌, List, [], ◌∷◌, ◌++◌, length, Option, None, Some, Result, Ok, Err, refl, sym, ap, subst, ◌∙◌, append_assoc, arith}
 use Rattle.std.specs.Prelude.{codes, decimal, IsErrAnd, IfOk, IfSome, MatchOption}

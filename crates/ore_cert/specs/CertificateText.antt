@@ -15,27 +15,34 @@ use Rattle.ore_expr.specs.RowText.{row_text}
 use Rattle.ore_expr.specs.Laws.{IsPrintable}
 use Rattle.ore_rows.specs.Rows.{Row}
 
+-- sizes and counts are below 2^63, and so are places as they are written
 abbrev pub number_bound : ℕ
 number_bound = 2 ^ 63
 
+-- with one space between, and without the line end
 abbrev pub matrix_words : List ℕ → ℕ → ℕ → List ℕ
 matrix_words name rows cols = join_with_byte 32 (codes "matrix" ∷ name ∷ decimal rows ∷ decimal cols ∷ [])
 
+-- the sizes on one line, and then each row; the number of columns is given, since there may be no row
 abbrev pub matrix_text : List ℕ → List (List ℕ) → Order → ℕ → List (Row rationals) → List ℕ
 matrix_text name names o cols rows = (matrix_words name (length rows) cols ++ 10 ∷ []) ++ flat_map (row_text names o) rows
 
+-- an entry for each of so many columns, each of the signature, with numbers and degrees in the program's ranges
 pub record IsRowOf (s : Signature) (names : List (List ℕ)) (cols : ℕ) (row : Row rationals) : Type 0 where
   pub width : length row ≡ cols
   pub entries : AllByRecursion (IsPrintable s names) row
 
+-- both sizes are below 2^63, and each row has as many entries as there are columns
 pub record IsWritten (s : Signature) (names : List (List ℕ)) (cols : ℕ) (rows : List (Row rationals)) : Type 0 where
   pub few_rows : length rows < number_bound
   pub few_cols : cols < number_bound
   pub fits : AllByRecursion (IsRowOf s names cols) rows
 
 module _ (s : Signature) (names : List (List ℕ)) where
+  -- so many rows of so many entries that may be written, one after another, have this text
   abbrev pub AreRows : ℕ → ℕ → List ℕ → Type 0
   AreRows count cols text = (rows : List (Row rationals)) × (length rows ≡ count) × AllByRecursion (IsRowOf s names cols) rows × (text ≡ flat_map (row_text names s.order) rows)
 
+  -- a matrix of this name and of any sizes that may be written has this text
   abbrev pub IsMatrix : List ℕ → List ℕ → Type 0
   IsMatrix name text = (cols : ℕ) × (rows : List (Row rationals)) × IsWritten s names cols rows × (text ≡ matrix_text name names s.order cols rows)

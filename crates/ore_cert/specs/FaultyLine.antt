@@ -9,19 +9,24 @@
 use Rattle.std.specs.Prelude.{◌≡◌, ◌<◌, ◌-◌, ◌++◌, ℕ, List, slice_get}
 use Rattle.ore_cert.specs.Lines.{raw_lines}
 
+-- at each of the first count places both texts have the same line, or both have none
 abbrev pub AgreeOn : ℕ → List ℕ → List ℕ → Type 0
 AgreeOn count text other = (k : ℕ) → k < count → slice_get (raw_lines text) k ≡ slice_get (raw_lines other) k
 
+-- some text of the set has the same lines before this one, and none has the same lines up to this one
 pub record IsFaultyLine (T : List ℕ → Type 0) (text : List ℕ) (line : ℕ) : Type 0 where
   pub follows : (other : List ℕ) × T other × AgreeOn (line - 1) text other
   pub differs : (other : List ℕ) → T other → ¬ AgreeOn line text other
 
+-- two faulty lines of one text are the same, and a text of the set has none
 pub record HasOneFaultyLine (T : List ℕ → Type 0) : Type 0 where
   pub one : (text : List ℕ) (j k : ℕ) → IsFaultyLine T text j → IsFaultyLine T text k → j ≡ k
   pub none : (text : List ℕ) (k : ℕ) → T text → ¬ IsFaultyLine T text k
 
+-- the text begins with one of the set, and `after` is all that follows it
 abbrev pub FollowedBy : (List ℕ → Type 0) → List ℕ → List ℕ → Type 0
 FollowedBy T after text = (front : List ℕ) × T front × (text ≡ front ++ after)
 
+-- this is the faulty line for the texts of the set that are followed by `after`, whatever that text is
 abbrev pub IsFaultyStart : (List ℕ → Type 0) → List ℕ → ℕ → Type 0
 IsFaultyStart T text line = (after : List ℕ) → IsFaultyLine (FollowedBy T after) text line

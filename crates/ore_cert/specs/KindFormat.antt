@@ -13,12 +13,15 @@ use Rattle.ore_cert.specs.declared.report.Cause.{Cause}
 use Rattle.ore_cert.specs.Formats.{Format, one_line}
 use Rattle.ore_cert.specs.WholeText.{cause_words, IsWrittenCause, IsLength}
 
+-- the value that is found may be written and has these words; or none is, and no value that may be written has them
 abbrev pub Spells : {X : Type 0} → (X → List ℕ) → (X → Type 0) → List ℕ → Option X → Type 0
 Spells {X} words may text result = MatchOption result ((x : X) → may x → text ≢ words x) (λ x. may x × (text ≡ words x))
 
+-- `halted`, and then the words of the cause
 abbrev pub halted_words : Cause → List ℕ
 halted_words c = join_with_byte 32 (codes "halted" ∷ cause_words c)
 
+-- without the line end; kinds with links have their number behind
 abbrev pub kind_words : Kind → List ℕ
 kind_words Controllable = codes "controllable"
 kind_words AutonomousElement = codes "autonomous-element"
@@ -33,6 +36,7 @@ kind_words (ExtZero count) = codes "ext-zero " ++ decimal count
 kind_words (ExtNonzero count) = codes "ext-nonzero " ++ decimal count
 kind_words (Halted cause) = halted_words cause
 
+-- the number of links is from 1 to 12, and a budget is at most 1,000,000
 abbrev pub IsWrittenKind : Kind → Type 0
 IsWrittenKind (Resolution count) = IsLength count
 IsWrittenKind (ExtZero count) = IsLength count
@@ -40,9 +44,11 @@ IsWrittenKind (ExtNonzero count) = IsLength count
 IsWrittenKind (Halted cause) = IsWrittenCause cause
 IsWrittenKind kind = Unit {0}
 
+-- the words of a kind, and the line end
 abbrev pub kind_format : Format Kind
 kind_format = one_line kind_words IsWrittenKind
 
+-- the text is the line of none of these kinds, which have no number and no cause
 pub record IsNoPlain (text : List ℕ) : Type 0 where
   pub controllable : text ≢ codes "controllable"
   pub autonomous : text ≢ codes "autonomous-element"
@@ -53,6 +59,7 @@ pub record IsNoPlain (text : List ℕ) : Type 0 where
   pub kernel_left : text ≢ codes "kernel left"
   pub kernel_right : text ≢ codes "kernel right"
 
+-- the text is the line of no kind with links, whatever their number
 pub record IsNoLinks (text : List ℕ) : Type 0 where
   pub resolution : (n : ℕ) → IsLength n → text ≢ codes "resolution " ++ decimal n
   pub ext_zero : (n : ℕ) → IsLength n → text ≢ codes "ext-zero " ++ decimal n

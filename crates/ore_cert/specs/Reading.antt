@@ -8,6 +8,7 @@ use Rattle.ore_cert.specs.declared.fault.CertFault.TheVariants.{Malformed, Memor
 use Rattle.ore_cert.specs.Lines.{Unread}
 use Rattle.ore_cert.specs.FaultyLine.{IsFaultyLine, IsFaultyStart}
 
+-- P holds of the line that the fault names, where it names one
 abbrev pub NamesLine : CertFault → (ℕ → Type 0) → Type 0
 NamesLine (Malformed line) P = P line
 NamesLine Memory P = Unit {0}
@@ -16,5 +17,6 @@ NamesLine Memory P = Unit {0}
 abbrev pub IsStartFault : (List ℕ → Type 0) → Unread → CertFault → Type 0
 IsStartFault T unread fault = NamesLine fault (λ line. (k : ℕ) × (line + 1 ≡ unread.at + k) × IsFaultyStart T unread.left k)
 
+-- the lines of the text count from the number of its first line
 abbrev pub IsFaultOf : (List ℕ → Type 0) → List ℕ → ℕ → CertFault → Type 0
 IsFaultOf T text first fault = NamesLine fault (λ line. (k : ℕ) × (line + 1 ≡ first + k) × IsFaultyLine T text k)

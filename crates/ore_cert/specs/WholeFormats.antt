@@ -33,43 +33,56 @@ use Rattle.ore_cert.specs.PartFormats.{matrix_format, row_format, exact_format, 
 use Rattle.ore_cert.specs.ReportFormats.{report_rest_format}
 use Rattle.ore_cert.specs.WholeText.{run_text, plan_words, stop_words, link_text, operator_line, body_text, certificate_text, IsWrittenLink, IsWrittenOperator, IsWrittenCertificate}
 
+-- `unit` and the place of a unit row, on one line
 abbrev pub unit_format : Format ℕ
 unit_format = one_line (λ k. codes "unit " ++ place k) is_place
 
 module _ (s : Signature) (names : List (List ℕ)) where
+  -- the word and the canonical text of the operator, without the line end
   abbrev pub operator_words : List ℕ → Ordered → List ℕ
   operator_words word f = word ++ 32 ∷ operator_text names s.order f.sum
 
+  -- the word and an operator of the signature, on one line
   abbrev pub operator_format : List ℕ → Format Ordered
   operator_format word = one_line (operator_words word) (IsWrittenOperator s names)
 
+  -- the matrix `L`, and then its exact block
   abbrev pub link_format : Format Link
   link_format = record { text = link_text names s.order; may = IsWrittenLink s names }
 
+  -- a matrix of this name, and then an exact block
   abbrev pub with_exact : List ℕ → Format (OperatorMatrix × ExactBlock)
   with_exact name = sequence (matrix_format s names name) (λ _. exact_format s names)
 
+  -- the place of a unit row, and then an outside block
   abbrev pub with_unit : Format (ℕ × OutsideBlock)
   with_unit = sequence unit_format (λ _. outside_format s names)
 
+  -- a row of this name, and then an outside block
   abbrev pub with_row : List ℕ → Format (List Ordered × OutsideBlock)
   with_row name = sequence (row_format s names name) (λ _. outside_format s names)
 
+  -- an operator, the row `cofactor` and an outside block
   abbrev pub with_operator : Format (Ordered × (List Ordered × OutsideBlock))
   with_operator = sequence (operator_format (codes "operator")) (λ _. with_row (codes "cofactor"))
 
+  -- the row `element`, and then these three
   abbrev pub autonomous_parts : Format (List Ordered × (Ordered × (List Ordered × OutsideBlock)))
   autonomous_parts = sequence (row_format s names (codes "element")) (λ _. with_operator)
 
+  -- so many links
   abbrev pub links_format : ℕ → Format (List Link)
   links_format count = items link_format count
 
+  -- so many links, and then an exact block
   abbrev pub links_exact : ℕ → Format (List Link × ExactBlock)
   links_exact count = sequence (links_format count) (λ _. exact_format s names)
 
+  -- so many links, the row `element` and an outside block
   abbrev pub links_row : ℕ → Format (List Link × (List Ordered × OutsideBlock))
   links_row count = sequence (links_format count) (λ _. with_row (codes "element"))
 
+  -- what stands between the line of the kind and the last line, as a tuple in the order of the text
   abbrev pub Parts : Kind → Type 0
   Parts Controllable = OperatorMatrix × ExactBlock
   Parts AutonomousElement = List Ordered × (Ordered × (List Ordered × OutsideBlock))
@@ -84,6 +97,7 @@ module _ (s : Signature) (names : List (List ℕ)) where
   Parts (ExtNonzero count) = List Link × (List Ordered × OutsideBlock)
   Parts (Halted cause) = Plan × (List (List Choice) × Stop)
 
+  -- the format of these parts
   abbrev pub parts_format : (k : Kind) → Format (Parts k)
   parts_format Controllable = with_exact (codes "Q")
   parts_format AutonomousElement = autonomous_parts
@@ -98,6 +112,7 @@ module _ (s : Signature) (names : List (List ℕ)) where
   parts_format (ExtNonzero count) = links_row count
   parts_format (Halted cause) = report_rest_format
 
+  -- the certificate that has these parts
   abbrev pub with_parts : (k : Kind) → Parts k → Certificate
   with_parts Controllable p = certificate.Controllable p.0 p.1
   with_parts AutonomousElement p = certificate.AutonomousElement p.0 p.1.0 p.1.1.0 p.1.1.1
@@ -112,6 +127,7 @@ module _ (s : Signature) (names : List (List ℕ)) where
   with_parts (ExtNonzero count) p = certificate.ExtNonzero p.0 p.1.0 p.1.1
   with_parts (Halted cause) p = certificate.Halted (record { cause = cause; plan = p.0; runs = p.1.0; stop = p.1.1 })
 
+  -- the text of the parts of a certificate
   abbrev pub rest_text : Certificate → List ℕ
   rest_text (certificate.Controllable q block) = matrix_part names s.order (codes "Q") q ++ exact_text names s.order block
   rest_text (certificate.AutonomousElement element operator cofactor block) = row_part names s.order (codes "element") element ++ (operator_line names s.order (codes "operator") operator ++ (row_part names s.order (codes "cofactor") cofactor ++ outside_text names s.order block))
@@ -126,17 +142,22 @@ module _ (s : Signature) (names : List (List ℕ)) where
   rest_text (certificate.ExtNonzero links element block) = flat_map (link_text names s.order) links ++ (row_part names s.order (codes "element") element ++ outside_text names s.order block)
   rest_text (certificate.Halted r) = line (codes "plan" ∷ plan_words r.plan) ++ (flat_map run_text r.runs ++ line (codes "stop" ∷ stop_words r.stop))
 
+  -- the certificate is one of the kind, and has parts that may be written
   abbrev pub IsMadeOf : (k : Kind) → Certificate → Type 0
   IsMadeOf k c = (p : Parts k) × (parts_format k).may p × (with_parts k p ≡ c)
 
+  -- certificates of a kind, by the text of their parts
   abbrev pub body_format : Kind → Format Certificate
   body_format k = record { text = rest_text; may = IsMadeOf k }
 
+  -- certificates of a kind, by the text of their parts and the last line, `end`
   abbrev pub closed_format : Kind → Format Certificate
   closed_format k = record { text = λ c. rest_text c ++ codes "end\n"; may = IsMadeOf k }
 
+  -- certificates of all kinds, by what follows the first line of their texts
   abbrev pub kinds_format : Format Certificate
   kinds_format = record { text = λ c. body_text names s.order c ++ codes "end\n"; may = IsWrittenCertificate s names }
 
+  -- certificates of all kinds, by their whole texts
   abbrev pub certificate_format : Format Certificate
   certificate_format = record { text = certificate_text names s.order; may = IsWrittenCertificate s names }

@@ -7,7 +7,8 @@
 --     body_text              what stands between the first line and the last
 --     certificate_text       the whole text
 --     brief_text             the kind of the certificate and what is claimed, without what shows it
---     IsWrittenChoice, IsWrittenStop, IsWrittenPlan, IsWrittenCause, IsWrittenReport, IsWrittenLink, IsWrittenLinks, IsWrittenCertificate
+--     IsLength               how many links there may be
+--     IsWrittenChoice, IsWrittenRun, IsWrittenStop, IsWrittenPlan, IsWrittenCause, IsWrittenReport, IsWrittenLink, IsWrittenLinks, IsWrittenOperator, IsWrittenCertificate
 --                            numbers are in their ranges, and operators are of the signature
 --     IsCertificate          the text of some certificate
 use Rattle.std.specs.Prelude.{◌≡◌, ℕ, ◌<◌, ◌≤◌, List, [], ◌∷◌, ◌++◌, length, codes, decimal}
@@ -36,18 +37,22 @@ use Rattle.ore_cert.specs.declared.report.Stop.TheVariants as stop
 
 -- ---- reports
 
+-- `treat` and the two places of the pair, or `skip`, these and the place of the third row
 abbrev pub choice_text : Choice → List ℕ
 choice_text (choice.Treat i j) = line (codes "treat" ∷ place i ∷ place j ∷ [])
 choice_text (choice.Skip i j via) = line (codes "skip" ∷ place i ∷ place j ∷ place via ∷ [])
 
+-- `run` and the number of choices on one line, and then each choice
 abbrev pub run_text : List Choice → List ℕ
 run_text choices = line (codes "run" ∷ decimal (length choices) ∷ []) ++ flat_map choice_text choices
 
+-- a number left its range, a degree passed 32,767, or so many pairs were treated and a pair is left
 abbrev pub cause_words : Cause → List (List ℕ)
 cause_words cause.Overflow = codes "overflow" ∷ []
 cause_words cause.Degree = codes "degree" ∷ []
 cause_words (cause.Budget n) = codes "budget" ∷ decimal n ∷ []
 
+-- `resolve` has the number of links behind, and `ext` that of the extension module
 abbrev pub plan_words : Plan → List (List ℕ)
 plan_words Analyse = codes "analyse" ∷ []
 plan_words KernelLeft = codes "kernel" ∷ codes "left" ∷ []
@@ -58,26 +63,32 @@ plan_words (Resolve k) = codes "resolve" ∷ decimal k ∷ []
 plan_words (Ext k) = codes "ext" ∷ decimal k ∷ []
 plan_words Adjoint = codes "adjoint" ∷ []
 
+-- in what follows from the choices, in treating the pair of two rows, or where the next pair would have been chosen
 abbrev pub stop_words : Stop → List (List ℕ)
 stop_words stop.Forced = codes "forced" ∷ []
 stop_words (stop.Treat i j) = codes "treat" ∷ place i ∷ place j ∷ []
 stop_words stop.Budget = codes "budget" ∷ []
 
+-- the cause and the plan, each on a line, the runs, and the line that says where it stopped
 abbrev pub report_text : Report → List ℕ
 report_text r = line (codes "halted" ∷ cause_words r.cause) ++ (line (codes "plan" ∷ plan_words r.plan) ++ (flat_map run_text r.runs ++ line (codes "stop" ∷ stop_words r.stop)))
 
 -- ---- kinds
 
 module _ (names : List (List ℕ)) (o : Order) where
+  -- the matrix `L`, and then its exact block
   abbrev pub link_text : Link → List ℕ
   link_text k = matrix_part names o (codes "L") k.l ++ exact_text names o k.block
 
+  -- the word of the kind and the number of links on one line, and then each link
   abbrev pub links_text : List ℕ → List Link → List ℕ
   links_text kind links = line (kind ∷ decimal (length links) ∷ []) ++ flat_map link_text links
 
+  -- the word and the canonical text of the operator on one line
   abbrev pub operator_line : List ℕ → Ordered → List ℕ
   operator_line word f = line (word ∷ operator_text names o f.sum ∷ [])
 
+  -- the line of the kind, and then the parts that the kind has
   abbrev pub body_text : Certificate → List ℕ
   body_text (Controllable q block) = codes "controllable\n" ++ (matrix_part names o (codes "Q") q ++ exact_text names o block)
   body_text (AutonomousElement element operator cofactor block) = codes "autonomous-element\n" ++ (row_part names o (codes "element") element ++ (operator_line (codes "operator") operator ++ (row_part names o (codes "cofactor") cofactor ++ outside_text names o block)))
@@ -92,9 +103,11 @@ module _ (names : List (List ℕ)) (o : Order) where
   body_text (ExtNonzero links element block) = links_text (codes "ext-nonzero") links ++ (row_part names o (codes "element") element ++ outside_text names o block)
   body_text (Halted report) = report_text report
 
+  -- the line `certificate 1`, the body and the line `end`
   abbrev pub certificate_text : Certificate → List ℕ
   certificate_text c = codes "certificate 1\n" ++ (body_text c ++ codes "end\n")
 
+  -- of the verdicts, the kind with Q, or with the element and the operator; of another kind, the whole text
   abbrev pub brief_text : Certificate → List ℕ
   brief_text (Controllable q block) = codes "controllable\n" ++ matrix_part names o (codes "Q") q
   brief_text (AutonomousElement element operator cofactor block) = codes "autonomous-element\n" ++ (row_part names o (codes "element") element ++ operator_line (codes "operator") operator)
@@ -102,32 +115,39 @@ module _ (names : List (List ℕ)) (o : Order) where
 
 -- ---- what may be written
 
+-- each place may be written
 abbrev pub IsWrittenChoice : Choice → Type 0
 IsWrittenChoice (choice.Treat i j) = is_place i × is_place j
 IsWrittenChoice (choice.Skip i j via) = is_place i × is_place j × is_place via
 
+-- fewer than 2^63 choices, each of which may be written
 pub record IsWrittenRun (choices : List Choice) : Type 0 where
   pub few : length choices < number_bound
   pub all : All IsWrittenChoice choices
 
+-- a budget is at most 1,000,000
 abbrev pub IsWrittenCause : Cause → Type 0
 IsWrittenCause cause.Overflow = Unit {0}
 IsWrittenCause cause.Degree = Unit {0}
 IsWrittenCause (cause.Budget n) = n ≤ 1000000
 
+-- from 1 to 12
 abbrev pub IsLength : ℕ → Type 0
 IsLength k = (1 ≤ k) × (k ≤ 12)
 
+-- the number of a resolution or of an extension module is from 1 to 12
 abbrev pub IsWrittenPlan : Plan → Type 0
 IsWrittenPlan (Resolve k) = IsLength k
 IsWrittenPlan (Ext k) = IsLength k
 IsWrittenPlan plan = Unit {0}
 
+-- the places of a pair may be written
 abbrev pub IsWrittenStop : Stop → Type 0
 IsWrittenStop stop.Forced = Unit {0}
 IsWrittenStop (stop.Treat i j) = is_place i × is_place j
 IsWrittenStop stop.Budget = Unit {0}
 
+-- each part of a report may be written
 pub record IsWrittenReport (r : Report) : Type 0 where
   pub cause : IsWrittenCause r.cause
   pub plan : IsWrittenPlan r.plan
@@ -135,18 +155,22 @@ pub record IsWrittenReport (r : Report) : Type 0 where
   pub stop : IsWrittenStop r.stop
 
 module _ (s : Signature) (names : List (List ℕ)) where
+  -- the matrix and the block may be written
   pub record IsWrittenLink (k : Link) : Type 0 where
     pub l : IsWrittenMatrix s names k.l
     pub block : IsWrittenExact s names k.block
 
+  -- from 1 to 12 links, each of which may be written
   pub record IsWrittenLinks (links : List Link) : Type 0 where
     pub count : IsLength (length links)
     pub all : All IsWrittenLink links
 
+  -- an operator of the signature, with its order, whose numbers and degrees are in the program's ranges
   pub record IsWrittenOperator (f : Ordered) : Type 0 where
     pub written : IsPrintable s names f.sum
     pub of : Belongs s f
 
+  -- each part of a certificate may be written
   abbrev pub IsWrittenCertificate : Certificate → Type 0
   IsWrittenCertificate (Controllable q block) = IsWrittenMatrix s names q × IsWrittenExact s names block
   IsWrittenCertificate (AutonomousElement element operator cofactor block) = IsWrittenRow s names element × IsWrittenOperator operator × IsWrittenRow s names cofactor × IsWrittenOutside s names block
@@ -160,5 +184,6 @@ module _ (s : Signature) (names : List (List ℕ)) where
   IsWrittenCertificate (ExtNonzero links element block) = IsWrittenLinks links × IsWrittenRow s names element × IsWrittenOutside s names block
   IsWrittenCertificate (Halted report) = IsWrittenReport report
 
+  -- a certificate that may be written has this text
   abbrev pub IsCertificate : List ℕ → Type 0
   IsCertificate text = (c : Certificate) × IsWrittenCertificate c × (text ≡ certificate_text names s.order c)

@@ -1,16 +1,20 @@
 //! The blocks of a certificate.
+//!
+//! What is said here of sizes, places and products holds of a valid block. One that was read may lack it: a text
+//! fixes the form alone.
 
 ghost use Rattle.std.specs.Prelude.{◌≡◌, ◌<◌, ◌^◌, length, slice_get};
 
 use ore_rows::{Matrix, Row, Steps};
 use std::marker::Model;
 
-/// What was done with a pair of basis rows.
+/// What was done with a pair of basis rows. Their places `i`, `j` and `via` count from 0.
 #[derive(Drop)]
 pub enum PairEntry {
-    /// The steps leave nothing of its combination.
+    /// The steps leave nothing of the combination of the rows at `i` and `j` in which their leads cancel.
     Pair { i: usize, j: usize, steps: Steps },
-    /// The pairs of both rows with a third row are listed before, whose lead divides the common multiple.
+    /// The lead of the row at `via` divides the common multiple of the leads at `i` and `j`, and its pairs with both are
+    /// listed before.
     Skip { i: usize, j: usize, via: usize },
 }
 
@@ -51,7 +55,7 @@ impl Pairs {
         self.items.len()
     }
 
-    /// Nothing, since it is known: there are fewer than 2^63 pairs.
+    /// Does nothing. Its contract says what holds of all such lists: there are fewer than 2^63 pairs.
     pub fn few(&self)
         ensures { length self.now < 2 ^ 63 }
     {
@@ -67,46 +71,49 @@ impl Pairs {
     }
 }
 
-/// Shows that the rows which take a matrix to zeros are the row module of another.
+/// Shows that the rows which take a matrix `a` to zeros are the row module of a matrix `m`, which has a column for each
+/// row of `a`.
 #[derive(Drop)]
 pub struct ExactBlock {
-    /// Rows with lead coefficient 1, as many columns as the matrix.
+    /// n rows with lead coefficient 1, and as many columns as `a`.
     pub basis: Matrix,
-    /// The rows of the matrix as combinations of the basis rows.
+    /// The rows of `a` as combinations of the basis rows: a row for each row of `a`, and n columns.
     pub from: Matrix,
-    /// The basis rows as combinations of the rows of the matrix.
+    /// The basis rows as combinations of the rows of `a`: n rows, and a column for each row of `a`.
     pub to: Matrix,
-    /// The pairs of the basis.
+    /// Each pair of basis rows whose leads are in one column.
     pub pairs: Pairs,
-    /// What takes the matrix to zeros, as combinations of the rows of the other: first for each row of the matrix,
-    /// then for each pair that isn't skipped.
+    /// What takes `a` to zeros, as combinations of the rows of `m`: a row for each row of `a`, then one for each pair
+    /// that isn't skipped, and a column for each row of `m`.
     pub inside: Matrix,
 }
 
-/// Shows that a row isn't in the row module of a matrix.
+/// Shows that a row `w` isn't in the row module of a matrix `a`, which has a column for each entry of `w`.
 #[derive(Drop)]
 pub struct OutsideBlock {
-    /// Rows with lead coefficient 1, as many columns as the matrix.
+    /// n rows with lead coefficient 1, and as many columns as `a`.
     pub basis: Matrix,
-    /// The rows of the matrix as combinations of the basis rows.
+    /// The rows of `a` as combinations of the basis rows: a row for each row of `a`, and n columns.
     pub from: Matrix,
-    /// The pairs of the basis.
+    /// Each pair of basis rows whose leads are in one column.
     pub pairs: Pairs,
-    /// The steps that are taken from the row.
+    /// The steps that are taken from `w`, in order.
     pub quotients: Steps,
-    /// What they leave of it.
+    /// What they leave of `w`: an entry for each column of `a`. It isn't zero, and no basis lead divides its lead.
     pub rest: Row,
 }
 
 /// A step of a resolution: a matrix whose rows generate what takes the matrix before to zeros.
 #[derive(Drop)]
 pub struct Link {
+    /// This matrix, with a column for each row of the matrix before; that of the first link is the matrix of the
+    /// problem.
     pub l: Matrix,
-    /// Shows that they do.
+    /// Shows that its rows do so.
     pub block: ExactBlock,
 }
 
-/// The steps of a resolution.
+/// The steps of a resolution, in order.
 #[derive(Drop)]
 pub struct Links {
     items: Vec<Link>,

@@ -5,14 +5,17 @@ use crate::report::Report;
 use ore_ring::Op;
 use ore_rows::{Matrix, Row};
 
-/// A side of a matrix.
+/// On which side of a matrix a kernel is.
 #[derive(Clone, Copy, Debug, PartialEq, Eq, Drop)]
 pub enum Side {
+    /// The rows that take the matrix to zeros.
     Left,
+    /// The columns that the matrix takes to zeros.
     Right,
 }
 
-/// What is claimed of a matrix R, of q rows and p columns, with what shows it.
+/// What is claimed of a matrix R, of q rows and p columns, with what shows it. The sizes are those of a valid
+/// certificate; one that was read may have others.
 #[derive(Drop)]
 pub enum Certificate {
     /// The rows that take Q, of p rows, to zeros are the row module of R. So R leaves no torsion.
@@ -20,34 +23,38 @@ pub enum Certificate {
         q: Matrix,
         block: ExactBlock,
     },
-    /// The element, of p entries, isn't in the row module of R; the operator, which isn't zero, times it is the cofactor
-    /// row, of q entries, times R.
+    /// The element, of p entries, isn't in the row module of R, but the operator, which isn't zero, times the element
+    /// is in it. The text also holds a cofactor row, of q entries, and the check compares that multiple with the
+    /// cofactor row times R.
     AutonomousElement {
         element: Row,
         operator: Op,
         cofactor: Row,
         block: OutsideBlock,
     },
-    /// S R is the identity.
+    /// S R is the identity, where S has p rows and q columns.
     LeftInverse {
         s: Matrix,
     },
-    /// R S is the identity.
+    /// R S is the identity, where S has p rows and q columns.
     RightInverse {
         s: Matrix,
     },
-    /// No S has S R for the identity: the unit row isn't in the row module of R.
+    /// No S has S R for the identity: the unit row of p entries with 1 at place `unit`, from 0, isn't in the row module
+    /// of R.
     NoLeftInverse {
         unit: usize,
         block: OutsideBlock,
     },
-    /// No S has R S for the identity: the unit row isn't in the row module of the transposed adjoint of R.
+    /// No S has R S for the identity: the unit row of q entries with 1 at place `unit`, from 0, isn't in the row module
+    /// of the transposed adjoint of R.
     NoRightInverse {
         unit: usize,
         block: OutsideBlock,
     },
-    /// The rows that take R to zeros are the row module of the generators; or, on the right, the columns that R takes
-    /// to zeros are the combinations of their columns.
+    /// On the left, the rows that take R to zeros are the row module of the generators, which have q columns. On the
+    /// right, the columns that R takes to zeros are the combinations of their columns, said of the transposed adjoints;
+    /// they have p rows.
     Kernel {
         side: Side,
         generators: Matrix,
@@ -57,12 +64,13 @@ pub enum Certificate {
     Resolution {
         links: Links,
     },
-    /// So they are, and the extension module at the last place is zero.
+    /// So they are, and, for k links, the k-th extension module is zero.
     ExtZero {
         links: Links,
         block: ExactBlock,
     },
-    /// So they are, and the element shows that the extension module at the last place isn't zero.
+    /// So they are, and, for k links, the k-th extension module isn't zero. The element shows it: it has an entry for
+    /// each row of the matrix before the last, which for one link is R.
     ExtNonzero {
         links: Links,
         element: Row,

@@ -10,7 +10,10 @@ use crate::fault::CertFault;
 use crate::lines::Lines;
 use crate::sizes::number_in;
 
-// The number behind this word on the line that is due.
+/// The number behind this word on the line that is due. The word has no line end.
+///
+/// # Errors
+/// The line that is due, where it isn't of this form or there is none.
 pub fn read_count(lines: &mut Lines<'_>, word: &[u8]) -> Result<usize, CertFault>
     requires { LacksByte 10 word.now }
     ensures { Reads (count_format word.now) lines.old result lines.new }
@@ -25,7 +28,7 @@ pub fn read_count(lines: &mut Lines<'_>, word: &[u8]) -> Result<usize, CertFault
     }
 }
 
-// The number behind this word, if these words are that.
+/// The number behind this word, if these words are that.
 pub fn count_in(words: &[u8], word: &[u8]) -> Option<usize>
     ensures found { IfSome result (λ n. (n < number_bound) × (words.now ≡ word.now ++ 32 ∷ decimal n)) }
     ensures only { (n : ℕ) → n < number_bound → words.now ≡ word.now ++ 32 ∷ decimal n → result ≡ Some n }

@@ -6,12 +6,13 @@ ghost use Rattle.ore_cert.specs.declared.fault.CertFault.TheVariants.{Memory};
 use ore_monomial::NoMemory;
 use std::alloc::{AllocError, AllocFailed};
 
-/// Why a text is no certificate.
+/// Why a certificate, or a part of one, isn't read.
 #[derive(Clone, Copy, Debug, PartialEq, Eq, Drop)]
 pub enum CertFault {
-    /// The first line that no certificate with the same lines before it has there.
+    /// The text is that of none: this is the first line that no certificate, or no part of this kind, with the same
+    /// lines before it has there. Lines count from the number that was given to the first.
     Malformed { line: u64 },
-    /// There was no memory.
+    /// There was no memory. Of the text nothing is said.
     Memory,
 }
 

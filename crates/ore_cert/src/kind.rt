@@ -11,7 +11,7 @@ use crate::fault::CertFault;
 use crate::lines::Lines;
 use crate::report::Cause;
 
-/// The kind of a certificate, and what its line says besides.
+/// The kind of a certificate, and what its line says besides. What the kinds claim stands at `Certificate`.
 #[derive(Clone, Copy, Drop)]
 pub enum Kind {
     Controllable,
@@ -24,12 +24,18 @@ pub enum Kind {
     KernelRight,
     /// So many links follow.
     Resolution { count: usize },
+    /// So many links follow, and then an exact block.
     ExtZero { count: usize },
+    /// So many links follow, and then a row and an outside block.
     ExtNonzero { count: usize },
+    /// The report follows of a computation that stopped for this cause.
     Halted { cause: Cause },
 }
 
-// The kind on the line that is due.
+/// The kind on the line that is due.
+///
+/// # Errors
+/// The line that is due, where it isn't of this form or there is none.
 pub fn read_kind(lines: &mut Lines<'_>) -> Result<Kind, CertFault>
     ensures { Reads kind_format lines.old result lines.new }
 {
@@ -122,7 +128,7 @@ fn cause_in(words: &[u8]) -> Option<Cause>
     None
 }
 
-// The number of links, from 1 to 12, behind this word.
+/// The number of links, from 1 to 12, behind this word, if these words are that.
 pub fn length_behind(words: &[u8], word: &[u8]) -> Option<usize>
     ensures { Spells (λ n. word.now ++ 32 ∷ decimal n) IsLength words.now result }
 {

@@ -15,8 +15,9 @@
 //! values. A certificate is the line of its kind, and then the parts that the kind has
 //! (`specs/WholeFormats.antt`).
 //!
-//! Sizes and counts are any numbers below 2^63, and nothing is allocated by them: a text with too few lines
-//! is refused at its end, in time linear in the text.
+//! Sizes and counts are any numbers below 2^63, and a text with too few lines is refused behind its last. Not
+//! proved, but how the readers are built: they go through the lines once, and store rows, pairs, steps and
+//! choices one by one as they are read, so that a size or a count takes no memory by itself.
 //!
 //! The crate stands on `ore_expr` for operators and lines of rows, on `ore_rows` for matrices and on `itoa`
 //! for numbers.

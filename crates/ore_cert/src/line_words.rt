@@ -17,7 +17,10 @@ use ore_monomial::{NoMemory, Signature};
 use ore_ring::Op;
 use std::alloc::Global;
 
-// The place of a unit row on the line that is due.
+/// The place, from 0, of a unit row on the line that is due.
+///
+/// # Errors
+/// The line that is due, where it isn't of this form or there is none.
 pub fn read_unit(lines: &mut Lines<'_>) -> Result<usize, CertFault>
     ensures { Reads unit_format lines.old result lines.new }
 {
@@ -40,7 +43,11 @@ fn unit_in(words: &[u8]) -> Option<usize>
     place_in(digits)
 }
 
-// The operator behind this word on the line that is due.
+/// The operator behind this word on the line that is due. There is a name for each variable of the signature, and
+/// the word has no line end.
+///
+/// # Errors
+/// The line that is due, where it isn't of this form or there is none; and want of memory.
 pub fn read_operator_line(
     alloc: Global,
     sig: &Signature,

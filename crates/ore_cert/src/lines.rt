@@ -29,7 +29,7 @@ impl<'a> Model for Lines<'a> {
 }
 
 impl<'a> Lines<'a> {
-    /// The lines of a text, of which the first has this number.
+    /// The lines of a text, of which the first has this number, which is below 2^63.
     pub fn new(text: &'a [u8], first: u64) -> Lines<'a>
         requires { first < 2 ^ 63 }
         ensures { result ≡ record { at = first; left = text.now } }

@@ -23,11 +23,12 @@ use ore_monomial::{NoMemory, Signature};
 use ore_rows::{Matrix, Row};
 use std::alloc::Global;
 
-/// The matrix of this name whose text begins where the lines are, going past it. After an error the lines are as they
-/// were.
+/// The matrix of this name whose text begins where the lines are, going past it. There is a name for each variable of
+/// the signature, and the name of the matrix has no line end.
 ///
 /// # Errors
-/// The faulty line of the text that is left, whatever were to follow the matrix.
+/// The faulty line of the text that is left, whatever were to follow the matrix; and want of memory. Then the lines are
+/// as they were.
 pub fn read_matrix(
     alloc: Global,
     sig: &Signature,
@@ -143,7 +144,11 @@ pub(crate) fn read_one_row(
     }
 }
 
-/// Appends the text of a matrix.
+/// Appends the text of a matrix with this name: a line with its sizes, rows before columns, and a line for each row.
+/// The entries are of the signature, and there is a name for each of its variables.
+///
+/// # Errors
+/// Want of memory. Then some of the text may have been appended.
 pub fn append_matrix(
     out: &mut Vec<u8>,
     sig: &Signature,
@@ -162,6 +167,7 @@ pub fn append_matrix(
     Ok(())
 }
 
+// Appends the line of a matrix with this name and these sizes.
 pub(crate) fn append_sizes(
     out: &mut Vec<u8>,
     name: &[u8],

@@ -19,15 +19,20 @@ use ore_expr::Names;
 use ore_monomial::Signature;
 use std::alloc::Global;
 
-/// The line of a pair.
+/// The line of a pair. Places count from 0.
 #[derive(Clone, Copy, Drop)]
 pub enum EntryLine {
     /// So many steps follow.
     PairLine { i: usize, j: usize, count: usize },
+    /// No step follows.
     SkipLine { i: usize, j: usize, via: usize },
 }
 
-// The pairs behind a line with their number.
+/// The pairs behind a line with their number. There is a name for each variable of the signature.
+///
+/// # Errors
+/// The faulty line of the text that is left, whatever were to follow; and want of memory. Then the lines may stand
+/// anywhere.
 pub fn read_pairs(
     alloc: Global,
     sig: &Signature,

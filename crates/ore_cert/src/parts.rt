@@ -20,11 +20,12 @@ use ore_expr::Names;
 use ore_monomial::Signature;
 use std::alloc::Global;
 
-/// The block that shows exactness whose text begins where the lines are, going past it. After an error the lines are
-/// as they were.
+/// The exact block whose text begins where the lines are, going past it. There is a name for each variable of the
+/// signature.
 ///
 /// # Errors
-/// The faulty line of the text that is left, whatever were to follow the block.
+/// The faulty line of the text that is left, whatever were to follow the block; and want of memory. Then the lines are
+/// as they were.
 pub fn read_exact(
     alloc: Global,
     sig: &Signature,
@@ -45,11 +46,12 @@ pub fn read_exact(
     Ok(block)
 }
 
-/// The block that shows that a row isn't in a row module whose text begins where the lines are, going past it. After an
-/// error the lines are as they were.
+/// The outside block whose text begins where the lines are, going past it. There is a name for each variable of the
+/// signature.
 ///
 /// # Errors
-/// The faulty line of the text that is left, whatever were to follow the block.
+/// The faulty line of the text that is left, whatever were to follow the block; and want of memory. Then the lines are
+/// as they were.
 pub fn read_outside(
     alloc: Global,
     sig: &Signature,

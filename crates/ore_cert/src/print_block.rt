@@ -205,7 +205,11 @@ fn append_pairs(
     append_entries(alloc, out, sig, names, pairs)
 }
 
-/// Appends a row as a matrix of one row.
+/// Appends a row as a matrix of one row, which has this name and a column for each entry. The entries are of the
+/// signature, and there is a name for each of its variables.
+///
+/// # Errors
+/// Want of memory. Then some of the text may have been appended.
 pub fn append_row_part(
     out: &mut Vec<u8>,
     sig: &Signature,
@@ -221,7 +225,11 @@ pub fn append_row_part(
     append_row(out, sig, names, row.entries())
 }
 
-/// Appends the text of a block that shows exactness.
+/// Appends the text of an exact block. Its operators are of the signature, and there is a name for each of its
+/// variables.
+///
+/// # Errors
+/// Want of memory. Then some of the text may have been appended.
 pub fn append_exact(
     alloc: Global,
     out: &mut Vec<u8>,
@@ -241,7 +249,11 @@ pub fn append_exact(
     append_matrix(out, sig, names, b"inside", &block.inside)
 }
 
-/// Appends the text of a block that shows that a row lies outside a row module.
+/// Appends the text of an outside block. Its operators are of the signature, and there is a name for each of its
+/// variables.
+///
+/// # Errors
+/// Want of memory. Then some of the text may have been appended.
 pub fn append_outside(
     alloc: Global,
     out: &mut Vec<u8>,

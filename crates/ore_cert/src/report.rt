@@ -2,18 +2,24 @@
 
 use ore_rows::Runs;
 
-/// What was computed.
+/// What was computed of a matrix.
 #[derive(Clone, Copy, Debug, PartialEq, Eq, Drop)]
 pub enum Plan {
+    /// Which of the two verdicts is true.
     Analyse,
+    /// The rows that take the matrix to zeros.
     KernelLeft,
+    /// The columns that the matrix takes to zeros.
     KernelRight,
+    /// A left inverse, or that there is none.
     InverseLeft,
+    /// A right inverse, or that there is none.
     InverseRight,
     /// A resolution of so many links, from 1 to 12.
     Resolve(u8),
-    /// The extension module at this place, from 1 to 12.
+    /// Whether the extension module of this number, from 1 to 12, is zero.
     Ext(u8),
+    /// The transposed adjoint.
     Adjoint,
 }
 
@@ -33,7 +39,7 @@ pub enum Cause {
 pub enum Stop {
     /// In what follows from the choices.
     Forced,
-    /// In treating the pair of these rows.
+    /// In treating the pair of the basis rows at these places, from 0.
     Treat { i: usize, j: usize },
     /// Where the next pair would have been chosen.
     Budget,

@@ -21,17 +21,24 @@ use std::alloc::Global;
 pub enum ReportLine {
     /// So many choices of a run follow.
     RunLine { count: usize },
+    /// The last line of the report.
     StopLine { stop: Stop },
 }
 
 /// What follows the plan, or a run.
 #[derive(Drop)]
 pub enum Next {
+    /// A run with these choices.
     Run { choices: Choices },
+    /// The last line of the report.
     End { stop: Stop },
 }
 
-// What follows the first line of a report: the plan, the runs and where the computation stopped.
+/// What follows the first line of a report: the plan, the runs and where the computation stopped.
+///
+/// # Errors
+/// The faulty line of the text that is left, whatever were to follow; and want of memory. Then the lines may stand
+/// anywhere.
 pub fn read_report_rest(
     alloc: Global,
     lines: &mut Lines<'_>,

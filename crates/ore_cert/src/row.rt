@@ -16,7 +16,12 @@ use ore_monomial::Signature;
 use ore_rows::Row;
 use std::alloc::Global;
 
-// The row of this name.
+/// The row of this name. There is a name for each variable of the signature, and the name of the row has no
+/// line end.
+///
+/// # Errors
+/// The faulty line of the text that is left, whatever were to follow; and want of memory. Then the lines may stand
+/// anywhere.
 pub fn read_row_part(
     alloc: Global,
     sig: &Signature,

@@ -8,7 +8,7 @@ use crate::lines::cut_at;
 use itoa::Buffer;
 use std::str;
 
-// The numbers of rows and columns, if the line says them of a matrix of this name.
+/// The numbers of rows and columns, if the line says them of a matrix of this name.
 pub fn sizes_in(line: &[u8], name: &[u8]) -> Option<(usize, usize)>
     ensures found { IfSome result (λ s. (s.0 < number_bound) × (s.1 < number_bound) × (line.now ≡ matrix_words name.now s.0 s.1)) }
     ensures only { (rows cols : ℕ) → rows < number_bound → cols < number_bound → line.now ≡ matrix_words name.now rows cols → result ≡ Some (rows, cols) }
@@ -50,7 +50,7 @@ fn pair_in(text: &[u8]) -> Option<(usize, usize)>
     Some((rows, cols))
 }
 
-// The number that a text spells without a leading zero.
+/// The number that a text spells without a leading zero, if it is below 2^63.
 pub fn number_in(text: &[u8]) -> Option<usize>
     ensures found { IfSome result (λ n. (n < number_bound) × (text.now ≡ decimal n)) }
     ensures only { (n : ℕ) → n < number_bound → text.now ≡ decimal n → result ≡ Some n }
@@ -72,7 +72,7 @@ pub fn number_in(text: &[u8]) -> Option<usize>
     }
 }
 
-// The place that a text spells: the number, less one.
+/// The place that a text spells, from 0: the number, less one.
 pub fn place_in(text: &[u8]) -> Option<usize>
     ensures found { IfSome result (λ k. is_place k × (text.now ≡ place k)) }
     ensures only { (k : ℕ) → is_place k → text.now ≡ place k → result ≡ Some k }
@@ -86,7 +86,7 @@ pub fn place_in(text: &[u8]) -> Option<usize>
     Some(number - 1)
 }
 
-// The two places that a text begins with, and what follows the space behind them.
+/// The two places, from 0, that a text begins with, and what follows the space behind them.
 pub fn places_in(text: &[u8]) -> Option<(usize, usize, &[u8])>
     ensures found { IfSome result (λ p. is_place p.0 × is_place p.1 × (text.now ≡ place p.0 ++ 32 ∷ (place p.1 ++ 32 ∷ p.2.now))) }
     ensures only { (i j : ℕ) (rest : List ℕ) → is_place i → is_place j → text.now ≡ place i ++ 32 ∷ (place j ++ 32 ∷ rest) → MatchOption result ⊥ (λ p. (p.0 ≡ i) × (p.1 ≡ j) × (p.2.now ≡ rest)) }

@@ -23,7 +23,11 @@ use ore_ring::Op;
 use ore_rows::{Step, Steps};
 use std::alloc::Global;
 
-// Steps behind a line with their number.
+/// The steps behind a line with their number. There is a name for each variable of the signature.
+///
+/// # Errors
+/// The faulty line of the text that is left, whatever were to follow; and want of memory. Then the lines may stand
+/// anywhere.
 pub fn read_quotients(
     alloc: Global,
     sig: &Signature,
@@ -38,7 +42,11 @@ pub fn read_quotients(
     read_steps(alloc, sig, names, count, lines)
 }
 
-// So many steps.
+/// So many steps. There is a name for each variable of the signature.
+///
+/// # Errors
+/// The faulty line of the text that is left, whatever were to follow; and want of memory. Then the lines may stand
+/// anywhere.
 pub fn read_steps(
     alloc: Global,
     sig: &Signature,
