@@ -1,4 +1,5 @@
 -- The words of a command.
+--     word_tells    a list of one word is a list of a known one exactly where the two words are the same
 use Rattle.std.proofs.Common.{◌≡◌, ℕ, Bool, List, [], ◌∷◌, length, sym, ap, ◌∙◌, arith, Some, slice_get, nat_eq}
 use Rattle.std.specs.Prelude.{IsTrue, ◌↔◌}
 use Rattle.std.specs.Cmp.Lexicographic.{pointwise}
@@ -9,7 +10,6 @@ one_word [] word l e = absurd (omega (arith, l))
 one_word (x ∷ []) word l e = let h : Some x ≡ Some word = e in cc
 one_word (x ∷ y ∷ words) word l e = absurd (omega (arith, l))
 
--- a list of one word is compared by that word
 pub word_tells : (words : List (List ℕ)) (word known : List ℕ) (same : Bool) → length words ≡ 1 → slice_get words 0 ≡ Some word → same ≡ pointwise nat_eq word known → IsTrue same ↔ words ≡ known ∷ []
 word_tells words word known same l e s = (
   λ t. one_word words word l e ∙ ap (λ w. w ∷ []) ((bytes_eq-Decides word known).0 (sym s ∙ t)),

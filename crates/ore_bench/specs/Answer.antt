@@ -2,6 +2,7 @@
 --     IsKnown                        the words of a command that is built: `check`
 --     limit                          the greatest number of bytes that `check` reads
 --     Reply                          a status, and what is written with it
+--     at_line                        a text with the number of a line
 --     valid, invalid_at, malformed_at, overflow_at, degree_at, stopped_at, unknown_words, too_long, without_text      replies
 --     signature_word, text_word, fault_word      the word of a fault
 --     fault_reply                    the reply to a problem with a fault
@@ -10,6 +11,7 @@
 --     matrix_of                      the matrix of a problem
 --     IsCheckedReply                 the reply to a certificate
 --     IsCertificateReply             the reply to the text behind a problem
+--     IsReplyTo                      the reply to the bytes, by what is read in front of them
 --     IsVerdict, HasOneVerdict       the reply to the bytes of an input; there is one alone
 --     IsValidCertificate             a text is that of a certificate, and what it says of the matrix is true
 --     SaysValid, HoldsCertificate    there is such a certificate, and a text names its kind
@@ -45,6 +47,7 @@ use Rattle.ore_bench.specs.declared.status.Status.TheVariants.{Done, Invalid, Wo
 use Rattle.ore_bench.specs.InputEnd.{Takes}
 use Rattle.ore_bench.specs.Prefix.{AppendsPrefix}
 
+-- the one word `check`
 abbrev pub IsKnown : List (List ℕ) → Type 0
 IsKnown words = words ≡ codes "check" ∷ []
 
@@ -52,6 +55,7 @@ IsKnown words = words ≡ codes "check" ∷ []
 abbrev pub limit : ℕ
 limit = 33554432
 
+-- the status with which the program ends, and the bytes that it writes
 pub record Reply : Type 0 where
   pub status : Status
   pub text : List ℕ
@@ -62,36 +66,46 @@ pub record Reply : Type 0 where
 abbrev pub at_line : List ℕ → ℕ → List ℕ → List ℕ
 at_line word line more = word ++ (decimal line ++ (more ++ codes "\n"))
 
+-- the certificate is valid, and its kind has this word
 abbrev pub valid : List ℕ → Reply
 valid word = record { status = Done; text = codes "valid " ++ (word ++ codes "\n") }
 
+-- the condition with this word fails on this line of the input
 abbrev pub invalid_at : ℕ → List ℕ → Reply
 invalid_at line word = record { status = Invalid; text = at_line (codes "invalid ") line word }
 
+-- the input has the fault with this word on this line
 abbrev pub malformed_at : ℕ → List ℕ → Reply
 malformed_at line word = record { status = Malformed; text = at_line (codes "malformed ") line word }
 
+-- a number leaves the range of fractions on this line
 abbrev pub overflow_at : ℕ → Reply
 overflow_at line = record { status = Overflow; text = at_line (codes "overflow ") line [] }
 
+-- a degree is above 32,767 on this line
 abbrev pub degree_at : ℕ → Reply
 degree_at line = record { status = Degree; text = at_line (codes "degree ") line [] }
 
+-- an operation that this line calls for stops for this cause
 abbrev pub stopped_at : ℕ → Cause → Reply
 stopped_at line cause.Overflow = overflow_at line
 stopped_at line cause.Degree = degree_at line
 
+-- the words of the command line are no command
 abbrev pub unknown_words : Reply
 unknown_words = record { status = Words; text = codes "unknown words\n" }
 
+-- the input has more bytes than the limit
 abbrev pub too_long : Reply
 too_long = record { status = TooLong; text = codes "too long\n" }
 
+-- where the source fails, or memory runs out, nothing is written
 abbrev pub without_text : Status → Reply
 without_text status = record { status = status; text = [] }
 
 -- ---- faults of a problem
 
+-- the word of a fault of the declared variables, with a space before it
 abbrev pub signature_word : SignatureFault → List ℕ
 signature_word TooMany = codes " too-many-variables"
 signature_word (BadCoordinate k) = codes " bad-coordinate"
@@ -99,6 +113,7 @@ signature_word (TwoDifferentials k) = codes " two-differentials"
 signature_word (BadStep k) = codes " bad-step"
 signature_word (GroupOrder k) = codes " group-order"
 
+-- the word of a fault of an entry, with a space before it; a stop has none
 abbrev pub text_word : TextFault → List ℕ
 text_word (text.Syntax k) = codes " syntax"
 text_word (text.UnknownName k) = codes " unknown-name"
@@ -108,6 +123,7 @@ text_word (text.PowerTooLarge k) = codes " power-too-large"
 text_word (text.TooDeep k) = codes " too-deep"
 text_word (text.Stop s) = []
 
+-- the word of a fault of a line of the problem, with a space before it; want of memory has none
 abbrev pub fault_word : ProblemReason → List ℕ
 fault_word reason.Header = codes " header"
 fault_word reason.BadDeclaration = codes " bad-declaration"
@@ -145,6 +161,7 @@ kind_word (kind.ExtZero links block) = codes "ext-zero"
 kind_word (kind.ExtNonzero links element block) = codes "ext-nonzero"
 kind_word (kind.Halted report) = codes "halted"
 
+-- the word of a condition, with a space before it, as it stands behind the number of the line
 abbrev pub reason_word : Reason → List ℕ
 reason_word condition.Shape = codes " shape"
 reason_word condition.ZeroOperator = codes " zero-operator"
@@ -168,15 +185,17 @@ reason_word condition.Run = codes " run"
 reason_word condition.Treat = codes " treat"
 reason_word condition.Stop = codes " stop"
 
+-- a condition of the line fails, or an operation that it calls for stops
 abbrev pub trouble_reply : ℕ → Trouble → Reply
 trouble_reply line (Fails why) = invalid_at line (reason_word why)
 trouble_reply line (Stops c) = stopped_at line c
 
--- the lines of the certificate, which stand still at 2^64 - 1, count on from those of the problem
+-- the lines of the certificate count on from those of the problem; their own count rises to 2^64 - 1 and stays there
 abbrev pub checked_reply : ℕ → List ℕ → Checked (Unit {0}) → Reply
 checked_reply lines word (Ok x) = valid word
 checked_reply lines word (Err failing) = trouble_reply (lines + capped failing.line) failing.trouble
 
+-- as the check takes it: the number of columns, and the rows of plain operators
 abbrev pub matrix_of : System → Plain
 matrix_of p = record { cols = p.cols; rows = p.rows }
 
@@ -192,6 +211,7 @@ IsCertificateReply p lines bytes reply =
     ((c : Certificate) × IsWrittenCertificate p.signature p.names c × (bytes ≡ certificate_text p.names p.signature.order c) × IsCheckedReply p lines c reply)
     ⊎ ((line : ℕ) × IsFaultyLine (IsCertificate p.signature p.names) bytes line × (reply ≡ malformed_at (lines + line) (codes " certificate")))
 
+-- where a problem stands in front, the reply to the bytes behind it, else that to its fault
 abbrev pub IsReplyTo : List ℕ → Read (System × (ℕ × ℕ)) → Reply → Type 0
 IsReplyTo bytes (Ok x) reply = IsCertificateReply x.0 x.1.1 (drop x.1.0 bytes) reply
 IsReplyTo bytes (Err f) reply = reply ≡ fault_reply f.line f.reason
@@ -231,6 +251,7 @@ IsDueOnInput before after reply =
     (reply ≡ without_text ReadFault) ⊎ ((reply ≡ without_text Memory) ⊎ (((reply ≡ too_long) × Takes before after (limit + 1))
     ⊎ ((bytes : List ℕ) × (length bytes ≤ limit) × WasRead before after bytes × IsVerdict bytes reply)))
 
+-- words that are no command are answered whatever the input
 abbrev pub IsDue : List (List ℕ) → Option (List ℕ) → Option (List ℕ) → Reply → Type 0
 IsDue words before after reply = ((¬ IsKnown words) × (reply ≡ unknown_words)) ⊎ (IsKnown words × IsDueOnInput before after reply)
 

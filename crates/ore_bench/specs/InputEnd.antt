@@ -1,5 +1,5 @@
 -- How reading ends.
---     CountsFault   a count of faults rose where the answer is a fault, and stands still elsewhere
+--     CountsFault   a count of faults rose where the answer is a fault, and is the same elsewhere
 --     Takes         so many of the known bytes were taken from the front
 use Rattle.std.specs.Prelude.{◌≡◌, ℕ, List, length}
 use Rattle.std.specs.declared.option.Option.{Option}
@@ -10,6 +10,7 @@ use Rattle.ore_io.specs.Faults.{Rose}
 use Rattle.ore_bench.specs.declared.input.InputEnd.{InputEnd}
 use Rattle.ore_bench.specs.declared.input.InputEnd.TheVariants.{Fault, TooLong, Memory}
 
+-- the count rose where a read failed, and is the same where the answer is anything else
 abbrev pub CountsFault : {A : Type 0} → Result A InputEnd → ℕ → ℕ → Type 0
 CountsFault (Ok bytes) old new = new ≡ old
 CountsFault (Err Fault) old new = Rose old new

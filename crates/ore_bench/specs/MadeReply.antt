@@ -16,14 +16,17 @@ use Rattle.ore_bench.specs.declared.status.Status.TheVariants.{Done, Invalid, Wo
 use Rattle.ore_bench.specs.declared.reply.Reply.{Reply as MadeReply}
 use Rattle.ore_bench.specs.Answer.{Reply, valid, invalid_at, overflow_at, degree_at, without_text, too_long, reason_word}
 
+-- the status of a reply that was made, and the bytes of its text
 abbrev pub reply_of : MadeReply → Reply
 reply_of r = record { status = r.status; text = r.text.items }
 
+-- the reply where the source failed, there are more bytes than the limit, or memory ran out
 abbrev pub end_reply : InputEnd → Reply
 end_reply end.Fault = without_text ReadFault
 end_reply end.TooLong = too_long
 end_reply end.Memory = without_text Memory
 
+-- the reply that was made, or that to the reason why there is none
 abbrev pub given_reply : Result MadeReply InputEnd → Reply
 given_reply (Ok r) = reply_of r
 given_reply (Err e) = end_reply e
@@ -36,6 +39,7 @@ IsAnswerReply lines word (answer.Overflow line) reply = reply ≡ overflow_at (l
 IsAnswerReply lines word (answer.Degree line) reply = reply ≡ degree_at (lines + line)
 IsAnswerReply lines word answer.Memory reply = ⊥
 
+-- none of those for words, for a source or a sink that fails, for too long an input, and for want of memory
 abbrev pub IsOfBytes : Status → Type 0
 IsOfBytes Done = Unit {0}
 IsOfBytes Invalid = Unit {0}

@@ -21,6 +21,7 @@ impl Model for ArgList {
 }
 
 impl ArgList {
+    /// No words. Those that are added later take memory from `alloc`.
     pub fn new(alloc: Global) -> ArgList
         ensures { result ≡ [] }
     {
@@ -29,6 +30,10 @@ impl ArgList {
         }
     }
 
+    /// One more word, at the end.
+    ///
+    /// # Errors
+    /// Want of memory. Then the words are the same as before.
     pub fn push(&mut self, word: &[u8]) -> Result<(), NoMemory>
         ensures ok { OnOk result (self.new ≡ self.old ++ word.now ∷ []) }
         ensures err { OnErr result (self.new ≡ self.old) }
@@ -39,19 +44,21 @@ impl ArgList {
         Ok(())
     }
 
+    /// The number of words.
     pub fn len(&self) -> usize
         ensures { result ≡ length self.now }
     {
         self.words.len()
     }
 
+    /// Whether there is no word. A word without bytes is one.
     pub fn is_empty(&self) -> bool
         ensures { IsTrue result ↔ (self.now ≡ []) }
     {
         self.words.is_empty()
     }
 
-    /// The word at the place `k`, from 0.
+    /// The word at place `k`, which is below [`ArgList::len`]; the first has place 0.
     pub fn word(&self, k: usize) -> &[u8]
         requires { k < length self.now }
         ensures { slice_get self.now k ≡ Some result.now }

@@ -15,7 +15,10 @@ use ore_monomial::NoMemory;
 use ore_problem::{Problem, read_prefix};
 use std::alloc::Global;
 
-/// The reply that the bytes call for.
+/// The reply that the bytes call for: those of a problem, and behind it those of a certificate.
+///
+/// # Errors
+/// Want of memory.
 pub fn check_reply(alloc: Global, bytes: &[u8]) -> Result<Reply, NoMemory>
     ensures verdict { IfOk result (λ r. IsVerdict bytes.now (reply_of r)) }
     ensures valid { IfOk result (λ r. r.status ≡ Status.Done → HoldsCertificate r.text.items bytes.now) }
@@ -26,7 +29,7 @@ pub fn check_reply(alloc: Global, bytes: &[u8]) -> Result<Reply, NoMemory>
     }
 }
 
-/// Bytes call for one reply: the verdict is a function of the bytes.
+/// Does nothing: its clause says that bytes call for one reply alone.
 pub fn verdict_is_one()
     ensures { HasOneVerdict }
 {

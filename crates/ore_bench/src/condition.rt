@@ -10,7 +10,10 @@ use ore_monomial::NoMemory;
 use std::alloc::Global;
 
 /// The reply to the answer of a check, where the problem has so many lines and the kind of its certificate
-/// this word. Want of memory has none.
+/// this word.
+///
+/// # Errors
+/// The answer is want of memory, or there is no memory for the reply.
 pub fn answer_reply(
     alloc: Global,
     lines: usize,

@@ -11,7 +11,10 @@ use ore_monomial::{NoMemory, RingStop, SignatureFault};
 use ore_problem::{ProblemFault, ProblemReason};
 use std::alloc::Global;
 
-/// The reply to a fault of a problem. Want of memory has none.
+/// The reply to a fault of a problem.
+///
+/// # Errors
+/// The fault is want of memory, or there is no memory for the reply.
 pub fn fault_reply(alloc: Global, fault: &ProblemFault) -> Result<Reply, NoMemory>
     ensures reply { IfOk result (λ r. reply_of r ≡ answer.fault_reply fault.now.line fault.now.reason) }
     ensures memory { fault.now.reason ≡ reason_of.Memory → IsErr result }

@@ -15,8 +15,11 @@ const PIECE: usize = 4096;
 /// Why the input wasn't read to its end.
 #[derive(Clone, Copy, Debug, PartialEq, Eq, Drop)]
 pub enum InputEnd {
+    /// A read failed.
     Fault,
+    /// There are more bytes than the limit.
     TooLong,
+    /// Memory ran out.
     Memory,
 }
 
@@ -36,7 +39,11 @@ impl From<NoMemory> for InputEnd {
     }
 }
 
-/// Reads to the end of the input, to the first fault, or to the byte past the limit.
+/// Reads to the end of the input, of at most `limit` bytes.
+///
+/// # Errors
+/// The first read that fails; that a byte past the limit was read; and want of memory. What was read before is gone
+/// from the source.
 pub fn read_input<S: Source>(
     alloc: Global,
     source: &mut S,
@@ -47,7 +54,7 @@ pub fn read_input<S: Source>(
     ensures end { OnOk result (IsAtEnd (S.left source.new)) }
     ensures too_long { IsErrOf result InputEnd.TooLong →
         Takes (S.left source.old) (S.left source.new) (limit + 1) }
-    // The count of faults rose where the answer is `Fault`, and stands still elsewhere.
+    // The count of faults rose where the answer is `Fault`, and is the same elsewhere.
     ensures fault { CountsFault result (S.faults source.old) (S.faults source.new) }
 {
     let mut bytes = Vec::new(alloc);

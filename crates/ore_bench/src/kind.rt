@@ -25,7 +25,7 @@ pub fn is_built(cert: &Certificate) -> bool
     }
 }
 
-/// The word of the kind.
+/// The word of the kind, as it stands first in the second line of a certificate.
 pub fn kind_word(cert: &Certificate) -> &'static [u8]
     ensures { result.now ≡ answer.kind_word cert.now }
 {

@@ -19,7 +19,11 @@
 //!  * `check`: the reply to the bytes.
 //!  * `top`: the top call.
 //!
-//! `specs/Answer` says what the program answers.
+//! `specs/Answer.antt` says what the program answers.
+//!
+//! The program stands on `ore_io` for sources and sinks, on `ore_problem` and `ore_expr` for problems and the faults of
+//! their entries, on `ore_cert` and `ore_check` for certificates and their check, on `ore_commutative`, `ore_weyl` and
+//! `ore_mixed` for rings, and on `itoa` for numbers.
 #![tactic(auto)]
 
 mod args;

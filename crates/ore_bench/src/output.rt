@@ -7,7 +7,10 @@ ghost use Rattle.ore_bench.specs.Prefix.{AppendsPrefix};
 
 use ore_io::{Failed, Sink};
 
-/// Writes the text from its first byte to its last, or up to the first write that fails.
+/// Writes the text from its first byte to its last.
+///
+/// # Errors
+/// The first write that fails. Then a front of the text was written.
 pub fn write_text<K: Sink>(sink: &mut K, text: &[u8]) -> Result<(), Failed>
     ensures whole { OnOk result (K.written sink.new ≡ append_known (K.written sink.old) text.now) }
     ensures prefix { OnErr result (AppendsPrefix (K.written sink.old) (K.written sink.new) text.now) }

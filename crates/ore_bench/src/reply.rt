@@ -12,11 +12,16 @@ use std::alloc::Global;
 /// A status and its text.
 #[derive(Drop)]
 pub struct Reply {
+    /// The status with which the program ends.
     pub status: Status,
+    /// The bytes that it writes.
     pub text: Vec<u8>,
 }
 
 /// The certificate, of a kind with this word, is valid.
+///
+/// # Errors
+/// Want of memory.
 pub fn valid(alloc: Global, word: &[u8]) -> Result<Reply, NoMemory>
     ensures { IfOk result (λ r. reply_of r ≡ answer.valid word.now) }
 {
@@ -29,7 +34,10 @@ pub fn valid(alloc: Global, word: &[u8]) -> Result<Reply, NoMemory>
     })
 }
 
-/// The condition that is looked at on this line fails.
+/// The condition with this word fails on this line, from 1.
+///
+/// # Errors
+/// Want of memory.
 pub fn invalid_at(alloc: Global, line: u128, word: &[u8]) -> Result<Reply, NoMemory>
     ensures { IfOk result (λ r. reply_of r ≡ answer.invalid_at line word.now) }
 {
@@ -39,7 +47,10 @@ pub fn invalid_at(alloc: Global, line: u128, word: &[u8]) -> Result<Reply, NoMem
     })
 }
 
-/// The input has a fault on this line.
+/// The input has the fault with this word on this line, from 1.
+///
+/// # Errors
+/// Want of memory.
 pub fn malformed_at(alloc: Global, line: u128, word: &[u8]) -> Result<Reply, NoMemory>
     ensures { IfOk result (λ r. reply_of r ≡ answer.malformed_at line word.now) }
 {
@@ -49,7 +60,10 @@ pub fn malformed_at(alloc: Global, line: u128, word: &[u8]) -> Result<Reply, NoM
     })
 }
 
-/// A number leaves the range on this line.
+/// A number leaves the range of fractions on this line, from 1.
+///
+/// # Errors
+/// Want of memory.
 pub fn overflow_at(alloc: Global, line: u128) -> Result<Reply, NoMemory>
     ensures { IfOk result (λ r. reply_of r ≡ answer.overflow_at line) }
 {
@@ -59,7 +73,10 @@ pub fn overflow_at(alloc: Global, line: u128) -> Result<Reply, NoMemory>
     })
 }
 
-/// A degree is too great on this line.
+/// A degree is above 32,767 on this line, from 1.
+///
+/// # Errors
+/// Want of memory.
 pub fn degree_at(alloc: Global, line: u128) -> Result<Reply, NoMemory>
     ensures { IfOk result (λ r. reply_of r ≡ answer.degree_at line) }
 {

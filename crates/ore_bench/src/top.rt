@@ -19,7 +19,8 @@ use std::alloc::Global;
 /// How many bytes `check` reads at most: 32 MiB.
 const LIMIT: usize = 33_554_432;
 
-/// Runs the command that the words name on what the source gives, and writes the answer.
+/// Runs the command that the words name on what the source gives, and writes the answer. Where the words name no
+/// command, the source isn't read; an input of more than 32 MiB is read up to the first byte past them.
 pub fn bench<S: Source, K: Sink>(
     alloc: Global,
     words: &ArgList,

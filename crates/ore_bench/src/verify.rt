@@ -27,6 +27,11 @@ use ore_weyl::WeylRing;
 use std::alloc::Global;
 
 /// The reply to a certificate of a problem that has so many lines.
+///
+/// The problem is as it is read, and the certificate one that can be written with its names and signature.
+///
+/// # Errors
+/// Want of memory.
 pub fn certificate_reply(
     alloc: Global,
     problem: &Problem,

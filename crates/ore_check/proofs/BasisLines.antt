@@ -22,7 +22,8 @@ use Rattle.ore_pairs.specs.PairList.{Entry, AreLawful, pair_count}
 use Rattle.ore_pairs.specs.Steps.{AreLeads, lead_at}
 use Rattle.ore_check.specs.declared.answer.Reason.TheVariants as reason
 use Rattle.ore_check.specs.Conditions.{is_same}
-use Rattle.ore_check.specs.CheckBlock.{Plain, monic_lead, basis_leads, rows_give, check_basis}
+use Rattle.ore_check.specs.CheckBlock.{Plain, basis_leads, rows_give, check_basis}
+use Rattle.ore_check.specs.LineConditions.{monic_lead}
 use Rattle.ore_check.proofs.Passed.{value_of, bound, required_then, found_then, both_true, nat_eq_true, same_true}
 use Rattle.ore_check.proofs.Values.{produced}
 

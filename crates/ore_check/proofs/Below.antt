@@ -6,7 +6,7 @@ use Rattle.std.specs.declared.cmp.Ordering.TheVariants.{Less, Equal, Greater}
 use Rattle.std.specs.Ordering.{nat_cmp, ordering_then}
 use Rattle.ore_monomial.specs.Monomial.{Monomial, order_cmp}
 use Rattle.ore_monomial.specs.declared.order.Order.{Order}
-use Rattle.ore_check.specs.CheckBlock.{is_below}
+use Rattle.ore_check.specs.LineConditions.{is_below}
 
 by_columns : (b c : Bool) → elim (cond b Less (cond c Equal Greater)) [ Less ↦ true | Equal ↦ false | Greater ↦ false ] ≡ b
 by_columns true c = refl

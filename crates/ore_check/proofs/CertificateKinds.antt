@@ -1,5 +1,6 @@
 -- A certificate that passes the check is true, kind by kind, and in all.
 --     rows_count               a matrix has as many rows without the orders of their operators
+--     wide_for                 the rows of a matrix with as many columns as r has rows
 --     at_adjoint               the transposed adjoint that was formed
 --     controllable, autonomous, left_inverse, right_inverse, without_left_inverse, without_right_inverse, left_kernel, right_kernel
 --                              a certificate of the kind
@@ -34,7 +35,8 @@ use Rattle.ore_cert.specs.declared.certificate.Certificate.{Certificate}
 use Rattle.ore_cert.specs.declared.certificate.Certificate.TheVariants.{Controllable, AutonomousElement, LeftInverse, RightInverse, NoLeftInverse, NoRightInverse, Kernel, Resolution, ExtZero, ExtNonzero, Halted}
 use Rattle.ore_check.specs.declared.answer.Reason.TheVariants as reason
 use Rattle.ore_check.specs.Conditions.{is_same}
-use Rattle.ore_check.specs.CheckBlock.{Plain, plain, same_row, check_exact}
+use Rattle.ore_check.specs.CheckBlock.{Plain, plain, check_exact}
+use Rattle.ore_check.specs.LineConditions.{same_row}
 use Rattle.ore_check.specs.Check.{adjoint_of, check, IsBuilt}
 use Rattle.ore_check.specs.Belongs.{MatrixOf, RowOfSignature, IsExactOf, IsOutsideOf, IsCertificateOf}
 use Rattle.ore_check.specs.Meaning.{Means}
@@ -78,12 +80,20 @@ module _ (l : Limits) (s : Signature) (r : Plain) (long : AreLong rationals r.co
         outside_block_checked l s 8 r (sums_of element) block blocks same.1,
       )
 
-  left_inverse : (m : OperatorMatrix) → check l s r (LeftInverse m) ≡ Ok tt → Means s r (LeftInverse m)
+  -- the rows of a matrix with as many columns as r has rows
+  wide_for : (m : OperatorMatrix) → MatrixOf s m → m.cols ≡ length r.rows → AreLong rationals (length r.rows) (rows_of m)
+  wide_for m of e = subst (λ n. AreLong rationals n (rows_of m)) e (wide_rows s m of)
+
+  left_inverse : (m : OperatorMatrix) → MatrixOf s m → check l s r (LeftInverse m) ≡ Ok tt → Means s r (LeftInverse m)
   unfolding check
-  left_inverse m h =
+  left_inverse m of h =
       let shape = required_then 3 reason.Shape (nat_eq (length m.rows) r.cols && nat_eq m.cols (length r.rows)) _ tt h in
       let sizes = both_true (nat_eq (length m.rows) r.cols) _ shape.0 in
-      produced l s reason.Identity r.cols r.rows long 4 (rows_of m) (identity_rows rationals r.cols) (rows_count m ∙ nat_eq_true (length m.rows) r.cols sizes.0 ∙ sym (length-identity_rows rationals r.cols)) shape.1
+      let rows = rows_count m ∙ nat_eq_true (length m.rows) r.cols sizes.0 in (
+        rows,
+        wide_for m of (nat_eq_true m.cols (length r.rows) sizes.1),
+        produced l s reason.Identity r.cols r.rows long 4 (rows_of m) (identity_rows rationals r.cols) (rows ∙ sym (length-identity_rows rationals r.cols)) shape.1,
+      )
 
   right_inverse : (m : OperatorMatrix) → MatrixOf s m → check l s r (RightInverse m) ≡ Ok tt → Means s r (RightInverse m)
   unfolding check
@@ -91,9 +101,13 @@ module _ (l : Limits) (s : Signature) (r : Plain) (long : AreLong rationals r.co
       let shape = required_then 3 reason.Shape (nat_eq (length m.rows) r.cols && nat_eq m.cols (length r.rows)) _ tt h in
       let sizes = both_true (nat_eq (length m.rows) r.cols) _ shape.0 in
       let product = formed_then (4 + length m.rows) (matrix_times_within l s m.cols r.rows (rows_of m)) _ tt shape.1 in
-      ap (λ n. matrix_times rationals s n r.rows (rows_of m)) (sym (nat_eq_true m.cols (length r.rows) sizes.1))
-      ∙ sym (product_value l s m.cols r.rows (rows_of m) product.0 (wide_rows s m of) product.1)
-      ∙ same_true rows_discrete product.0 (identity_rows rationals (length r.rows)) (required_true (4 + length m.rows) reason.Identity _ tt product.2)
+      let cols = nat_eq_true m.cols (length r.rows) sizes.1 in (
+        rows_count m ∙ nat_eq_true (length m.rows) r.cols sizes.0,
+        wide_for m of cols,
+        ap (λ n. matrix_times rationals s n r.rows (rows_of m)) (sym cols)
+            ∙ sym (product_value l s m.cols r.rows (rows_of m) product.0 (wide_rows s m of) product.1)
+            ∙ same_true rows_discrete product.0 (identity_rows rationals (length r.rows)) (required_true (4 + length m.rows) reason.Identity _ tt product.2),
+      )
 
   without_left_inverse : (i : ℕ) (block : OutsideBlock) → IsOutsideOf s block → check l s r (NoLeftInverse i block) ≡ Ok tt → Means s r (NoLeftInverse i block)
   unfolding check
@@ -117,7 +131,8 @@ module _ (l : Limits) (s : Signature) (r : Plain) (long : AreLong rationals r.co
   unfolding check
   left_kernel m block of blocks h =
       let shape = required_then 3 reason.Shape (nat_eq m.cols (length r.rows)) _ tt h in
-      exact_block_checked l s (4 + length m.rows) r (plain m) block long (subst (λ n. AreLong rationals n (rows_of m)) (nat_eq_true m.cols (length r.rows) shape.0) (wide_rows s m of)) blocks shape.1
+      let wide = wide_for m of (nat_eq_true m.cols (length r.rows) shape.0) in
+      (wide, exact_block_checked l s (4 + length m.rows) r (plain m) block long wide blocks shape.1)
 
   -- the two transposed adjoints that a right kernel is about
   abbrev turned_rows : List (Row rationals)
@@ -149,7 +164,7 @@ module _ (l : Limits) (s : Signature) (r : Plain) (long : AreLong rationals r.co
   pub check_means : (c : Certificate) → IsCertificateOf s c → IsBuilt c → check l s r c ≡ Ok tt → Means s r c
   check_means (Controllable q block) of built h = controllable q block of.0 of.1 h
   check_means (AutonomousElement element operator cofactor block) of built h = autonomous element operator cofactor block of.2 of.3 h
-  check_means (LeftInverse m) of built h = left_inverse m h
+  check_means (LeftInverse m) of built h = left_inverse m of h
   check_means (RightInverse m) of built h = right_inverse m of h
   check_means (NoLeftInverse i block) of built h = without_left_inverse i block of h
   check_means (NoRightInverse i block) of built h = without_right_inverse i block of h

@@ -1,10 +1,8 @@
 -- The blocks of certificates as blocks of the laws, and what a signature says of them.
---     entry_of, entries_of                an entry, and a list of them
 --     exact_of, outside_of                a block
 --     wide_rows, rows_are_of              the rows of a matrix of a signature have an entry a column, and are of it
 --     entries_are_of, exact_is_of, outside_is_of      entries and blocks of a signature are of it
---     treated-entries                     as many are treated
-use Rattle.std.proofs.Common.{◌≡◌, ℕ, List, [], ◌∷◌, map, length, suc, refl, ap, ◌∙◌}
+use Rattle.std.proofs.Common.{◌≡◌, ℕ, List, [], ◌∷◌, map, length, ◌∙◌}
 use Rattle.std.specs.List.{All, AllByRecursion}
 use Rattle.std.proofs.lemmas.List.{length-map}
 use Rattle.std.proofs.lemmas.List.Elements.{All-head, All-tail, recursion_from_All}
@@ -16,22 +14,14 @@ use Rattle.ore_rows.specs.Rows.{RowOf, AreLong}
 use Rattle.ore_rows.specs.Stored.{OperatorMatrix, HasColumns, sums_of, rows_of}
 use Rattle.ore_rows.proofs.StoredRows.{rows_of_stored}
 use Rattle.ore_pairs.specs.Steps.{AreStepsOf}
-use Rattle.ore_pairs.specs.PairList.{Entry, AreEntriesOf, treated_count}
-use Rattle.ore_pairs.specs.PairList as listed
+use Rattle.ore_pairs.specs.PairList.{AreEntriesOf}
 use Rattle.ore_pairs.specs.Blocks as blocks
 use Rattle.ore_cert.specs.declared.block.PairEntry.{PairEntry}
 use Rattle.ore_cert.specs.declared.block.PairEntry.TheVariants.{Pair, Skip}
 use Rattle.ore_cert.specs.declared.block.ExactBlock.{ExactBlock}
 use Rattle.ore_cert.specs.declared.block.OutsideBlock.{OutsideBlock}
 use Rattle.ore_check.specs.Belongs.{MatrixOf, IsEntryOf, IsExactOf, IsOutsideOf}
-use Rattle.ore_check.specs.CheckBlock.{treated_in}
-
-abbrev pub entry_of : PairEntry → Entry rationals
-entry_of (Pair i j steps) = listed.Pair i j steps
-entry_of (Skip i j via) = listed.Skip i j via
-
-abbrev pub entries_of : List PairEntry → List (Entry rationals)
-entries_of es = map entry_of es
+use Rattle.ore_check.specs.CheckBlock.{entries_of}
 
 abbrev pub exact_of : ExactBlock → blocks.ExactBlock rationals
 exact_of b = record { basis = rows_of b.basis; from = rows_of b.from; to = rows_of b.to; entries = entries_of b.pairs; inside = rows_of b.inside }
@@ -42,12 +32,6 @@ outside_of b = record { basis = rows_of b.basis; from = rows_of b.from; entries 
 wide : (n : ℕ) (rows : List (List Ordered)) → HasColumns n rows → AreLong rationals n (map sums_of rows)
 wide n [] h = tt
 wide n (r ∷ rows) h = (length-map r (λ f. f.sum) ∙ All-head (λ r. length r ≡ n) r rows h, wide n rows (All-tail (λ r. length r ≡ n) r rows h))
-
-pub treated-entries : (es : List PairEntry) → treated_in es ≡ treated_count (entries_of es)
-unfolding treated_in treated_count
-treated-entries [] = refl
-treated-entries (Pair i j steps ∷ es) = ap suc (treated-entries es)
-treated-entries (Skip i j via ∷ es) = treated-entries es
 
 module _ (s : Signature) where
   pub wide_rows : (m : OperatorMatrix) → MatrixOf s m → AreLong rationals m.cols (rows_of m)

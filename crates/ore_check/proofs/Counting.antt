@@ -16,7 +16,7 @@ use Rattle.std.specs.Option.{unwrap_or}
 use Rattle.std.specs.Ordering.{is_eq, nat_cmp}
 use Rattle.ore_monomial.specs.Term.{Term}
 use Rattle.ore_pairs.specs.PairList.{pair_count}
-use Rattle.ore_check.specs.OneLine.{count_at}
+use Rattle.ore_check.specs.InnerContracts.{count_at}
 use Rattle.ore_check.proofs.Places.{drop_read}
 
 module _ (leads : List Term) (k : ℕ) (t : Term) (inside : k < length leads) (at : slice_get leads (length leads - 1 - k) ≡ Some t) where

@@ -1,14 +1,14 @@
 -- The pairs of a basis, from a place on.
---     treated_next, treated_end        how many are treated
+--     treated, treated_next, treated_end       how many are treated
 --     lines_next, lines_end            how many lines they have
 --     IsSameList                       two lists have the same pairs
 --     more_same                        and with one more pair in front
 --     entry_same, entries_same         so pairs are right by those of the one as by those of the other
 --     entries_next, entries_end        a pair and those behind it
---     steps_inside, fitted, new_treatable      steps that are right name basis rows; a common multiple that may be formed
---                                      has its degree; a new pair is of the basis
+--     steps_inside, fitted             steps that are right name basis rows; a common multiple that may be formed
+--                                      has its degree
 --     entry_treatable, entries_treatable       the pairs that are right can be treated
-use Rattle.std.proofs.Common.{◌≡◌, ℕ, suc, ◌+◌, ◌<◌, ◌≤◌, Bool, true, false, cond, not, ◌&&◌, ◌||◌, nat_eq, nat_lt, List, [], ◌∷◌, drop, length, refl, sym, ap, ◌∙◌, Some, arith}
+use Rattle.std.proofs.Common.{◌≡◌, ℕ, suc, ◌+◌, ◌<◌, ◌≤◌, Bool, true, false, cond, ◌&&◌, ◌||◌, nat_eq, nat_lt, List, [], ◌∷◌, drop, length, refl, sym, ap, ◌∙◌, Some, arith}
 use Rattle.std.specs.Prelude.{nat_le}
 use Rattle.std.specs.List.{All, slice_get}
 use Rattle.std.specs.declared.result.Result.{Result}
@@ -20,33 +20,39 @@ use Rattle.ore_rational.proofs.FractionLaws.{rationals}
 use Rattle.ore_monomial.specs.Monomial.{degree}
 use Rattle.ore_monomial.specs.Signature.{Signature}
 use Rattle.ore_monomial.specs.Term.{Term}
-use Rattle.ore_leads.specs.FirstDivisor.{divides_term}
 use Rattle.ore_rows.specs.Reduction.{Step}
 use Rattle.ore_rows.specs.Rows.{Row}
 use Rattle.ore_pairs.specs.Listed.{is_in}
-use Rattle.ore_pairs.specs.Steps.{lead_at, pair_term}
+use Rattle.ore_pairs.specs.PairList.{treated_count}
+use Rattle.ore_pairs.specs.PairRule.{may_treat, may_skip}
+use Rattle.ore_pairs.specs.Steps.{pair_term}
+use Rattle.ore_pairs.proofs.PairRuleLaws.{treat_from, treat_same, skip_same}
 use Rattle.ore_cert.specs.declared.block.PairEntry.{PairEntry}
 use Rattle.ore_cert.specs.declared.block.PairEntry.TheVariants.{Pair, Skip}
 use Rattle.ore_check.specs.declared.answer.Reason.TheVariants as reason
 use Rattle.ore_check.specs.Conditions.{◌>>=◌, formed, required}
-use Rattle.ore_check.specs.CheckBlock.{check_entries, check_entry, check_steps, common_fits, entry_lines, is_below, is_new, is_pair, less_step, lines_of, may_skip, pair_of, raised_less, shifted, treated_in}
-use Rattle.ore_check.specs.OneLine.{IsTreatable, rows_taken}
+use Rattle.ore_check.specs.CheckBlock.{check_entries, check_entry, check_steps, common_fits, entries_of, entry_lines, lines_of, pair_of, rows_taken}
+use Rattle.ore_check.specs.InnerContracts.{IsTreatable}
+use Rattle.ore_check.specs.LineConditions.{check_step, raised_less}
 use Rattle.ore_check.proofs.Passed.{both_true, bound, formed_then, nat_lt_true, required_then, required_true}
 use Rattle.ore_check.proofs.Places.{drop_read}
 
 -- ---- numbers
 
-pub treated_next : (es : List PairEntry) (k : ℕ) (e : PairEntry) → slice_get es k ≡ Some e → treated_in (drop k es) ≡ rows_taken e + treated_in (drop (k + 1) es)
-unfolding treated_in
-treated_next es k e at = ap treated_in (drop_read es k e at) ∙ by e
+abbrev treated : List PairEntry → ℕ
+treated es = treated_count (entries_of es)
+
+pub treated_next : (es : List PairEntry) (k : ℕ) (e : PairEntry) → slice_get es k ≡ Some e → treated (drop k es) ≡ rows_taken e + treated (drop (k + 1) es)
+unfolding treated_count
+treated_next es k e at = ap treated (drop_read es k e at) ∙ by e
   where
-    by : (e : PairEntry) → treated_in (e ∷ drop (k + 1) es) ≡ rows_taken e + treated_in (drop (k + 1) es)
+    by : (e : PairEntry) → treated (e ∷ drop (k + 1) es) ≡ rows_taken e + treated (drop (k + 1) es)
     by (Pair i j steps) = omega arith
     by (Skip i j via) = omega arith
 
-pub treated_end : (es : List PairEntry) (k : ℕ) → length es ≤ k → treated_in (drop k es) ≡ 0
-unfolding treated_in
-treated_end es k h = at_drop_all treated_in es k h
+pub treated_end : (es : List PairEntry) (k : ℕ) → length es ≤ k → treated (drop k es) ≡ 0
+unfolding treated_count
+treated_end es k h = at_drop_all treated es k h
 
 pub lines_next : (es : List PairEntry) (k : ℕ) (e : PairEntry) → slice_get es k ≡ Some e → lines_of (drop k es) ≡ entry_lines e + lines_of (drop (k + 1) es)
 unfolding lines_of
@@ -68,9 +74,8 @@ more_same p before others h x y = ap (λ t. (nat_eq x p.0 && nat_eq y p.1) || t)
 module _ (l : Limits) (s : Signature) (basis : List (Row rationals)) (leads : List Term) where
   pub entry_same : (line : ℕ) (before others : List (ℕ × ℕ)) (e : PairEntry) → IsSameList before others → check_entry l s basis leads line before e ≡ check_entry l s basis leads line others e
   unfolding check_entry
-  entry_same line before others (Pair i j steps) h = ap (λ t. required line reason.Pair (is_pair leads i j && not t) >>= λ u. formed line (common_fits l s (pair_term leads i j)) >>= λ u. formed line (raised_less l s leads basis i j) >>= λ r. check_steps l s basis leads (pair_term leads i j) line r steps) (h i j)
-  entry_same line before others (Skip i j via) h = λ n. required line reason.Skip ((is_pair leads i j && not (h i j n)) && (nat_lt via (length leads) && (not (nat_eq via i) && (not (nat_eq via j)
-      && (divides_term (lead_at leads via) (pair_term leads i j) && ((h i via n || h via i n) && (h j via n || h via j n)))))))
+  entry_same line before others (Pair i j steps) h = ap (λ t. required line reason.Pair t >>= λ u. formed line (common_fits l s (pair_term leads i j)) >>= λ u. formed line (raised_less l s leads basis i j) >>= λ r. check_steps l s basis leads (pair_term leads i j) line r steps) (treat_same leads before i j others (h i j))
+  entry_same line before others (Skip i j via) h = λ n. required line reason.Skip (treat_same leads before i j others (h i j) n && skip_same leads before i j via others h n)
 
   pub entries_same : (line : ℕ) (before others : List (ℕ × ℕ)) (es : List PairEntry) → IsSameList before others → check_entries l s basis leads line before es ≡ check_entries l s basis leads line others es
   unfolding check_entries
@@ -92,14 +97,12 @@ module _ (l : Limits) (s : Signature) (basis : List (Row rationals)) (leads : Li
 
 module _ (s : Signature) (basis : List (Row rationals)) (leads : List Term) where
   steps_inside : (t : Term) (line : ℕ) (r : Row rationals) (steps : List (Step rationals)) → check_steps program s basis leads t line r steps ≡ Ok tt → All (λ (t : Step rationals). t.index < length leads) steps
-  unfolding check_steps
+  unfolding check_steps check_step
   steps_inside t line r [] h = All-nil (λ (t : Step rationals). t.index < length leads)
   steps_inside t line r (step ∷ steps) h =
-      let first = required_then (suc line) reason.Step (nat_lt step.index (length leads)) _ tt h in
-      let second = formed_then (suc line) (shifted program s step.monomial (lead_at leads step.index)) _ tt first.1 in
-      let third = required_then (suc line) reason.StepTooHigh (is_below s.order second.0 t) _ tt second.2 in
-      let fourth = formed_then (suc line) (less_step program s basis step r) _ tt third.1 in
-      All-cons (λ (t : Step rationals). t.index < length leads) step steps (nat_lt_true step.index (length leads) first.0) (steps_inside t (suc line) fourth.0 steps fourth.2)
+      let next = bound (check_step program s basis leads t (suc line) r step) _ tt h in
+      let place = required_then (suc line) reason.Step (nat_lt step.index (length leads)) _ next.0 next.1 in
+      All-cons (λ (t : Step rationals). t.index < length leads) step steps (nat_lt_true step.index (length leads) place.0) (steps_inside t (suc line) next.0 steps next.2)
 
   fitted : (t : Term) (u : Unit {0}) → common_fits program s t ≡ Ok u → degree t.monomial ≤ 32767
   fitted t u h = by (nat_le (degree t.monomial) 32767) refl
@@ -108,21 +111,15 @@ module _ (s : Signature) (basis : List (Row rationals)) (leads : List Term) wher
       by true e = grind (arith, e)
       by false e = let apart : ◌≡◌ {A = Result (Unit {0}) Cause} (Err Degree) (Ok u) = sym (ap (λ b. cond b (Ok tt) (Err Degree)) e) ∙ h in absurd cc
 
-  new_treatable : (before : List (ℕ × ℕ)) (i j : ℕ) → is_new leads before i j ≡ true → (i < j) × (j < length leads)
-  new_treatable before i j h =
-      let pair = (both_true (is_pair leads i j) (not (is_in i j before)) h).0 in
-      let parts = both_true (nat_lt i j) (nat_lt j (length leads) && nat_eq (lead_at leads i).column (lead_at leads j).column) pair in
-      (nat_lt_true i j parts.0, nat_lt_true j (length leads) (both_true (nat_lt j (length leads)) _ parts.1).0)
-
   pub entry_treatable : (line : ℕ) (before : List (ℕ × ℕ)) (e : PairEntry) → check_entry program s basis leads line before e ≡ Ok tt → IsTreatable leads e
   unfolding check_entry
   entry_treatable line before (Pair i j steps) h =
-      let first = required_then line reason.Pair (is_new leads before i j) _ tt h in
+      let first = required_then line reason.Pair (may_treat leads before i j) _ tt h in
       let second = formed_then line (common_fits program s (pair_term leads i j)) _ tt first.1 in
       let third = formed_then line (raised_less program s leads basis i j) _ tt second.2 in
-      let places = new_treatable before i j first.0 in
-      (places.0, places.1, fitted (pair_term leads i j) second.0 second.1, steps_inside (pair_term leads i j) line third.0 steps third.2)
-  entry_treatable line before (Skip i j via) h = (new_treatable before i j (both_true (is_new leads before i j) (may_skip leads before i j via) (required_true line reason.Skip _ tt h)).0).0
+      let new = treat_from leads before i j first.0 in
+      (new.ordered, new.within, fitted (pair_term leads i j) second.0 second.1, steps_inside (pair_term leads i j) line third.0 steps third.2)
+  entry_treatable line before (Skip i j via) h = (treat_from leads before i j (both_true (may_treat leads before i j) (may_skip leads before i j via) (required_true line reason.Skip _ tt h)).0).ordered
 
   pub entries_treatable : (line : ℕ) (before : List (ℕ × ℕ)) (es : List PairEntry) → check_entries program s basis leads line before es ≡ Ok tt → All (IsTreatable leads) es
   unfolding check_entries

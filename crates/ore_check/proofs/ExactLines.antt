@@ -26,13 +26,13 @@ use Rattle.ore_pairs.proofs.Exact.{exact_block}
 use Rattle.ore_cert.specs.declared.block.ExactBlock.{ExactBlock}
 use Rattle.ore_check.specs.Belongs.{IsExactOf}
 use Rattle.ore_check.specs.declared.answer.Reason.TheVariants as reason
-use Rattle.ore_check.specs.CheckBlock.{Plain, plain, to_line, pairs_line, inside_line, treated_in, are_zero, first_inside, check_basis, check_to, check_pairs, check_inside, check_exact}
+use Rattle.ore_check.specs.CheckBlock.{Plain, plain, to_line, pairs_line, inside_line, entries_of, are_zero, rows_inside, check_basis, check_to, check_pairs, check_inside, check_exact}
 use Rattle.ore_check.proofs.Passed.{bound, required_then, formed_then, both_true, nat_eq_true, none_true}
 use Rattle.ore_check.proofs.Values.{produced}
-use Rattle.ore_check.proofs.Converted.{entries_of, exact_of, wide_rows, exact_is_of, treated-entries}
+use Rattle.ore_check.proofs.Converted.{exact_of, wide_rows, exact_is_of}
 use Rattle.ore_check.proofs.PairLines.{pairs_right}
 use Rattle.ore_check.proofs.BasisLines.{IsRight, basis_right, basis_from}
-use Rattle.ore_check.proofs.InsideLines.{first_right, later_right}
+use Rattle.ore_check.proofs.InsideLines.{rows_inside_right, pairs_inside_right}
 
 module _ (l : Limits) (s : Signature) where
   rows_vanish : (n : ℕ) (a : List (Row rationals)) → AreLong rationals n a → (rows : List (Row rationals)) → are_zero l s (matrix_times rationals s n rows a) ≡ true
@@ -80,17 +80,17 @@ module _ (l : Limits) (s : Signature) where
         → check_inside l s a m leads (inside_line line b) (plain b.from) (plain b.to) b.pairs (plain b.inside) ≡ Ok tt → IsInsideRight leads
     unfolding check_inside
     inside_right leads lf to h =
-        let shape = required_then (inside_line line b) reason.Shape (nat_eq (length inside_rows) (q + treated_in b.pairs) && nat_eq b.inside.cols (length m.rows)) _ tt h in
-        let sizes = both_true (nat_eq (length inside_rows) (q + treated_in b.pairs)) _ shape.0 in
-        let rows = nat_eq_true (length inside_rows) (q + treated_in b.pairs) sizes.0 in
-        let first = bound (first_inside l s q to_rows m.rows (suc (inside_line line b)) 0 from_rows inside_rows) _ tt shape.1 in
+        let shape = required_then (inside_line line b) reason.Shape (nat_eq (length inside_rows) (q + treated_count (entries_of b.pairs)) && nat_eq b.inside.cols (length m.rows)) _ tt h in
+        let sizes = both_true (nat_eq (length inside_rows) (q + treated_count (entries_of b.pairs))) _ shape.0 in
+        let rows = nat_eq_true (length inside_rows) (q + treated_count (entries_of b.pairs)) sizes.0 in
+        let first = bound (rows_inside l s q to_rows m.rows (suc (inside_line line b)) 0 from_rows inside_rows) _ tt shape.1 in
         record {
-          rows = rows ∙ ap (λ n. q + n) (treated-entries b.pairs);
+          rows = rows;
           columns = subst (λ n. AreLong rationals n inside_rows) (nat_eq_true b.inside.cols (length m.rows) sizes.1) (wide_rows s b.inside of.inside);
           first = λ i iq.
               ap (λ k. row_minus rationals (unit_row rationals q k) (combine rationals s q (row_at from_rows i) to_rows)) (let e : i ≡ 0 + i = omega arith in e)
-              ∙ first_right l s q to_rows m.rows to.1 wide (suc (inside_line line b)) 0 from_rows inside_rows (omega arith) first.1 i (omega arith);
-          later = later_right l s q to_rows m.rows to.1 wide leads (suc (inside_line line b) + q) b.pairs (drop q inside_rows) (length-drop q inside_rows ∙ omega arith) first.2;
+              ∙ rows_inside_right l s q to_rows m.rows to.1 wide (suc (inside_line line b)) 0 from_rows inside_rows (omega arith) first.1 i (omega arith);
+          later = pairs_inside_right l s q to_rows m.rows to.1 wide leads (suc (inside_line line b) + q) b.pairs (drop q inside_rows) (length-drop q inside_rows ∙ omega arith) first.2;
         }
 
     valid_from : (leads : List Term) → AllByRecursion (λ r. combine rationals s a.cols r a.rows ≡ zero_row rationals a.cols) m.rows → IsRight l s a (plain b.basis) (plain b.from) leads

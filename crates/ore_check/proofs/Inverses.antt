@@ -79,7 +79,7 @@ module _ (s : Signature) where
 
   pub no_left_inverse : (r : Plain) (i : ℕ) → i < r.cols → ¬ InRowModule rationals s r.cols r.rows (unit_row rationals r.cols i) → ¬ HasLeftInverse s r
   unfolding InRowModule
-  no_left_inverse r i h outside (m, lm, wide, of, e) = outside (
+  no_left_inverse r i h outside (m, of, (lm, wide, e)) = outside (
     row_at m i,
     All-get_or (λ q. length q ≡ length r.rows) m i [] here wide,
     All-get_or (RowOf rationals s) m i [] here of,
@@ -90,12 +90,14 @@ module _ (s : Signature) where
       here = subst (λ n. i < n) (sym lm) h
 
   left_inverse_of : (r : Plain) → AreLong rationals r.cols r.rows → HasRightInverse s r → HasLeftInverse s (turned s r)
-  left_inverse_of r long (m, lm, wide, of, e) = (
+  left_inverse_of r long (m, of, (lm, wide, e)) = (
     transpose_adjoint rationals s (length r.rows) m,
-    Rows.length-adjoint rationals s (length r.rows) m,
-    subst (λ n. AreLong rationals n (transpose_adjoint rationals s (length r.rows) m)) (lm ∙ sym (Rows.length-adjoint rationals s r.cols r.rows)) (Rows.long_adjoint rationals s (length r.rows) m),
     of_adjoint_rows (length r.rows) m of,
-    sym (Rows.adjoint-product rationals s (lawful s) r.cols (length r.rows) r.rows m long wide) ∙ ap (transpose_adjoint rationals s (length r.rows)) e ∙ adjoint-identity (length r.rows),
+    (
+      Rows.length-adjoint rationals s (length r.rows) m,
+      subst (λ n. AreLong rationals n (transpose_adjoint rationals s (length r.rows) m)) (lm ∙ sym (Rows.length-adjoint rationals s r.cols r.rows)) (Rows.long_adjoint rationals s (length r.rows) m),
+      sym (Rows.adjoint-product rationals s (lawful s) r.cols (length r.rows) r.rows m long wide) ∙ ap (transpose_adjoint rationals s (length r.rows)) e ∙ adjoint-identity (length r.rows),
+    ),
   )
 
   pub no_right_inverse : (r : Plain) → AreLong rationals r.cols r.rows → (i : ℕ) → i < length r.rows → ¬ InRowModule rationals s (length r.rows) (turned s r).rows (unit_row rationals (length r.rows) i) → ¬ HasRightInverse s r

@@ -11,7 +11,6 @@ pub mod GivenRows
 pub mod Entries
 pub mod InsideRows
 pub mod Counting
-pub mod OutsideBlocks
 pub mod Passed
 pub mod Values
 pub mod Converted

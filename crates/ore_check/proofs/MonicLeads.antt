@@ -32,7 +32,8 @@ use Rattle.ore_rows.specs.Rows.{Row, zero_row}
 use Rattle.ore_rows.specs.Stored.{IsZeroRow, OperatorMatrix, rows_of, sums_of}
 use Rattle.ore_rows.proofs.GreatestTerms.{row_lead-Some, row_lead_from, zero_from}
 use Rattle.ore_rows.proofs.StoredBases.{no_lead_of_zeros}
-use Rattle.ore_check.specs.CheckBlock.{basis_leads, is_reduced, monic_lead}
+use Rattle.ore_check.specs.CheckBlock.{basis_leads}
+use Rattle.ore_check.specs.LineConditions.{is_reduced, monic_lead}
 use Rattle.ore_check.specs.Conditions.{Checked, ◌>>=◌, found, is_none, is_same}
 use Rattle.ore_check.specs.declared.answer.Reason.TheVariants as reason
 use Rattle.ore_check.proofs.Places.{drop_mapped}

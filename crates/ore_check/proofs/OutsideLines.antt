@@ -1,6 +1,7 @@
 -- A checked outside block is valid, and so shows that a row isn't in the row module.
 --     quotients_right          the steps of the block leave what the lines form
 --     IsReduced, reduced_right a row has a lead that no lead divides
+--     rest_right               what the steps left is the rest, which is reduced
 --     outside_valid            each condition of the block holds
 --     outside_block_checked    w isn't in the row module of a
 use Rattle.std.proofs.Common.{◌≡◌, ℕ, suc, ◌<◌, true, false, nat_eq, nat_lt, List, [], ◌∷◌, length, refl, sym, ap, ◌∙◌, subst, true≢false}
@@ -17,6 +18,7 @@ use Rattle.ore_monomial.specs.Term.{Term}
 use Rattle.ore_monomial.proofs.Signatures.{lawful}
 use Rattle.ore_leads.specs.FirstDivisor.{first_divisor}
 use Rattle.ore_leads.proofs.Dividing.{divides_term_true, first_divisor-None}
+use Rattle.ore_ring.specs.Ordered.{Ordered}
 use Rattle.ore_rows.specs.Rows.{Row, AreLong, InRowModule}
 use Rattle.ore_rows.specs.Reduction.{Step, after}
 use Rattle.ore_rows.specs.RowLead.{coefficient_at, IsRowLead, row_lead}
@@ -29,11 +31,12 @@ use Rattle.ore_cert.specs.declared.block.OutsideBlock.{OutsideBlock}
 use Rattle.ore_check.specs.Belongs.{IsOutsideOf}
 use Rattle.ore_check.specs.declared.answer.Reason.TheVariants as reason
 use Rattle.ore_check.specs.Conditions.{is_none}
-use Rattle.ore_check.specs.CheckBlock.{Plain, plain, same_row, outside_pairs_line, steps_line, rest_line, less_step, check_basis, check_pairs, quotient_steps, is_reduced, check_outside}
+use Rattle.ore_check.specs.CheckBlock.{Plain, plain, entries_of, outside_pairs_line, steps_line, rest_line, check_basis, check_pairs, quotient_steps, check_rest, check_outside}
+use Rattle.ore_check.specs.LineConditions.{same_row, is_reduced, less_step, quotient_step}
 use Rattle.ore_check.specs.Same.{row_discrete}
-use Rattle.ore_check.proofs.Passed.{value_of, bound, required_true, required_then, formed_then, nat_lt_true, none_true, same_true}
+use Rattle.ore_check.proofs.Passed.{value_of, bound, required_true, required_then, formed_value, nat_lt_true, none_true, same_true}
 use Rattle.ore_check.proofs.Values.{step_value}
-use Rattle.ore_check.proofs.Converted.{entries_of, outside_of, wide_rows, outside_is_of}
+use Rattle.ore_check.proofs.Converted.{outside_of, wide_rows, outside_is_of}
 use Rattle.ore_check.proofs.PairLines.{pairs_right}
 use Rattle.ore_check.proofs.BasisLines.{basis_right, basis_from}
 
@@ -41,13 +44,14 @@ module _ (l : Limits) (s : Signature) where
   -- the steps name rows of the basis, and what is left is x
   quotients_right : (basis : List (Row rationals)) (line : ℕ) (r x : Row rationals) (steps : List (Step rationals)) → quotient_steps l s basis line r steps ≡ Ok x
       → AllByRecursion (λ (t : Step rationals). t.index < length basis) steps × (after rationals s basis steps r ≡ x)
-  unfolding quotient_steps after
+  unfolding quotient_steps quotient_step after
   quotients_right basis line r x [] h = (tt, value_of r x h)
   quotients_right basis line r x (step ∷ steps) h =
-      let a = required_then (suc line) reason.Step (nat_lt step.index (length basis)) _ x h in
-      let next = formed_then (suc line) (less_step l s basis step r) _ x a.1 in
+      let next = bound (quotient_step l s basis (suc line) r step) _ x h in
+      let place = required_then (suc line) reason.Step (nat_lt step.index (length basis)) _ next.0 next.1 in
+      let taken = formed_value (suc line) (less_step l s basis step r) next.0 place.1 in
       let rest = quotients_right basis (suc line) next.0 x steps next.2 in
-      ((nat_lt_true step.index (length basis) a.0, rest.0), ap (after rationals s basis steps) (sym (step_value l s basis step r next.0 next.1)) ∙ rest.1)
+      ((nat_lt_true step.index (length basis) place.0, rest.0), ap (after rationals s basis steps) (sym (step_value l s basis step r next.0 taken)) ∙ rest.1)
 
   -- the row has a lead, which none of the leads divides
   record IsReduced (leads : List Term) (r : Row rationals) : Type 0 where
@@ -69,6 +73,13 @@ module _ (l : Limits) (s : Signature) where
             ∙ first_divisor-None leads t (record { monomial = unit; column = 0 }) (none_true (first_divisor leads t) h) i il);
       }
 
+  rest_right : (leads : List Term) (line cols : ℕ) (left : Row rationals) (rest : List Ordered) → check_rest l s leads line cols left rest ≡ Ok tt → (left ≡ sums_of rest) × IsReduced leads (sums_of rest)
+  unfolding check_rest
+  rest_right leads line cols left rest h =
+      let wide = required_then line reason.Shape (nat_eq (length rest) cols) _ tt h in
+      let same = required_then (suc line) reason.Rest (same_row left (sums_of rest)) _ tt wide.1 in
+      (same_true row_discrete left (sums_of rest) same.0, reduced_right leads (sums_of rest) (required_true (suc line) reason.Reducible _ tt same.1))
+
   module _ (line : ℕ) (a : Plain) (w : Row rationals) (b : OutsideBlock) (of : IsOutsideOf s b) where
     abbrev basis_rows : List (Row rationals)
     basis_rows = rows_of b.basis
@@ -79,17 +90,16 @@ module _ (l : Limits) (s : Signature) where
         let basis = bound (check_basis l s a (suc line) (plain b.basis) (plain b.from)) _ tt h in
         let pairs = bound (check_pairs l s basis_rows basis.0 (outside_pairs_line line b) b.pairs) _ tt basis.2 in
         let left = bound (quotient_steps l s basis_rows (steps_line line b) w b.quotients) _ tt pairs.2 in
-        let wide = required_then (rest_line line b) reason.Shape (nat_eq (length b.rest) a.cols) _ tt left.2 in
-        let rest = required_then (suc (rest_line line b)) reason.Rest (same_row left.0 (sums_of b.rest)) _ tt wide.1 in
+        let rest = rest_right basis.0 (rest_line line b) a.cols left.0 b.rest left.2 in
         let right = basis_right l s a (plain b.basis) (plain b.from) (suc line) basis.0 (wide_rows s b.basis of.basis) basis.1 in
         let lawful_pairs = pairs_right l s basis_rows basis.0 a.cols (subst (λ n. AreLong rationals n basis_rows) right.columns (wide_rows s b.basis of.basis)) right.monic.long (outside_pairs_line line b) b.pairs pairs.1 in
         let steps = quotients_right basis_rows (steps_line line b) w left.0 b.quotients left.1 in
-        let reduced = reduced_right basis.0 (sums_of b.rest) (required_true (suc (rest_line line b)) reason.Reducible _ tt rest.1) in
+        let reduced = rest.1 in
         record {
           leads = basis.0;
           is_basis = basis_from l s a (plain b.basis) (plain b.from) basis.0 (entries_of b.pairs) (wide_rows s b.basis of.basis) (wide_rows s b.from of.from) right lawful_pairs.0 lawful_pairs.1;
           steps_within = All-weaker (λ t. t.index < length basis_rows) (λ t. t.index < length basis.0) (λ t k. subst (λ n. t.index < n) (sym right.monic.long) k) b.quotients steps.0;
-          rest_is = steps.1 ∙ same_true row_discrete left.0 (sums_of b.rest) rest.0;
+          rest_is = steps.1 ∙ rest.0;
           rest_lead = reduced.lead;
           rest_number = coefficient_at rationals (sums_of b.rest) reduced.lead;
           leads_rest = reduced.leads_row;

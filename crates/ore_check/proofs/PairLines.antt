@@ -3,9 +3,10 @@
 --     in_listed, listed_in         a pair is in their list exactly where it is listed
 --     listed_for                   the same, whichever row is named first
 --     new_right, skip_right        a pair is new; it may be skipped
---     AreRight, steps_right        the steps of a pair are below its common multiple, and leave a row with no lead
+--     step_right                   a step of a pair is below its common multiple; what it leaves
+--     AreRight, steps_right        the steps of a pair are, and leave a row with no lead
 --     within_basis, length-pair_row     they name basis rows; the row of a pair has as many entries as these
---     treated_right, skipped_right an entry is lawful by those before it
+--     treated_right, skipped_right      an entry is lawful by those before it
 --     entries_right, pairs_right   all entries are; and there are as many as pairs
 use Rattle.std.proofs.Common.{◌≡◌, inl, inr, ⊎_elim, ℕ, suc, ◌+◌, ◌<◌, Bool, true, false, ◌&&◌, ◌||◌, nat_eq, nat_lt, List, [], ◌∷◌, map, length, refl, sym, ap, ◌∙◌, subst, true≢false, arith}
 use Rattle.std.specs.Prelude.{not}
@@ -24,8 +25,8 @@ use Rattle.ore_monomial.specs.Term.{Term, term_cmp, shift}
 use Rattle.ore_monomial.proofs.Signatures.{lawful}
 use Rattle.ore_leads.specs.FirstDivisor.{divides_term}
 use Rattle.ore_leads.proofs.Dividing.{divides_term_true}
-use Rattle.ore_rows.specs.Rows.{Row, AreLong, zero_row, row_scale}
-use Rattle.ore_rows.specs.Reduction.{Step, row_at, after}
+use Rattle.ore_rows.specs.Rows.{Row, AreLong, zero_row, row_minus, row_scale}
+use Rattle.ore_rows.specs.Reduction.{Step, step_operator, row_at, after}
 use Rattle.ore_rows.specs.RowLead.{row_lead}
 use Rattle.ore_rows.proofs.Differences.{length-row_minus}
 use Rattle.ore_rows.proofs.GreatestTerms.{zero_from}
@@ -33,15 +34,17 @@ use Rattle.ore_rows.proofs.RowLaws as Rows
 use Rattle.ore_pairs.specs.Listed.{is_in}
 use Rattle.ore_pairs.specs.PairList.{Entry, first, second, IsListed, IsListedFor, IsNewPair, IsBelowStep, IsTreated, IsSkipped, IsLawfulEntry, AreLawful, pair_count}
 use Rattle.ore_pairs.specs.PairList as listed
+use Rattle.ore_pairs.specs.PairRule.{may_treat, either_listed, may_skip}
 use Rattle.ore_pairs.specs.Steps.{lead_at, pair_term, s_row}
+use Rattle.ore_pairs.proofs.PairRuleLaws.{treat_from}
 use Rattle.ore_pairs.proofs.Syzygies.{AreStepsWithin, length-after}
 use Rattle.ore_cert.specs.declared.block.PairEntry.{PairEntry}
 use Rattle.ore_cert.specs.declared.block.PairEntry.TheVariants.{Pair, Skip}
 use Rattle.ore_check.specs.declared.answer.Reason.TheVariants as reason
-use Rattle.ore_check.specs.CheckBlock.{is_below, is_pair, is_new, either_listed, may_skip, entry_lines, pair_of, common_fits, raised_less, less_step, shifted, check_steps, check_entry, check_entries, check_pairs}
-use Rattle.ore_check.proofs.Passed.{bound, required_true, required_then, formed_then, both_true, either_true, not_true, nat_eq_true, nat_eq_false, nat_lt_true, below_true, none_true}
+use Rattle.ore_check.specs.CheckBlock.{entry_lines, pair_of, entry_of, entries_of, common_fits, check_steps, check_entry, check_entries, check_pairs}
+use Rattle.ore_check.specs.LineConditions.{is_below, raised_less, shifted, check_step}
+use Rattle.ore_check.proofs.Passed.{bound, required_true, required_then, formed_value, formed_then, both_true, either_true, not_true, nat_eq_true, nat_eq_false, nat_lt_true, below_true, none_true}
 use Rattle.ore_check.proofs.Values.{raised_value, step_value}
-use Rattle.ore_check.proofs.Converted.{entry_of, entries_of}
 
 -- ---- listed pairs
 
@@ -73,32 +76,31 @@ listed_for : (i j : ℕ) (es : List (Entry rationals)) → either_listed i j (pa
 listed_for i j es h = ⊎_elim (λ a. inl (in_listed i j es a)) (λ a. inr (in_listed j i es a)) (either_true _ _ h)
 
 module _ (leads : List Term) (before : List (Entry rationals)) (i j : ℕ) where
-  new_right : is_new leads (pairs_of before) i j ≡ true → IsNewPair rationals leads before i j
+  new_right : may_treat leads (pairs_of before) i j ≡ true → IsNewPair rationals leads before i j
   new_right h =
-      let a = both_true (is_pair leads i j) (not (is_in i j (pairs_of before))) h in
-      let b = both_true (nat_lt i j) _ a.0 in
-      let c = both_true (nat_lt j (length leads)) _ b.1 in
+      let new = treat_from leads (pairs_of before) i j h in
       record {
-        ordered = nat_lt_true i j b.0;
-        within = nat_lt_true j (length leads) c.0;
-        columns = nat_eq_true _ _ c.1;
-        unlisted = λ k. true≢false (sym (listed_in i j before k) ∙ not_true (is_in i j (pairs_of before)) a.1);
+        ordered = new.ordered;
+        within = new.within;
+        columns = new.columns;
+        unlisted = λ k. true≢false (sym (listed_in i j before k) ∙ new.unlisted);
       }
 
   skip_right : (via : ℕ) → may_skip leads (pairs_of before) i j via ≡ true → IsSkipped rationals leads before i j via
+  unfolding may_skip
   skip_right via h =
-      let a = both_true (nat_lt via (length leads)) _ h in
-      let b = both_true (not (nat_eq via i)) _ a.1 in
-      let c = both_true (not (nat_eq via j)) _ b.1 in
-      let d = both_true (divides_term (lead_at leads via) (pair_term leads i j)) _ c.1 in
-      let e = both_true (either_listed i via (pairs_of before)) _ d.1 in
-      let f = (divides_term_true (lead_at leads via) (pair_term leads i j)).0 d.0 in
+      let a = both_true _ (either_listed j via (pairs_of before)) h in
+      let b = both_true _ (either_listed i via (pairs_of before)) a.0 in
+      let c = both_true _ (divides_term (lead_at leads via) (pair_term leads i j)) b.0 in
+      let d = both_true _ (not (nat_eq via j)) c.0 in
+      let e = both_true (nat_lt via (length leads)) (not (nat_eq via i)) d.0 in
+      let f = (divides_term_true (lead_at leads via) (pair_term leads i j)).0 c.1 in
       record {
-        within = nat_lt_true via (length leads) a.0;
-        other = (nat_eq_false via i (not_true _ b.0), nat_eq_false via j (not_true _ c.0));
+        within = nat_lt_true via (length leads) e.0;
+        other = (nat_eq_false via i (not_true _ e.1), nat_eq_false via j (not_true _ d.1));
         column = f.0;
         divides = f.1;
-        listed = (listed_for i via before e.0, listed_for j via before e.1);
+        listed = (listed_for i via before b.1, listed_for j via before a.1);
       }
 
 -- ---- steps
@@ -108,6 +110,20 @@ tested true x y c h = cc
 tested false x y c h = absurd cc
 
 module _ (l : Limits) (s : Signature) (basis : List (Row rationals)) (leads : List Term) where
+  step_right : (t : Term) (line : ℕ) (r next : Row rationals) (step : Step rationals) → check_step l s basis leads t line r step ≡ Ok next
+      → IsBelowStep rationals s.order leads t step × (next ≡ row_minus rationals r (row_scale rationals s (step_operator rationals step) (row_at basis step.index)))
+  unfolding check_step
+  step_right t line r next step h =
+      let place = required_then line reason.Step (nat_lt step.index (length leads)) _ next h in
+      let lead = formed_then line (shifted l s step.monomial (lead_at leads step.index)) _ next place.1 in
+      let low = required_then line reason.StepTooHigh (is_below s.order lead.0 t) _ next lead.2 in (
+        record {
+          within = nat_lt_true step.index (length leads) place.0;
+          low = ap (λ u. term_cmp s.order u t) (tested _ (shift step.monomial (lead_at leads step.index)) lead.0 _ lead.1) ∙ below_true s.order lead.0 t low.0;
+        },
+        step_value l s basis step r next (formed_value line _ next low.1),
+      )
+
   -- the steps are below t, and leave of r a row with no lead
   abbrev AreRight : Term → List (Step rationals) → Row rationals → Type 0
   AreRight t steps r = AllByRecursion (IsBelowStep rationals s.order leads t) steps × (row_lead rationals s.order (after rationals s basis steps r) ≡ None)
@@ -116,14 +132,10 @@ module _ (l : Limits) (s : Signature) (basis : List (Row rationals)) (leads : Li
   unfolding check_steps after
   steps_right t line r [] h = (tt, none_true _ (required_true line reason.Remainder _ tt h))
   steps_right t line r (step ∷ steps) h =
-      let a = required_then (suc line) reason.Step (nat_lt step.index (length leads)) _ tt h in
-      let b = formed_then (suc line) (shifted l s step.monomial (lead_at leads step.index)) _ tt a.1 in
-      let c = required_then (suc line) reason.StepTooHigh (is_below s.order b.0 t) _ tt b.2 in
-      let d = formed_then (suc line) (less_step l s basis step r) _ tt c.1 in
-      let rest = steps_right t (suc line) d.0 steps d.2 in (
-        (record { within = nat_lt_true step.index (length leads) a.0; low = ap (λ u. term_cmp s.order u t) (tested _ (shift step.monomial (lead_at leads step.index)) b.0 _ b.1) ∙ below_true s.order b.0 t c.0 }, rest.0),
-        subst (λ q. row_lead rationals s.order (after rationals s basis steps q) ≡ None) (step_value l s basis step r d.0 d.1) rest.1,
-      )
+      let next = bound (check_step l s basis leads t (suc line) r step) _ tt h in
+      let here = step_right t (suc line) r next.0 step next.1 in
+      let rest = steps_right t (suc line) next.0 steps next.2 in
+      ((here.0, rest.0), subst (λ q. row_lead rationals s.order (after rationals s basis steps q) ≡ None) here.1 rest.1)
 
   module _ (n : ℕ) (long : AreLong rationals n basis) (same : length leads ≡ length basis) where
     within_basis : (t : Term) (steps : List (Step rationals)) → AllByRecursion (IsBelowStep rationals s.order leads t) steps → AreStepsWithin rationals (length basis) steps
@@ -140,7 +152,7 @@ module _ (l : Limits) (s : Signature) (basis : List (Row rationals)) (leads : Li
         → IsLawfulEntry rationals s s.order n basis leads before (listed.Pair i j steps)
     unfolding check_entry
     treated_right line before i j steps h =
-        let a = required_then line reason.Pair (is_new leads (pairs_of before) i j) _ tt h in
+        let a = required_then line reason.Pair (may_treat leads (pairs_of before) i j) _ tt h in
         let b = formed_then line (common_fits l s (pair_term leads i j)) _ tt a.1 in
         let r = formed_then line (raised_less l s leads basis i j) _ tt b.2 in
         made (new_right leads before i j a.0) (subst (AreRight (pair_term leads i j) steps) (raised_value l s leads basis i j r.0 r.1) (steps_right (pair_term leads i j) line r.0 steps r.2))
@@ -160,7 +172,7 @@ module _ (l : Limits) (s : Signature) (basis : List (Row rationals)) (leads : Li
         → IsLawfulEntry rationals s s.order n basis leads before (listed.Skip i j via)
     unfolding check_entry
     skipped_right line before i j via h =
-        let a = both_true (is_new leads (pairs_of before) i j) _ (required_true line reason.Skip _ tt h) in
+        let a = both_true (may_treat leads (pairs_of before) i j) _ (required_true line reason.Skip _ tt h) in
         (new_right leads before i j a.0, skip_right leads before i j via a.1)
 
     entries_right : (line : ℕ) (before : List (Entry rationals)) (es : List PairEntry) → check_entries l s basis leads line (pairs_of before) es ≡ Ok tt → AreLawful rationals s s.order n basis leads before (entries_of es)

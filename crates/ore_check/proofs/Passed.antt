@@ -2,13 +2,14 @@
 --     value_of                  two lines that give the same give the same value
 --     bound                     two steps after each other give a value: each gives one
 --     required_true             a test passed
+--     formed_value              an operation gave a value
 --     required_then, found_then, formed_then    the same, something was found, or an operation gave a value; and what follows gives one too
 --     both_true, either_true, not_true        tests that are joined or turned round
 --     nat_eq_true, nat_eq_false, nat_lt_true    tests of numbers
 --     below_true, none_true     tests of terms, and of what was found
 --     same_true, same_false     two values are the same, or not
 --     valid_checked             where the answer is that all is valid each line is right
-use Rattle.std.proofs.Common.{◌≡◌, ◌⊎◌, inl, inr, ℕ, ◌<◌, Bool, true, false, ◌&&◌, ◌||◌, nat_eq, nat_lt, refl, true≢false, sym, arith}
+use Rattle.std.proofs.Common.{◌≡◌, ◌⊎◌, inl, inr, ℕ, ◌<◌, Bool, true, false, ◌&&◌, ◌||◌, nat_eq, nat_lt, refl, ap, true≢false, sym, arith}
 use Rattle.std.specs.Prelude.{◌≢◌, not}
 use Rattle.std.specs.declared.cmp.Ordering.{Ordering}
 use Rattle.std.specs.declared.cmp.Ordering.TheVariants.{Less, Equal, Greater}
@@ -25,7 +26,7 @@ use Rattle.ore_check.specs.declared.answer.Reason.{Reason}
 use Rattle.ore_check.specs.declared.answer.Checked.{Checked as Answer}
 use Rattle.ore_check.specs.declared.answer.Checked.TheVariants as answer
 use Rattle.ore_check.specs.Conditions.{Checked, Trouble, Fails, Stops, ◌>>=◌, formed, required, found, is_same, is_none}
-use Rattle.ore_check.specs.CheckBlock.{is_below}
+use Rattle.ore_check.specs.LineConditions.{is_below}
 use Rattle.ore_check.specs.Check.{Answers, answer_at}
 
 -- ---- lines
@@ -41,6 +42,10 @@ module _ {A B : Type 0} where
 pub required_true : (line : ℕ) (why : Reason) (test : Bool) (x : Unit {0}) → required line why test ≡ Ok x → test ≡ true
 required_true line why true x e = refl
 required_true line why false x e = absurd cc
+
+pub formed_value : {A : Type 0} (line : ℕ) (r : Result A Cause) (x : A) → formed line r ≡ Ok x → r ≡ Ok x
+formed_value line (Ok y) x e = ap Ok (value_of y x e)
+formed_value line (Err c) x e = absurd cc
 
 module _ {B : Type 0} where
   pub required_then : (line : ℕ) (why : Reason) (test : Bool) (f : Unit {0} → Checked B) (y : B) → (required line why test >>= f) ≡ Ok y → (test ≡ true) × (f tt ≡ Ok y)

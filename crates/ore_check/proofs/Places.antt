@@ -1,6 +1,5 @@
--- Rows, leads and other items that are read at a place.
+-- Rows and other items that are read at a place.
 --     row_read         a row of a matrix, without the orders
---     lead_read        a lead
 --     drop_read        what begins at a place is the item there and what is behind it
 --     drop_mapped      the same where each item is mapped
 --     raised_read      the multiples of two rows are those that take their leads to the common multiple
@@ -12,7 +11,7 @@ use Rattle.std.specs.List.{All, slice_get, drop-map}
 use Rattle.std.specs.Prelude.{IfSome}
 use Rattle.std.specs.declared.option.Option.{Option}
 use Rattle.std.specs.declared.option.Option.TheVariants.{None}
-use Rattle.ore_check.specs.OneLine.{left_of}
+use Rattle.ore_check.specs.InnerContracts.{left_of}
 use Rattle.std.proofs.lemmas.List.{drop_more, get_or-map}
 use Rattle.std.proofs.lemmas.List.Elements.{All-append, All-cons, All-nil}
 use Rattle.std.proofs.lemmas.Option.{slice_get_within, get_or_from_slice_get}
@@ -20,7 +19,7 @@ use Rattle.ore_algebra.specs.Free.{single}
 use Rattle.ore_algebra.specs.Limits.{Limits}
 use Rattle.ore_rational.proofs.FractionLaws.{rationals}
 use Rattle.ore_monomial.specs.LetterRule.{Operator}
-use Rattle.ore_monomial.specs.Monomial.{Monomial, quotient, plain_cmp, unit}
+use Rattle.ore_monomial.specs.Monomial.{Monomial, quotient, plain_cmp}
 use Rattle.ore_monomial.specs.Signature.{Signature}
 use Rattle.ore_monomial.specs.Term.{Term}
 use Rattle.ore_ring.specs.Ordered.{Ordered}
@@ -29,13 +28,10 @@ use Rattle.ore_rows.specs.Reduction.{Step, less_multiple, row_at, step_operator}
 use Rattle.ore_rows.specs.Stored.{OperatorMatrix, rows_of, sums_of}
 use Rattle.ore_pairs.specs.Listed.{multiples_less}
 use Rattle.ore_pairs.specs.Steps.{lead_at, pair_term}
-use Rattle.ore_check.specs.CheckBlock.{raised_less, less_step}
+use Rattle.ore_check.specs.LineConditions.{raised_less, less_step}
 
 pub row_read : (m : OperatorMatrix) (k : ℕ) (r : List Ordered) → slice_get m.rows k ≡ Some r → row_at (rows_of m) k ≡ sums_of r
 row_read m k r e = get_or-map sums_of m.rows k r [] (slice_get_within m.rows k r e) ∙ ap sums_of (get_or_from_slice_get m.rows k r r e)
-
-pub lead_read : (leads : List Term) (k : ℕ) (t : Term) → slice_get leads k ≡ Some t → lead_at leads k ≡ t
-lead_read leads k t e = get_or_from_slice_get leads k t (record { monomial = unit; column = 0 }) e
 
 pub drop_read : {A : Type 0} (xs : List A) (k : ℕ) (x : A) → slice_get xs k ≡ Some x → drop k xs ≡ x ∷ drop (k + 1) xs
 drop_read xs k x e = drop_more xs k x (slice_get_within xs k x e) ∙ ap (λ y. y ∷ drop (k + 1) xs) (get_or_from_slice_get xs k x x e)

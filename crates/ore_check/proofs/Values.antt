@@ -3,6 +3,7 @@
 --     raised_value          the row of a pair
 --     step_value            a row less a step
 --     steps_value           a row less some steps
+--     given                 where a row times a matrix is the row that is wanted, so it is without limits
 --     produced              where each row times a matrix is the row that is wanted, the product is
 use Rattle.std.proofs.Common.{◌≡◌, ℕ, suc, pred, List, [], ◌∷◌, length, refl, sym, ap, ◌∙◌, arith}
 use Rattle.std.specs.declared.result.Result.{Result}
@@ -13,7 +14,7 @@ use Rattle.ore_rational.proofs.FractionLaws.{rationals}
 use Rattle.ore_monomial.specs.LetterRule.{Operator}
 use Rattle.ore_monomial.specs.Signature.{Signature}
 use Rattle.ore_monomial.specs.Term.{Term}
-use Rattle.ore_rows.specs.Rows.{Row, AreLong, row_minus, row_scale, matrix_times}
+use Rattle.ore_rows.specs.Rows.{Row, AreLong, row_minus, row_scale, combine, matrix_times}
 use Rattle.ore_rows.specs.RowsWithin.{combine_within}
 use Rattle.ore_rows.specs.Arithmetic.{within, scaled, less}
 use Rattle.ore_rows.specs.Reduction.{Step, step_operator, row_at, less_multiple, after}
@@ -22,9 +23,10 @@ use Rattle.ore_rows.proofs.WithinValues.{combine_value}
 use Rattle.ore_pairs.specs.Listed.{multiples_less}
 use Rattle.ore_pairs.specs.Steps.{pair_term, s_row}
 use Rattle.ore_check.specs.declared.answer.Reason.{Reason}
-use Rattle.ore_check.specs.CheckBlock.{same_row, rows_give, raising, raised_less, less_step, less_steps}
+use Rattle.ore_check.specs.CheckBlock.{rows_give}
+use Rattle.ore_check.specs.LineConditions.{raising, raised_less, less_step, less_steps, row_gives}
 use Rattle.ore_check.specs.Same.{row_discrete}
-use Rattle.ore_check.proofs.Passed.{formed_then, required_then, same_true}
+use Rattle.ore_check.proofs.Passed.{bound, formed_then, required_true, same_true}
 
 -- two operations after each other give a value: each gives one
 module _ {A B : Type 0} where
@@ -63,6 +65,12 @@ module _ (l : Limits) (s : Signature) where
       let next = limited (less_step l s m t r) _ x h in
       steps_value m ts next.0 x next.2 ∙ ap (after rationals s m ts) (step_value m t r next.0 next.1)
 
+  given : (why : Reason) (n : ℕ) (m : List (Row rationals)) → AreLong rationals n m → (line : ℕ) (r w : Row rationals) → row_gives l s why n m line r w ≡ Ok tt → combine rationals s n r m ≡ w
+  unfolding row_gives
+  given why n m long line r w h =
+      let product = formed_then line (combine_within l s n r m) _ tt h in
+      sym (combine_value l s n r m product.0 long product.1) ∙ same_true row_discrete product.0 w (required_true line why _ tt product.2)
+
   pub produced : (why : Reason) (n : ℕ) (m : List (Row rationals)) → AreLong rationals n m → (line : ℕ) (rs ws : List (Row rationals)) → length rs ≡ length ws
       → rows_give l s why n m line rs ws ≡ Ok tt → matrix_times rationals s n rs m ≡ ws
   unfolding rows_give matrix_times
@@ -70,6 +78,5 @@ module _ (l : Limits) (s : Signature) where
   produced why n m long line [] (w ∷ ws) e h = absurd (omega arith)
   produced why n m long line (r ∷ rs) [] e h = absurd (omega arith)
   produced why n m long line (r ∷ rs) (w ∷ ws) e h =
-      let product = formed_then line (combine_within l s n r m) _ tt h in
-      let same = required_then line why (same_row product.0 w) _ tt product.2 in
-      λ i. (sym (combine_value l s n r m product.0 long product.1) ∙ same_true row_discrete product.0 w same.0) i ∷ produced why n m long (suc line) rs ws (ap pred e) same.1 i
+      let here = bound (row_gives l s why n m line r w) _ tt h in
+      λ i. given why n m long line r w here.1 i ∷ produced why n m long (suc line) rs ws (ap pred e) here.2 i

@@ -1,5 +1,9 @@
 -- The operators of a certificate are of a signature, and the rows of its matrices have one entry a column.
---     MatrixOf, RowOfSignature, AreStepsOf, AreEntriesOf, IsExactOf, IsOutsideOf, IsLinkOf, IsCertificateOf
+--     MatrixOf, RowOfSignature     a matrix; a row
+--     AreStepsOf, IsEntryOf        the steps of a pair; what was done with a pair
+--     IsExactOf, IsOutsideOf       blocks
+--     IsLinkOf                     a matrix of a resolution with its block
+--     IsCertificateOf              certificates
 use Rattle.std.specs.Prelude.{List}
 use Rattle.std.specs.List.{All}
 use Rattle.ore_rational.proofs.FractionLaws.{rationals}
@@ -17,20 +21,25 @@ use Rattle.ore_cert.specs.declared.certificate.Certificate.{Certificate}
 use Rattle.ore_cert.specs.declared.certificate.Certificate.TheVariants.{Controllable, AutonomousElement, LeftInverse, RightInverse, NoLeftInverse, NoRightInverse, Kernel, Resolution, ExtZero, ExtNonzero, Halted}
 
 module _ (s : Signature) where
+  -- each row has an entry a column, and each entry is of the signature
   pub record MatrixOf (m : OperatorMatrix) : Type 0 where
     pub columns : HasColumns m.cols m.rows
     pub of : All (All (Belongs s)) m.rows
 
+  -- each entry is of the signature
   abbrev pub RowOfSignature : List Ordered → Type 0
   RowOfSignature r = All (Belongs s) r
 
+  -- each step multiplies by a monomial of the signature
   abbrev pub AreStepsOf : List (Step rationals) → Type 0
   AreStepsOf steps = All (λ t. MonomialOf s t.monomial) steps
 
+  -- of a treated pair the steps are of the signature; a skipped pair has none
   abbrev pub IsEntryOf : PairEntry → Type 0
   IsEntryOf (Pair i j steps) = AreStepsOf steps
   IsEntryOf (Skip i j via) = Unit {0}
 
+  -- each part of an exact block is of the signature
   pub record IsExactOf (b : ExactBlock) : Type 0 where
     pub basis : MatrixOf b.basis
     pub from : MatrixOf b.from
@@ -38,6 +47,7 @@ module _ (s : Signature) where
     pub pairs : All IsEntryOf b.pairs
     pub inside : MatrixOf b.inside
 
+  -- each part of an outside block is of the signature
   pub record IsOutsideOf (b : OutsideBlock) : Type 0 where
     pub basis : MatrixOf b.basis
     pub from : MatrixOf b.from
@@ -45,10 +55,12 @@ module _ (s : Signature) where
     pub quotients : AreStepsOf b.quotients
     pub rest : RowOfSignature b.rest
 
+  -- the matrix and its block are of the signature
   pub record IsLinkOf (k : Link) : Type 0 where
     pub l : MatrixOf k.l
     pub block : IsExactOf k.block
 
+  -- each part that a certificate of the kind has is of the signature
   abbrev pub IsCertificateOf : Certificate → Type 0
   IsCertificateOf (Controllable q block) = MatrixOf q × IsExactOf block
   IsCertificateOf (AutonomousElement element operator cofactor block) = RowOfSignature element × Belongs s operator × RowOfSignature cofactor × IsOutsideOf block

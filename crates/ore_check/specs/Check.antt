@@ -1,7 +1,10 @@
 -- The conditions of a certificate, line by line, by the lines of its text from 1.
+-- (Torsion and parametrisations of linear systems: Chyzak, Quadrat and Robertz 2005; extension modules: Robertz 2014.)
 --     exact_lines                how many lines an exact block has
 --     adjoint_of                 the transposed adjoint of a matrix
 --     check_links                the links of a resolution, each on the matrix before it
+--     links_lines                how many lines the links have
+--     adjoints_at                the transposed adjoints of the last two matrices of a resolution
 --     check                      all conditions of a certificate that is no report
 --     capped                     a line, as a number below 2^64
 --     answer_at, answer_of       the answer: valid, or the first line that isn't right
@@ -29,13 +32,16 @@ use Rattle.ore_check.specs.declared.answer.Reason.TheVariants as reason
 use Rattle.ore_check.specs.declared.answer.Checked.{Checked as Answer}
 use Rattle.ore_check.specs.declared.answer.Checked.TheVariants as answer
 use Rattle.ore_check.specs.Conditions.{Checked, Trouble, Fails, Stops, ◌>>=◌, formed, required, is_same}
-use Rattle.ore_check.specs.CheckBlock.{Plain, plain, same_row, same_rows, rows_give, are_zero, inside_line, check_exact, check_outside}
+use Rattle.ore_check.specs.CheckBlock.{Plain, plain, rows_give, are_zero, inside_line, check_exact, check_outside}
+use Rattle.ore_check.specs.LineConditions.{same_row, same_rows}
 use Rattle.ore_check.specs.Same.{operator_discrete}
 
+-- from its line `block exact` to the last inside row
 abbrev pub exact_lines : ExactBlock → ℕ
 exact_lines b = inside_line 0 b + suc (length b.inside.rows)
 
 module _ (l : Limits) (s : Signature) where
+  -- within the limits, with a row for each column of m
   abbrev pub adjoint_of : Plain → Result (List (Row rationals)) Cause
   adjoint_of m = transpose_adjoint_within l s m.cols m.rows
 
@@ -47,6 +53,7 @@ module _ (l : Limits) (s : Signature) where
     _ ← check_exact l s (suc line + length k.l.rows) r (plain k.l) k.block
     check_links (suc line + length k.l.rows + exact_lines k.block) r (plain k.l) ks
 
+  -- of each link the line of its matrix, a line for each row, and those of its block
   abbrev pub links_lines : List Link → ℕ
   links_lines [] = 0
   links_lines (k ∷ ks) = (suc (length k.l.rows) + exact_lines k.block) + links_lines ks
@@ -58,6 +65,7 @@ module _ (l : Limits) (s : Signature) where
     before ← formed line (adjoint_of pair.0)
     Ok (record { cols = length pair.1.rows; rows = after }, record { cols = length pair.0.rows; rows = before })
 
+  -- r is the matrix of the problem, and line 1 is the first of the certificate; of a report nothing is looked at
   unfoldable pub check : Plain → Certificate → Checked (Unit {0})
   check r (Controllable q block) = do
     _ ← required 3 reason.Shape (nat_eq (length q.rows) r.cols)
@@ -111,14 +119,17 @@ module _ (l : Limits) (s : Signature) where
 
 -- ---- the answer
 
+-- a line past 2^64 - 1 is given as 2^64 - 1
 abbrev pub capped : ℕ → ℕ
 capped n = cond (nat_le n 18446744073709551615) n 18446744073709551615
 
+-- the line with the reason of a condition that fails, or the cause of an operation that stops
 abbrev pub answer_at : ℕ → Trouble → Answer
 answer_at line (Fails why) = answer.Invalid (capped line) why
 answer_at line (Stops cause.Overflow) = answer.Overflow (capped line)
 answer_at line (Stops cause.Degree) = answer.Degree (capped line)
 
+-- valid where each line is right, else the first that isn't
 abbrev pub answer_of : Checked (Unit {0}) → Answer
 answer_of (Ok x) = answer.Valid
 answer_of (Err failing) = answer_at failing.line failing.trouble
@@ -128,7 +139,7 @@ abbrev pub Answers : Answer → Checked (Unit {0}) → Type 0
 Answers answer.Memory checked = Unit {0}
 Answers given checked = given ≡ answer_of checked
 
--- the kinds that are checked so far
+-- all kinds but resolutions, extension modules and reports
 abbrev pub IsBuilt : Certificate → Type 0
 IsBuilt (Resolution links) = ⊥
 IsBuilt (ExtZero links block) = ⊥

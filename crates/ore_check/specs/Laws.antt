@@ -17,24 +17,28 @@ use Rattle.ore_check.specs.CheckBlock.{Plain}
 use Rattle.ore_check.specs.Meaning.{RowsOf, Means}
 
 module _ (s : Signature) where
-  -- within whatever limits it is checked
+  -- a certificate of the signature that is valid, within whatever limits it is checked, is true of r
   abbrev pub CheckIsTrue : Type 0
   CheckIsTrue = (l : Limits) (r : Plain) (c : Certificate) → AreLong rationals r.cols r.rows → RowsOf s r.rows → IsCertificateOf s c → IsBuilt c
       → check l s r c ≡ Ok tt → Means s r c
 
-  -- q has a row for each column of r
+  -- where the rows that take q to zeros are the row module of r, no row is torsion but those of the module; q has a row
+  -- for each column of r (Chyzak, Quadrat and Robertz 2005)
   abbrev pub ExactIsTorsionFree : Type 0
   ExactIsTorsionFree = (n : ℕ) (q : List (Row rationals)) (r : Plain) → AreLong rationals r.cols r.rows → RowsOf s r.rows → AreLong rationals n q → RowsOf s q → length q ≡ r.cols
       → IsExact rationals s n q r.rows → IsTorsionFree rationals s r.cols r.rows
 
+  -- the certificate claims that nothing is torsion
   abbrev pub IsControllable : Certificate → Type 0
   IsControllable (Controllable q block) = Unit {0}
   IsControllable other = ⊥
 
+  -- the certificate claims that an element is torsion
   abbrev pub IsAutonomous : Certificate → Type 0
   IsAutonomous (AutonomousElement element operator cofactor block) = Unit {0}
   IsAutonomous other = ⊥
 
+  -- of a true certificate of the one verdict and one of the other, for one matrix r, there is none
   abbrev pub HasOneVerdict : Type 0
   HasOneVerdict = (r : Plain) (c d : Certificate) → AreLong rationals r.cols r.rows → RowsOf s r.rows → IsCertificateOf s c → IsCertificateOf s d
       → IsControllable c → IsAutonomous d → Means s r c → ¬ Means s r d

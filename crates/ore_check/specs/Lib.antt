@@ -1,9 +1,10 @@
 pub mod Same
 pub mod Conditions
+pub mod LineConditions
 pub mod CheckBlock
 pub mod Check
 pub mod Belongs
 pub mod Meaning
 pub mod Laws
 pub mod Judging
-pub mod OneLine
+pub mod InnerContracts

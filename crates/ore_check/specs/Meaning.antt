@@ -1,8 +1,10 @@
 -- What a certificate says of a matrix r, over numbers of any size. It speaks of rows alone: no basis, pair or syzygy.
 -- (Torsion and parametrisations of linear systems: Chyzak, Quadrat and Robertz 2005; extension modules: Robertz 2014.)
 --     RowsOf                      some rows are of a signature
---     HasLeftInverse, HasRightInverse      some matrix of the signature times r, or r times it, is the identity
+--     IsLeftInverse, IsRightInverse       a matrix times r, or r times it, is the identity
+--     HasLeftInverse, HasRightInverse     some matrix of the signature is such an inverse
 --     turned                      the transposed adjoint
+--     IsExactFor                  the rows that take a matrix to zeros are just the combinations of some rows
 --     IsResolution                each matrix generates what takes the one before it to zeros
 --     Means                       what a certificate says
 use Rattle.std.specs.Prelude.{◌≡◌, ◌≢◌, List, [], ◌∷◌, length}
@@ -20,20 +22,31 @@ use Rattle.ore_cert.specs.declared.certificate.Certificate.TheVariants.{Controll
 use Rattle.ore_check.specs.CheckBlock.{Plain, plain}
 
 module _ (s : Signature) where
+  -- each row is of the signature
   abbrev pub RowsOf : List (Row rationals) → Type 0
   RowsOf rows = AllByRecursion (RowOf rationals s) rows
 
-  -- m has p rows and q columns, and m r is the identity
+  -- m r is the identity, where r has as many columns as m rows
+  abbrev pub IsLeftInverse : Plain → List (Row rationals) → Type 0
+  IsLeftInverse r m = (length m ≡ r.cols) × AreLong rationals (length r.rows) m × (matrix_times rationals s r.cols m r.rows ≡ identity_rows rationals r.cols)
+
+  -- r m is the identity, where r has as many columns as m rows
+  abbrev pub IsRightInverse : Plain → List (Row rationals) → Type 0
+  IsRightInverse r m = (length m ≡ r.cols) × AreLong rationals (length r.rows) m × (matrix_times rationals s (length r.rows) r.rows m ≡ identity_rows rationals (length r.rows))
+
+  -- some m of the signature is such an inverse
   abbrev pub HasLeftInverse : Plain → Type 0
-  HasLeftInverse r = (m : List (Row rationals)) × (length m ≡ r.cols) × AreLong rationals (length r.rows) m × RowsOf m × (matrix_times rationals s r.cols m r.rows ≡ identity_rows rationals r.cols)
+  HasLeftInverse r = (m : List (Row rationals)) × RowsOf m × IsLeftInverse r m
 
-  -- m has p rows and q columns, and r m is the identity
+  -- some m of the signature is such an inverse
   abbrev pub HasRightInverse : Plain → Type 0
-  HasRightInverse r = (m : List (Row rationals)) × (length m ≡ r.cols) × AreLong rationals (length r.rows) m × RowsOf m × (matrix_times rationals s (length r.rows) r.rows m ≡ identity_rows rationals (length r.rows))
+  HasRightInverse r = (m : List (Row rationals)) × RowsOf m × IsRightInverse r m
 
+  -- the transpose with each entry replaced by its adjoint: a row for each column, and a column for each row
   abbrev pub turned : Plain → Plain
   turned m = record { cols = length m.rows; rows = transpose_adjoint rationals s m.cols m.rows }
 
+  -- the rows that take a to zeros are just the combinations of these rows
   abbrev pub IsExactFor : Plain → List (Row rationals) → Type 0
   IsExactFor a rows = IsExact rationals s a.cols a.rows rows
 
@@ -42,18 +55,20 @@ module _ (s : Signature) where
   IsResolution before r [] P = P before r
   IsResolution before r (k ∷ ks) P = IsExactFor r (rows_of k.l) × IsResolution r (plain k.l) ks P
 
+  -- kind by kind, of the matrix r; of the two verdicts only what is printed in brief is looked at
   abbrev pub Means : Plain → Certificate → Type 0
   Means r (Controllable q block) = (length q.rows ≡ r.cols) × IsExactFor (plain q) r.rows
   Means r (AutonomousElement element operator cofactor block) = (operator.sum ≢ none rationals plain_cmp)
       × InRowModule rationals s r.cols r.rows (row_scale rationals s operator.sum (sums_of element)) × ¬ InRowModule rationals s r.cols r.rows (sums_of element)
-  Means r (LeftInverse m) = matrix_times rationals s r.cols (rows_of m) r.rows ≡ identity_rows rationals r.cols
-  Means r (RightInverse m) = matrix_times rationals s (length r.rows) r.rows (rows_of m) ≡ identity_rows rationals (length r.rows)
+  Means r (LeftInverse m) = IsLeftInverse r (rows_of m)
+  Means r (RightInverse m) = IsRightInverse r (rows_of m)
   Means r (NoLeftInverse unit block) = ¬ HasLeftInverse r
   Means r (NoRightInverse unit block) = ¬ HasRightInverse r
-  Means r (Kernel Left generators block) = IsExactFor r (rows_of generators)
+  Means r (Kernel Left generators block) = AreLong rationals (length r.rows) (rows_of generators) × IsExactFor r (rows_of generators)
   Means r (Kernel Right generators block) = (length generators.rows ≡ r.cols) × IsExactFor (turned r) (turned (plain generators)).rows
   Means r (Resolution links) = IsResolution r r links (λ before last. Unit {0})
   Means r (ExtZero links block) = IsResolution r r links (λ before last. IsExactFor (turned last) (turned before).rows)
   Means r (ExtNonzero links element block) = IsResolution r r links (λ before last. (combine rationals s (length last.rows) (sums_of element) (turned last).rows ≡ zero_row rationals (length last.rows))
       × ¬ InRowModule rationals s (length before.rows) (turned before).rows (sums_of element))
-  Means r (Halted report) = Unit {0}
+  -- reports have no meaning yet, so none is true
+  Means r (Halted report) = ⊥

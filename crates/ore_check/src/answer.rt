@@ -47,7 +47,7 @@ pub enum Reason {
     Stop,
 }
 
-/// The answer of a check. Lines count from 1, and stand still at 2^64 - 1.
+/// The answer of a check. Lines count from 1; at 2^64 - 1 the count stays there.
 #[derive(Clone, Copy, Debug, PartialEq, Eq, Drop)]
 pub enum Checked {
     /// Each condition holds.

@@ -7,9 +7,8 @@ ghost use Rattle.ore_ring.specs.Belongs.{Belongs};
 ghost use Rattle.ore_rows.specs.Stored.{sums_of};
 ghost use Rattle.ore_check.specs.Belongs.{IsExactOf, IsOutsideOf};
 ghost use Rattle.ore_check.specs.Check.{exact_lines};
-ghost use Rattle.ore_check.specs.CheckBlock.{check_exact, check_outside, inside_line, outside_pairs_line, pairs_line, plain, rest_line, steps_line, to_line};
+ghost use Rattle.ore_check.specs.CheckBlock.{check_exact, check_outside, check_rest, inside_line, outside_pairs_line, pairs_line, plain, rest_line, steps_line, to_line};
 ghost use Rattle.ore_check.specs.Judging.{Judges};
-ghost use Rattle.ore_check.specs.OneLine.{rest_checked};
 
 use crate::answer::Reason;
 use crate::equal::are_same;
@@ -26,7 +25,11 @@ use ore_ring::OreRing;
 use ore_rows::{Matrix, Row};
 use std::alloc::Global;
 
-/// An exact block that begins at a line shows that what takes `a` to zeros is the row module of `m`.
+/// An exact block that begins at a line shows that what takes `a` to zeros is the row module of `m`, which has a column
+/// for each row of `a`.
+///
+/// # Errors
+/// The first line whose condition fails, or of which an operation stops; and want of memory.
 #[tactic(auto, using(crate::proofs::Refusals::refuses_on), unfolding(crate::specs::CheckBlock::check_exact))]
 pub fn exact_block<R: OreRing>(
     ring: &R,
@@ -96,8 +99,12 @@ fn inside_line(line: u128, block: &ExactBlock) -> u128
     pairs_line(line, block) + 1 + lines_of(&block.pairs)
 }
 
-/// An outside block that begins at a line shows that `w` is not in the row module of `a`.
-#[tactic(auto, using(crate::proofs::Refusals::refuses_on), unfolding(crate::specs::CheckBlock::check_outside, crate::specs::OneLine::rest_checked))]
+/// An outside block that begins at a line shows that `w` is not in the row module of `a`, which has a column for each
+/// entry of `w`.
+///
+/// # Errors
+/// The first line whose condition fails, or of which an operation stops; and want of memory.
+#[tactic(auto, using(crate::proofs::Refusals::refuses_on), unfolding(crate::specs::CheckBlock::check_outside))]
 pub fn outside_block<R: OreRing>(
     ring: &R,
     alloc: Global,
@@ -141,7 +148,7 @@ pub fn outside_block<R: OreRing>(
 }
 
 // The rest at a line, whose row stands at the next: it is what is left, and no lead divides its lead.
-#[tactic(auto, using(crate::proofs::Refusals::refuses_on), unfolding(crate::specs::OneLine::rest_checked))]
+#[tactic(auto, using(crate::proofs::Refusals::refuses_on), unfolding(crate::specs::CheckBlock::check_rest))]
 fn check_rest<R: OreRing>(
     ring: &R,
     leads: &Leads,
@@ -153,7 +160,7 @@ fn check_rest<R: OreRing>(
     requires left_of { All (Belongs (R.signature_of ring.now)) left.now }
     requires rest_of { All (Belongs (R.signature_of ring.now)) rest.now }
     requires low { line < 2 ^ 127 + 2 ^ 90 }
-    ensures { Judges (λ u. u) result (rest_checked program (R.signature_of ring.now) leads.now line cols (sums_of left.now) rest.now) }
+    ensures { Judges (λ u. u) result (check_rest program (R.signature_of ring.now) leads.now line cols (sums_of left.now) rest.now) }
 {
     required(line, Reason::Shape, rest.len() == cols)?;
     required(line + 1, Reason::Rest, are_same(ring, left, rest))?;

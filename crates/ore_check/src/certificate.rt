@@ -26,7 +26,11 @@ use ore_ring::{Op, OreRing};
 use ore_rows::{Matrix, Row, identity, unit_row};
 use std::alloc::Global;
 
-/// Whether a certificate of a matrix is valid, or the first line of its text that isn't right.
+/// Whether a certificate of the matrix `r` is valid, or the first line of its text that isn't right, from 1.
+///
+/// The operators of both are of the signature of the ring. A resolution, a certificate of an extension module and a
+/// report must not be handed in: their check isn't built yet. The certificate may have any sizes: that they fit `r` is
+/// a condition of its lines.
 pub fn check<R: OreRing>(ring: &R, alloc: Global, r: &Matrix, cert: &Certificate) -> Checked
     requires of { All (All (Belongs (R.signature_of ring.now))) r.now.rows }
     requires cert_of { IsCertificateOf (R.signature_of ring.now) cert.now }
@@ -36,8 +40,10 @@ pub fn check<R: OreRing>(ring: &R, alloc: Global, r: &Matrix, cert: &Certificate
     answer(whole(ring, alloc, r, cert))
 }
 
-/// Whether an exact block, which begins at a line, shows that the rows which take `a` to zeros are the row module of
-/// `l`, or the first line that isn't right.
+/// Whether an exact block, whose line `block exact` has the number `first`, shows that the rows which take `a` to zeros
+/// are the row module of `l`, or the first line that isn't right.
+///
+/// `l` has a column for each row of `a`; the block may have any sizes. All operators are of the signature of the ring.
 pub fn check_exact<R: OreRing>(
     ring: &R,
     alloc: Global,
@@ -55,8 +61,11 @@ pub fn check_exact<R: OreRing>(
     answer(exact_block(ring, alloc, a, l, block, first as u128))
 }
 
-/// Whether an outside block, which begins at a line, shows that `w` is not in the row module of `a`, or the first line
-/// that isn't right.
+/// Whether an outside block, whose line `block outside` has the number `first`, shows that `w` is not in the row module
+/// of `a`, or the first line that isn't right.
+///
+/// `w` has an entry for each column of `a`; the block may have any sizes. All operators are of the signature of the
+/// ring.
 pub fn check_outside<R: OreRing>(
     ring: &R,
     alloc: Global,

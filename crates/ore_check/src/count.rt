@@ -2,7 +2,7 @@
 
 ghost use Rattle.std.specs.Prelude.{◌≡◌, ◌≤◌, IfOk};
 ghost use Rattle.ore_pairs.specs.PairList.{pair_count};
-ghost use Rattle.ore_check.specs.OneLine.{count_at};
+ghost use Rattle.ore_check.specs.InnerContracts.{count_at};
 
 use ore_leads::Leads;
 use ore_monomial::NoMemory;

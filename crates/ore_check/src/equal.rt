@@ -4,7 +4,7 @@ ghost use Rattle.std.specs.Prelude.{◌≡◌, ◌↔◌, IsTrue};
 ghost use Rattle.std.specs.List.{All};
 ghost use Rattle.ore_ring.specs.Belongs.{Belongs};
 ghost use Rattle.ore_rows.specs.Stored.{rows_of, sums_of};
-ghost use Rattle.ore_check.specs.CheckBlock.{same_row, same_rows};
+ghost use Rattle.ore_check.specs.LineConditions.{same_row, same_rows};
 
 use ore_ring::OreRing;
 use ore_rows::{Matrix, Row};

@@ -1,37 +1,38 @@
 //! Operations that a line calls for.
 
-ghost use Rattle.std.specs.Prelude.{◌≡◌, ◌<◌, ◌≤◌, length, IfOk, IfErr, IfSome};
+ghost use Rattle.std.specs.Prelude.{◌≡◌, ◌<◌, ◌≤◌, length, IfOk, IfErr};
 ghost use Rattle.std.specs.List.{All};
 ghost use Rattle.ore_adjoint.specs.AdjointMatrix.{transpose_adjoint_within};
-ghost use Rattle.ore_algebra.specs.Free.{single};
 ghost use Rattle.ore_algebra.specs.Limits.{program};
 ghost use Rattle.ore_rational.proofs.FractionLaws.{rationals};
 ghost use Rattle.ore_monomial.specs.Gives.{Gives};
-ghost use Rattle.ore_monomial.specs.Monomial.{Divides, degree, plain_cmp, quotient};
+ghost use Rattle.ore_monomial.specs.Monomial.{degree};
 ghost use Rattle.ore_monomial.specs.Signature.{MonomialOf};
 ghost use Rattle.ore_monomial.specs.declared.stop.RingStop.TheVariants.{Memory};
 ghost use Rattle.ore_ring.specs.Belongs.{Belongs};
 ghost use Rattle.ore_rows.specs.Arithmetic.{within};
-ghost use Rattle.ore_rows.specs.Reduction.{less_multiple, row_at, step_operator};
+ghost use Rattle.ore_rows.specs.Reduction.{less_multiple, step_operator};
 ghost use Rattle.ore_rows.specs.RowsWithin.{combine_within, difference_within, matrix_times_within, scale_within};
 ghost use Rattle.ore_rows.specs.Stored.{rows_of, sums_of};
-ghost use Rattle.ore_pairs.specs.Listed.{multiples_less};
-ghost use Rattle.ore_pairs.specs.Steps.{lead_at, pair_term};
+ghost use Rattle.ore_pairs.specs.Steps.{pair_term};
 ghost use Rattle.ore_check.specs.Belongs.{AreStepsOf};
-ghost use Rattle.ore_check.specs.CheckBlock.{raised_less, less_step, less_steps};
 ghost use Rattle.ore_check.specs.Conditions.{formed};
 ghost use Rattle.ore_check.specs.Judging.{Judges};
+ghost use Rattle.ore_check.specs.LineConditions.{raised_less, less_step, less_steps};
 
 use crate::refusal::{Refusal, stopped};
 use ore_adjoint::transpose_adjoint;
 use ore_leads::Leads;
-use ore_monomial::{Exps, RingStop};
-use ore_rational::Rational;
+use ore_monomial::RingStop;
+use ore_pairs::multiples::{common_multiple, multiples_less, multiplier};
 use ore_ring::{Op, OreRing};
-use ore_rows::{Matrix, Row, Step, Steps, combine, row_copy, row_sub, scale, times};
+use ore_rows::{Matrix, Row, Step, Steps, combine, row_sub, scale, times};
 use std::alloc::Global;
 
-/// A row times a matrix, at a line.
+/// A row times a matrix, at a line. The matrix has a row for each entry of the row.
+///
+/// # Errors
+/// The stop of the first product or sum that stops, with the line; and want of memory.
 #[tactic(auto, using(crate::proofs::Refusals::stopped_refuses))]
 pub fn combined<R: OreRing>(
     ring: &R,
@@ -53,7 +54,10 @@ pub fn combined<R: OreRing>(
     }
 }
 
-/// The product of two matrices, at a line.
+/// The product of two matrices, at a line. The first has a column for each row of the second.
+///
+/// # Errors
+/// The stop of the first row that stops, with the line; and want of memory.
 #[tactic(auto, using(crate::proofs::Refusals::stopped_refuses))]
 pub fn multiplied<R: OreRing>(
     ring: &R,
@@ -75,6 +79,9 @@ pub fn multiplied<R: OreRing>(
 }
 
 /// An operator times each entry of a row, at a line.
+///
+/// # Errors
+/// The stop of the first product that stops, with the line; and want of memory.
 #[tactic(auto, using(crate::proofs::Refusals::stopped_refuses))]
 pub fn scaled<R: OreRing>(
     ring: &R,
@@ -94,7 +101,10 @@ pub fn scaled<R: OreRing>(
     }
 }
 
-/// A row less another, at a line.
+/// A row less another of the same length, at a line.
+///
+/// # Errors
+/// The stop of the first difference that stops, with the line; and want of memory.
 #[tactic(auto, using(crate::proofs::Refusals::stopped_refuses))]
 pub fn difference<R: OreRing>(
     ring: &R,
@@ -115,7 +125,10 @@ pub fn difference<R: OreRing>(
     }
 }
 
-/// The transposed adjoint of a matrix, at a line.
+/// The transposed adjoint of a matrix, at a line: a row for each column, and a column for each row.
+///
+/// # Errors
+/// The stop of the first adjoint that stops, with the line; and want of memory.
 #[tactic(auto, using(crate::proofs::Refusals::stopped_refuses))]
 pub fn turned<R: OreRing>(
     ring: &R,
@@ -135,7 +148,11 @@ pub fn turned<R: OreRing>(
     }
 }
 
-/// Row `i` of `m` less row `j`, both raised to the common multiple of the leads there, at a line.
+/// Row `i` of `m` less row `j`, both raised to the common multiple of the leads there, at a line. `m` has a row for
+/// each lead, and the degree of the common multiple is at most 32,767.
+///
+/// # Errors
+/// The stop of the first product or difference that stops, with the line; and want of memory.
 #[tactic(auto, using(crate::proofs::Refusals::stopped_refuses))]
 pub fn raised_less_at<R: OreRing>(
     ring: &R,
@@ -162,7 +179,11 @@ pub fn raised_less_at<R: OreRing>(
     }
 }
 
-/// A row less a step times its row of `m`, at a line.
+/// A row less a step times its row of `m`, at a line. The row has an entry for each column of `m`, and the step names a
+/// row of `m`.
+///
+/// # Errors
+/// The stop of the first product or difference that stops, with the line; and want of memory.
 #[tactic(auto, using(crate::proofs::Refusals::stopped_refuses))]
 pub fn less_step_at<R: OreRing>(
     ring: &R,
@@ -187,7 +208,11 @@ pub fn less_step_at<R: OreRing>(
     }
 }
 
-/// A row less each step times its row of `m`, in order, at a line.
+/// A row less each step times its row of `m`, in order, at a line. The row has an entry for each column of `m`, and
+/// each step names a row of `m`.
+///
+/// # Errors
+/// The stop of the first product or difference that stops, with the line; and want of memory.
 #[tactic(auto, using(crate::proofs::Refusals::stopped_refuses))]
 pub fn less_steps_at<R: OreRing>(
     ring: &R,
@@ -230,70 +255,12 @@ fn raised_less<R: OreRing>(
     ensures of { IfOk result (All (Belongs (R.signature_of ring.now))) }
     ensures width { IfOk result (λ r. length r ≡ m.now.cols) }
 {
-    let multiple = common(leads, i, j);
+    let Ok(multiple) = common_multiple(leads, i, j) else {
+        unreachable!()
+    };
     let first = multiplier(ring, alloc, leads, i, &multiple)?;
     let second = multiplier(ring, alloc, leads, j, &multiple)?;
     multiples_less(ring, alloc, &first, m.row(i), &second, m.row(j))
-}
-
-// The common multiple of the leads at two places, where it fits.
-fn common(leads: &Leads, i: usize, j: usize) -> Exps
-    requires first { i < length leads.now }
-    requires second { j < length leads.now }
-    requires fits { degree (pair_term leads.now i j).monomial ≤ 32767 }
-    ensures { result ≡ (pair_term leads.now i j).monomial }
-{
-    let first = leads.get(i);
-    let second = leads.get(j);
-    let Ok(multiple) = first.1.lcm(&second.1) else {
-        unreachable!()
-    };
-    multiple
-}
-
-// The operator that takes the lead at `k` to a multiple of it.
-fn multiplier<R: OreRing>(
-    ring: &R,
-    alloc: Global,
-    leads: &Leads,
-    k: usize,
-    multiple: &Exps,
-) -> Result<Op, RingStop>
-    requires place { k < length leads.now }
-    requires divides { Divides (lead_at leads.now k).monomial multiple.now }
-    requires of { MonomialOf (R.signature_of ring.now) multiple.now }
-    ensures value { IfOk result (λ f. f.sum ≡ single rationals plain_cmp (quotient multiple.now (lead_at leads.now k).monomial) rationals.one) }
-    ensures of { IfOk result (Belongs (R.signature_of ring.now)) }
-    ensures memory { IfErr result (λ e. e ≡ Memory) }
-{
-    let lead = leads.get(k);
-    let order = ring.signature().order();
-    let lacking = multiple.minus(&lead.1);
-    Ok(Op::term(alloc, order, lacking, Rational::one())?)
-}
-
-// The first multiple of the first row less the second multiple of the second row.
-#[tactic(auto, unfolding(ore_pairs::specs::Listed::multiples_less))]
-fn multiples_less<R: OreRing>(
-    ring: &R,
-    alloc: Global,
-    first: &Op,
-    row: &Row,
-    second: &Op,
-    other: &Row,
-) -> Result<Row, RingStop>
-    requires width { length row.now ≡ length other.now }
-    requires first_of { Belongs (R.signature_of ring.now) first.now }
-    requires row_of { All (Belongs (R.signature_of ring.now)) row.now }
-    requires second_of { Belongs (R.signature_of ring.now) second.now }
-    requires other_of { All (Belongs (R.signature_of ring.now)) other.now }
-    ensures gives { Gives sums_of result (multiples_less rationals (within program (R.signature_of ring.now)) first.now.sum (sums_of row.now) second.now.sum (sums_of other.now)) }
-    ensures of { IfOk result (All (Belongs (R.signature_of ring.now))) }
-    ensures width { IfOk result (λ r. length r ≡ length row.now) }
-{
-    let multiple = scale(ring, alloc, first, row)?;
-    let taken = scale(ring, alloc, second, other)?;
-    row_sub(ring, alloc, &multiple, &taken)
 }
 
 // A row less each step times its row of `m`, in order.

@@ -8,7 +8,7 @@ ghost use Rattle.ore_ring.specs.Belongs.{Belongs};
 ghost use Rattle.ore_rows.specs.Stored.{rows_of, sums_of};
 ghost use Rattle.ore_check.specs.CheckBlock.{rows_give, plain, check_basis, check_to};
 ghost use Rattle.ore_check.specs.Judging.{Judges};
-ghost use Rattle.ore_check.specs.OneLine.{row_given};
+ghost use Rattle.ore_check.specs.LineConditions.{row_gives};
 
 use crate::answer::Reason;
 use crate::equal::are_same;
@@ -20,8 +20,11 @@ use ore_ring::OreRing;
 use ore_rows::{Matrix, Row};
 use std::alloc::Global;
 
-/// The basis of a block at a line, and then the rows of `from`, which times the basis are those of `a`. The leads of the
-/// basis.
+/// The basis of a block at a line, and then the rows of `from`, which times the basis are those of `a`. The leads of
+/// the basis.
+///
+/// # Errors
+/// The first line whose condition fails, or of which an operation stops; and want of memory.
 #[tactic(auto, using(crate::proofs::Refusals::refuses_on), unfolding(crate::specs::CheckBlock::check_basis))]
 pub fn check_basis<R: OreRing>(
     ring: &R,
@@ -55,6 +58,9 @@ pub fn check_basis<R: OreRing>(
 }
 
 /// The rows of `to` of a block at a line, which times `a` are those of the basis.
+///
+/// # Errors
+/// The first line whose condition fails, or of which an operation stops; and want of memory.
 #[tactic(auto, using(crate::proofs::Refusals::refuses_on), unfolding(crate::specs::CheckBlock::check_to))]
 pub fn check_to<R: OreRing>(
     ring: &R,
@@ -80,7 +86,11 @@ pub fn check_to<R: OreRing>(
     rows_give(ring, alloc, Reason::ToRow, a, line + 1, to, basis)
 }
 
-/// Each row times `m` is the row that is wanted, from a line on; else that is the reason.
+/// Each row times `m` is the row that is wanted, from a line on; else that is the reason. There are as many rows as
+/// wanted ones, and `m` has a row for each of their columns.
+///
+/// # Errors
+/// The first line whose condition fails, or of which an operation stops; and want of memory.
 pub fn rows_give<R: OreRing>(
     ring: &R,
     alloc: Global,
@@ -113,7 +123,7 @@ pub fn rows_give<R: OreRing>(
 }
 
 // A row times `m` is the row that is wanted.
-#[tactic(auto, using(crate::proofs::Refusals::refuses_on), unfolding(crate::specs::OneLine::row_given))]
+#[tactic(auto, using(crate::proofs::Refusals::refuses_on), unfolding(crate::specs::LineConditions::row_gives))]
 fn row_gives<R: OreRing>(
     ring: &R,
     alloc: Global,
@@ -127,7 +137,7 @@ fn row_gives<R: OreRing>(
     requires m_of { All (All (Belongs (R.signature_of ring.now))) m.now.rows }
     requires row_of { All (Belongs (R.signature_of ring.now)) row.now }
     requires wanted_of { All (Belongs (R.signature_of ring.now)) wanted.now }
-    ensures { Judges (λ u. u) result (row_given program (R.signature_of ring.now) reason m.now.cols (rows_of m.now) line (sums_of row.now) (sums_of wanted.now)) }
+    ensures { Judges (λ u. u) result (row_gives program (R.signature_of ring.now) reason m.now.cols (rows_of m.now) line (sums_of row.now) (sums_of wanted.now)) }
 {
     let product = combined(ring, alloc, line, row, m)?;
     required(line, reason, are_same(ring, &product, wanted))

@@ -9,14 +9,15 @@ ghost use Rattle.ore_ring.specs.Belongs.{Belongs};
 ghost use Rattle.ore_rows.specs.Stored.{rows_of, sums_of};
 ghost use Rattle.ore_pairs.specs.Steps.{pair_term};
 ghost use Rattle.ore_check.specs.Belongs.{AreStepsOf, IsEntryOf};
-ghost use Rattle.ore_check.specs.CheckBlock.{check_inside, first_inside, later_inside, plain};
+ghost use Rattle.ore_check.specs.CheckBlock.{check_inside, rows_inside, pairs_inside, plain};
+ghost use Rattle.ore_check.specs.InnerContracts.{IsTreatable};
 ghost use Rattle.ore_check.specs.Judging.{Judges};
-ghost use Rattle.ore_check.specs.OneLine.{IsTreatable, inside_entry, inside_first, inside_later};
+ghost use Rattle.ore_check.specs.LineConditions.{row_inside, pair_inside};
 
 use crate::answer::Reason;
 use crate::equal::are_same;
 use crate::formed::{combined, difference, less_steps_at, raised_less_at};
-use crate::pairs::treated_in;
+use crate::pairs::{rows_taken, treated_count};
 use crate::refusal::{Refusal, required};
 use ore_cert::{ExactBlock, PairEntry, Pairs};
 use ore_leads::Leads;
@@ -24,7 +25,11 @@ use ore_ring::OreRing;
 use ore_rows::{Matrix, Row, Steps, unit_row};
 use std::alloc::Global;
 
-/// The inside rows of a block at a line, for each row of `a` and then for each treated pair.
+/// The inside rows of a block at a line, for each row of `a` and then for each treated pair. `m` has a column for each
+/// row of `a`, and the lines of the block before this one are right.
+///
+/// # Errors
+/// The first line whose condition fails, or of which an operation stops; and want of memory.
 #[tactic(auto, using(crate::proofs::Refusals::refuses_on), unfolding(crate::specs::CheckBlock::check_inside))]
 pub fn check_inside<R: OreRing>(
     ring: &R,
@@ -51,14 +56,14 @@ pub fn check_inside<R: OreRing>(
     ensures { Judges (λ u. u) result (check_inside program (R.signature_of ring.now) (plain a.now) (plain m.now) leads.now line (plain block.now.from) (plain block.now.to) block.now.pairs (plain block.now.inside)) }
 {
     let inside = &block.inside;
-    let rows = a.rows() as u128 + treated_in(&block.pairs) as u128;
+    let rows = a.rows() as u128 + treated_count(&block.pairs) as u128;
     required(
         line,
         Reason::Shape,
         inside.rows() as u128 == rows && inside.cols() == m.rows(),
     )?;
-    first_inside(ring, alloc, &block.to, m, line + 1, &block.from, inside)?;
-    later_inside(
+    rows_inside(ring, alloc, &block.to, m, line + 1, &block.from, inside)?;
+    pairs_inside(
         ring,
         alloc,
         leads,
@@ -72,7 +77,7 @@ pub fn check_inside<R: OreRing>(
 }
 
 // The inside rows for each row of `from`.
-fn first_inside<R: OreRing>(
+fn rows_inside<R: OreRing>(
     ring: &R,
     alloc: Global,
     to: &Matrix,
@@ -90,10 +95,10 @@ fn first_inside<R: OreRing>(
     requires from_of { All (All (Belongs (R.signature_of ring.now))) from.now.rows }
     requires inside_of { All (All (Belongs (R.signature_of ring.now))) inside.now.rows }
     requires low { line < 2 ^ 127 + 2 ^ 90 }
-    ensures { Judges (λ u. u) result (first_inside program (R.signature_of ring.now) to.now.cols (rows_of to.now) (rows_of m.now) line 0 (rows_of from.now) (rows_of inside.now)) }
+    ensures { Judges (λ u. u) result (rows_inside program (R.signature_of ring.now) to.now.cols (rows_of to.now) (rows_of m.now) line 0 (rows_of from.now) (rows_of inside.now)) }
 {
     for i in 0..from.rows() {
-        first_row(
+        row_inside(
             ring,
             alloc,
             to,
@@ -108,8 +113,8 @@ fn first_inside<R: OreRing>(
 }
 
 // The inside row for a row of `from`.
-#[tactic(auto, using(crate::proofs::Refusals::refuses_on), unfolding(crate::specs::OneLine::inside_first))]
-fn first_row<R: OreRing>(
+#[tactic(auto, using(crate::proofs::Refusals::refuses_on), unfolding(crate::specs::LineConditions::row_inside))]
+fn row_inside<R: OreRing>(
     ring: &R,
     alloc: Global,
     to: &Matrix,
@@ -126,7 +131,7 @@ fn first_row<R: OreRing>(
     requires m_of { All (All (Belongs (R.signature_of ring.now))) m.now.rows }
     requires row_of { All (Belongs (R.signature_of ring.now)) row.now }
     requires inside_of { All (Belongs (R.signature_of ring.now)) inside.now }
-    ensures { Judges (λ u. u) result (inside_first program (R.signature_of ring.now) to.now.cols (rows_of to.now) (rows_of m.now) line i (sums_of row.now) (sums_of inside.now)) }
+    ensures { Judges (λ u. u) result (row_inside program (R.signature_of ring.now) to.now.cols (rows_of to.now) (rows_of m.now) line i (sums_of row.now) (sums_of inside.now)) }
 {
     let product = combined(ring, alloc, line, row, to)?;
     let unit = unit_row(alloc, ring.signature(), to.cols(), i)?;
@@ -136,7 +141,7 @@ fn first_row<R: OreRing>(
 }
 
 // The inside rows from a place on, for each treated pair.
-fn later_inside<R: OreRing>(
+fn pairs_inside<R: OreRing>(
     ring: &R,
     alloc: Global,
     leads: &Leads,
@@ -157,7 +162,7 @@ fn later_inside<R: OreRing>(
     requires pairs_of { All (IsEntryOf (R.signature_of ring.now)) pairs.now }
     requires inside_of { All (All (Belongs (R.signature_of ring.now))) inside.now.rows }
     requires low { line < 2 ^ 127 + 2 ^ 90 }
-    ensures { Judges (λ u. u) result (later_inside program (R.signature_of ring.now) to.now.cols leads.now (rows_of to.now) (rows_of m.now) line pairs.now (drop first (rows_of inside.now))) }
+    ensures { Judges (λ u. u) result (pairs_inside program (R.signature_of ring.now) to.now.cols leads.now (rows_of to.now) (rows_of m.now) line pairs.now (drop first (rows_of inside.now))) }
 {
     let mut next = first;
     for k in 0..pairs.len() {
@@ -165,23 +170,16 @@ fn later_inside<R: OreRing>(
             return Ok(());
         }
         let at = line + (next - first) as u128;
-        next += entry_inside(
-            ring,
-            alloc,
-            leads,
-            to,
-            m,
-            at,
-            pairs.get(k),
-            inside.row(next),
-        )?;
+        let entry = pairs.get(k);
+        pair_inside(ring, alloc, leads, to, m, at, entry, inside.row(next))?;
+        next += rows_taken(entry);
     }
     Ok(())
 }
 
-// The inside row for a pair, where it is treated; and how many rows it takes.
-#[tactic(auto, using(crate::proofs::Refusals::refuses_on), unfolding(crate::specs::OneLine::inside_entry))]
-fn entry_inside<R: OreRing>(
+// The inside row for a pair, where it is treated.
+#[tactic(auto, unfolding(crate::specs::LineConditions::pair_inside))]
+fn pair_inside<R: OreRing>(
     ring: &R,
     alloc: Global,
     leads: &Leads,
@@ -190,7 +188,7 @@ fn entry_inside<R: OreRing>(
     line: u128,
     entry: &PairEntry,
     inside: &Row,
-) -> Result<usize, Refusal>
+) -> Result<(), Refusal>
     requires m_cols { m.now.cols ≡ to.now.cols }
     requires to_rows { length to.now.rows ≡ length leads.now }
     requires inside_width { length inside.now ≡ length m.now.rows }
@@ -200,21 +198,19 @@ fn entry_inside<R: OreRing>(
     requires m_of { All (All (Belongs (R.signature_of ring.now))) m.now.rows }
     requires entry_of { IsEntryOf (R.signature_of ring.now) entry.now }
     requires inside_of { All (Belongs (R.signature_of ring.now)) inside.now }
-    ensures small { IfOk result (λ n. n ≤ 1) }
-    ensures judges { Judges (λ n. n) result (inside_entry program (R.signature_of ring.now) to.now.cols leads.now (rows_of to.now) (rows_of m.now) line entry.now (sums_of inside.now)) }
+    ensures { Judges (λ u. u) result (pair_inside program (R.signature_of ring.now) to.now.cols leads.now (rows_of to.now) (rows_of m.now) line entry.now (sums_of inside.now)) }
 {
     match entry {
-        PairEntry::Pair { i, j, steps } => {
-            later_row(ring, alloc, leads, to, m, line, *i, *j, steps, inside)?;
-            Ok(1)
-        }
-        PairEntry::Skip { .. } => Ok(0),
+        PairEntry::Pair { i, j, steps } => treated_inside(
+            ring, alloc, leads, to, m, line, *i, *j, steps, inside,
+        ),
+        PairEntry::Skip { .. } => Ok(()),
     }
 }
 
 // The inside row for a treated pair.
-#[tactic(auto, using(crate::proofs::Refusals::refuses_on), unfolding(crate::specs::OneLine::inside_later))]
-fn later_row<R: OreRing>(
+#[tactic(auto, using(crate::proofs::Refusals::refuses_on), unfolding(crate::specs::LineConditions::pair_inside))]
+fn treated_inside<R: OreRing>(
     ring: &R,
     alloc: Global,
     leads: &Leads,
@@ -238,7 +234,7 @@ fn later_row<R: OreRing>(
     requires m_of { All (All (Belongs (R.signature_of ring.now))) m.now.rows }
     requires steps_of { AreStepsOf (R.signature_of ring.now) steps.now }
     requires inside_of { All (Belongs (R.signature_of ring.now)) inside.now }
-    ensures { Judges (λ u. u) result (inside_later program (R.signature_of ring.now) to.now.cols leads.now (rows_of to.now) (rows_of m.now) line i j steps.now (sums_of inside.now)) }
+    ensures { Judges (λ u. u) result (pair_inside program (R.signature_of ring.now) to.now.cols leads.now (rows_of to.now) (rows_of m.now) line (PairEntry.Pair i j steps.now) (sums_of inside.now)) }
 {
     let start = raised_less_at(ring, alloc, line, leads, to, i, j)?;
     let left = less_steps_at(ring, alloc, line, to, start, steps)?;

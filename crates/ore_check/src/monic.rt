@@ -7,10 +7,11 @@ ghost use Rattle.ore_monomial.specs.Signature.{MonomialOf};
 ghost use Rattle.ore_ring.specs.Belongs.{Belongs};
 ghost use Rattle.ore_rows.specs.RowLead.{row_lead};
 ghost use Rattle.ore_rows.specs.Stored.{rows_of, sums_of};
-ghost use Rattle.ore_check.specs.CheckBlock.{basis_leads, is_reduced, monic_lead, are_zero};
+ghost use Rattle.ore_check.specs.CheckBlock.{basis_leads, are_zero};
 ghost use Rattle.ore_check.specs.Conditions.{found, is_none};
+ghost use Rattle.ore_check.specs.InnerContracts.{lead_of};
 ghost use Rattle.ore_check.specs.Judging.{Judges};
-ghost use Rattle.ore_check.specs.OneLine.{lead_of};
+ghost use Rattle.ore_check.specs.LineConditions.{is_reduced, monic_lead};
 ghost use Rattle.ore_algebra.specs.Limits.{program};
 
 use crate::answer::Reason;
@@ -22,6 +23,9 @@ use ore_rows::{Matrix, Row, row_lead};
 use std::alloc::Global;
 
 /// The leads of basis rows, of which the first stands at a line. Their coefficients are 1.
+///
+/// # Errors
+/// The line of the first row that is zero, or whose lead coefficient isn't 1; and want of memory.
 pub fn basis_leads(
     alloc: Global,
     sig: &Signature,

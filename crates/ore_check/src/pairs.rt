@@ -1,20 +1,21 @@
 //! The pairs of a basis, each by those before it.
 
-ghost use Rattle.std.specs.Prelude.{◌≡◌, ◌↔◌, ℕ, [], ◌∷◌, ◌+◌, ◌*◌, ◌<◌, ◌≤◌, ◌^◌, ◌&&◌, ◌||◌, not, nat_eq, length, IsTrue, IfOk};
+ghost use Rattle.std.specs.Prelude.{◌≡◌, ℕ, [], ◌∷◌, ◌+◌, ◌*◌, ◌<◌, ◌≤◌, ◌^◌, ◌&&◌, length, IfOk};
 ghost use Rattle.std.specs.List.{All};
 ghost use Rattle.ore_algebra.specs.Limits.{program};
-ghost use Rattle.ore_monomial.specs.Monomial.{Divides, degree, lcm};
+ghost use Rattle.ore_monomial.specs.Monomial.{degree};
 ghost use Rattle.ore_monomial.specs.Signature.{MonomialOf};
 ghost use Rattle.ore_ring.specs.Belongs.{Belongs};
-ghost use Rattle.ore_leads.specs.FirstDivisor.{divides_term};
 ghost use Rattle.ore_rows.specs.Stored.{rows_of, sums_of};
 ghost use Rattle.ore_pairs.specs.Listed.{is_in};
-ghost use Rattle.ore_pairs.specs.Steps.{lead_at, pair_term};
+ghost use Rattle.ore_pairs.specs.PairList.{treated_count};
+ghost use Rattle.ore_pairs.specs.PairRule.{may_skip, may_treat};
+ghost use Rattle.ore_pairs.specs.Steps.{pair_term};
 ghost use Rattle.ore_check.specs.Belongs.{AreStepsOf, IsEntryOf};
-ghost use Rattle.ore_check.specs.CheckBlock.{check_entries, check_entry, check_pairs, common_fits, either_listed, entry_lines, is_new, lines_of, may_skip, pair_of, treated_in};
+ghost use Rattle.ore_check.specs.CheckBlock.{check_entries, check_entry, check_pairs, common_fits, entries_of, entry_lines, lines_of, pair_of, rows_taken};
 ghost use Rattle.ore_check.specs.Conditions.{formed};
 ghost use Rattle.ore_check.specs.Judging.{Judges};
-ghost use Rattle.ore_check.specs.OneLine.{IsTreatable, rows_taken};
+ghost use Rattle.ore_check.specs.InnerContracts.{IsTreatable};
 
 use crate::answer::Reason;
 use crate::count::pair_count;
@@ -25,11 +26,17 @@ use ore_cert::{PairEntry, Pairs};
 use ore_leads::Leads;
 use ore_monomial::{Exps, NoMemory};
 use ore_pairs::Listed;
+use ore_pairs::multiples::common_multiple;
+use ore_pairs::rule::may_skip;
 use ore_ring::OreRing;
 use ore_rows::{Matrix, Steps};
 use std::alloc::Global;
 
-/// The pairs of a basis at a line: they are as many as the basis has, and each is right by those before it.
+/// The pairs of a basis at a line: they are as many as the basis has, and each is right by those before it. There is a
+/// lead for each basis row.
+///
+/// # Errors
+/// The first line whose condition fails, or of which an operation stops; and want of memory.
 #[tactic(auto, using(crate::proofs::Refusals::refuses_on), unfolding(crate::specs::CheckBlock::check_pairs))]
 pub fn check_pairs<R: OreRing>(
     ring: &R,
@@ -120,8 +127,8 @@ pub fn lines_of(pairs: &Pairs) -> u128
 }
 
 /// How many of some pairs are treated.
-pub fn treated_in(pairs: &Pairs) -> usize
-    ensures { result ≡ treated_in pairs.now }
+pub fn treated_count(pairs: &Pairs) -> usize
+    ensures { result ≡ treated_count (entries_of pairs.now) }
 {
     let mut treated = 0;
     for k in 0..pairs.len() {
@@ -130,8 +137,8 @@ pub fn treated_in(pairs: &Pairs) -> usize
     treated
 }
 
-// How many inside rows a pair takes: one where it is treated.
-fn rows_taken(entry: &PairEntry) -> usize
+/// How many inside rows a pair takes: one where it is treated.
+pub fn rows_taken(entry: &PairEntry) -> usize
     ensures value { result ≡ rows_taken entry.now }
     ensures small { result ≤ 1 }
 {
@@ -172,7 +179,7 @@ fn check_entry<R: OreRing>(
 }
 
 // A treated pair at its line.
-#[tactic(auto, using(crate::proofs::Refusals::refuses_on), unfolding(crate::specs::CheckBlock::check_entry))]
+#[tactic(auto, using(crate::proofs::Refusals::refuses_on), unfolding(crate::specs::CheckBlock::check_entry, ore_pairs::specs::PairRule::may_treat))]
 fn check_pair<R: OreRing>(
     ring: &R,
     alloc: Global,
@@ -191,7 +198,7 @@ fn check_pair<R: OreRing>(
     requires low { line < 2 ^ 127 + 2 ^ 90 }
     ensures { Judges (λ u. u) result (check_entry program (R.signature_of ring.now) (rows_of basis.now) leads.now line before.now (PairEntry.Pair i j steps.now)) }
 {
-    required(line, Reason::Pair, is_new(leads, before, i, j))?;
+    required(line, Reason::Pair, may_treat(leads, before, i, j))?;
     let multiple = common(ring, line, leads, i, j)?;
     let row = raised_less_at(ring, alloc, line, leads, basis, i, j)?;
     check_steps(
@@ -222,17 +229,16 @@ fn common<R: OreRing>(
     ensures fits { IfOk result (λ _. degree (pair_term leads.now i j).monomial ≤ 32767) }
 {
     let _ring = ring;
-    let first = leads.get(i);
-    let second = leads.get(j);
-    match first.1.lcm(&second.1) {
+    match common_multiple(leads, i, j) {
         Ok(multiple) => Ok(multiple),
         Err(_passed) => Err(Refusal::Degree { line }),
     }
 }
 
 // Whether a pair is one of the basis that isn't listed before.
-fn is_new(leads: &Leads, before: &Listed, i: usize, j: usize) -> bool
-    ensures { result ≡ is_new leads.now before.now i j }
+#[tactic(auto, unfolding(ore_pairs::specs::PairRule::may_treat))]
+fn may_treat(leads: &Leads, before: &Listed, i: usize, j: usize) -> bool
+    ensures { result ≡ may_treat leads.now before.now i j }
 {
     if i >= j {
         return false;
@@ -244,64 +250,12 @@ fn is_new(leads: &Leads, before: &Listed, i: usize, j: usize) -> bool
 }
 
 // Whether a pair is new and may be skipped by way of a third row.
+#[tactic(auto, unfolding(ore_pairs::specs::PairRule::may_treat))]
 fn is_skipped(leads: &Leads, before: &Listed, i: usize, j: usize, via: usize) -> bool
-    ensures { result ≡ (is_new leads.now before.now i j && may_skip leads.now before.now i j via) }
+    ensures { result ≡ (may_treat leads.now before.now i j && may_skip leads.now before.now i j via) }
 {
-    if !is_new(leads, before, i, j) {
+    if !may_treat(leads, before, i, j) {
         return false;
     }
     may_skip(leads, before, i, j, via)
-}
-
-// Whether a pair may be skipped by way of a third row.
-fn may_skip(leads: &Leads, before: &Listed, i: usize, j: usize, via: usize) -> bool
-    requires first { i < length leads.now }
-    requires second { j < length leads.now }
-    ensures { result ≡ may_skip leads.now before.now i j via }
-{
-    if via >= leads.len() {
-        return false;
-    }
-    if via == i {
-        return false;
-    }
-    if via == j {
-        return false;
-    }
-    if !divides_common(leads, i, j, via) {
-        return false;
-    }
-    either_listed(before, i, via) && either_listed(before, j, via)
-}
-
-// Whether the pair is listed, in one of its two orders.
-fn either_listed(before: &Listed, i: usize, j: usize) -> bool
-    ensures { result ≡ either_listed i j before.now }
-{
-    before.has(i, j) || before.has(j, i)
-}
-
-// Whether the lead at `via` divides the common multiple of those at `i` and `j`.
-fn divides_common(leads: &Leads, i: usize, j: usize, via: usize) -> bool
-    requires first { i < length leads.now }
-    requires second { j < length leads.now }
-    requires third { via < length leads.now }
-    ensures { result ≡ divides_term (lead_at leads.now via) (pair_term leads.now i j) }
-{
-    let first = leads.get(i);
-    let second = leads.get(j);
-    let third = leads.get(via);
-    third.0 == first.0 && divides_lcm(&third.1, &first.1, &second.1)
-}
-
-// Whether a monomial divides the least common multiple of two others, of whatever degree that is.
-fn divides_lcm(exps: &Exps, first: &Exps, second: &Exps) -> bool
-    ensures { IsTrue result ↔ Divides exps.now (lcm first.now second.now) }
-{
-    for k in 0..12 {
-        if exps.get(k) > first.get(k).max(second.get(k)) {
-            return false;
-        }
-    }
-    true
 }

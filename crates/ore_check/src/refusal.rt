@@ -58,6 +58,9 @@ pub fn stopped(line: u128, stop: RingStop) -> Refusal
 }
 
 /// The test should pass at a line, else that is the reason.
+///
+/// # Errors
+/// The line and the reason, where the test doesn't pass.
 pub fn required(line: u128, reason: Reason, test: bool) -> Result<(), Refusal>
     ensures judges { Judges (λ u. u) result (required line reason test) }
     ensures passes { IfOk result (λ _. IsTrue test) }

@@ -9,10 +9,11 @@ ghost use Rattle.ore_monomial.specs.Term.{Term};
 ghost use Rattle.ore_ring.specs.Belongs.{Belongs};
 ghost use Rattle.ore_rows.specs.Stored.{rows_of, sums_of};
 ghost use Rattle.ore_check.specs.Belongs.{AreStepsOf};
-ghost use Rattle.ore_check.specs.CheckBlock.{check_steps, quotient_steps, is_below, shifted};
+ghost use Rattle.ore_check.specs.CheckBlock.{check_steps, quotient_steps};
 ghost use Rattle.ore_check.specs.Conditions.{formed};
+ghost use Rattle.ore_check.specs.InnerContracts.{left_of};
 ghost use Rattle.ore_check.specs.Judging.{Judges};
-ghost use Rattle.ore_check.specs.OneLine.{left_of, quotient_taken, step_checked};
+ghost use Rattle.ore_check.specs.LineConditions.{check_step, is_below, quotient_step, shifted};
 ghost use Rattle.ore_pairs.specs.Steps.{lead_at};
 
 use crate::answer::Reason;
@@ -26,7 +27,11 @@ use ore_rows::{Matrix, Row, Step, Steps};
 use std::alloc::Global;
 use std::cmp::Ordering;
 
-/// The steps of a pair behind a line, each below the common multiple in its column, leave nothing of a row.
+/// The steps of a pair behind a line, each below the common multiple in its column, leave nothing of a row, which has
+/// an entry for each column of the basis. There is a lead for each basis row.
+///
+/// # Errors
+/// The first line whose condition fails, or of which an operation stops; and want of memory.
 pub fn check_steps<R: OreRing>(
     ring: &R,
     alloc: Global,
@@ -48,7 +53,7 @@ pub fn check_steps<R: OreRing>(
 {
     let mut left = row;
     for k in 0..steps.len() {
-        left = pair_step(
+        left = check_step(
             ring,
             alloc,
             basis,
@@ -68,8 +73,8 @@ pub fn check_steps<R: OreRing>(
 }
 
 // A step of a pair at its line: it is below the common multiple, and is taken from the row.
-#[tactic(auto, using(crate::proofs::Refusals::refuses_on), unfolding(crate::specs::OneLine::step_checked))]
-fn pair_step<R: OreRing>(
+#[tactic(auto, using(crate::proofs::Refusals::refuses_on), unfolding(crate::specs::LineConditions::check_step))]
+fn check_step<R: OreRing>(
     ring: &R,
     alloc: Global,
     basis: &Matrix,
@@ -85,7 +90,7 @@ fn pair_step<R: OreRing>(
     requires basis_of { All (All (Belongs (R.signature_of ring.now))) basis.now.rows }
     requires row_of { All (Belongs (R.signature_of ring.now)) row.now }
     requires step_of { MonomialOf (R.signature_of ring.now) step.now.monomial }
-    ensures judges { Judges sums_of result (step_checked program (R.signature_of ring.now) (rows_of basis.now) leads.now (record { monomial = multiple.now; column = column }) line (sums_of row.now) step.now) }
+    ensures judges { Judges sums_of result (check_step program (R.signature_of ring.now) (rows_of basis.now) leads.now (record { monomial = multiple.now; column = column }) line (sums_of row.now) step.now) }
     ensures of { IfOk result (All (Belongs (R.signature_of ring.now))) }
     ensures width { IfOk result (λ r. length r ≡ basis.now.cols) }
 {
@@ -129,7 +134,11 @@ fn is_below(order: Order, term: &(usize, Exps), column: usize, exps: &Exps) -> b
     }
 }
 
-/// What the steps of an outside block behind a line leave of a row; none where there is no step.
+/// What the steps of an outside block behind a line leave of the row `w`, which has an entry for each column of the
+/// basis; none where there is no step.
+///
+/// # Errors
+/// The first line whose condition fails, or of which an operation stops; and want of memory.
 pub fn quotient_steps<R: OreRing>(
     ring: &R,
     alloc: Global,
@@ -162,7 +171,7 @@ pub fn quotient_steps<R: OreRing>(
     Ok(left)
 }
 
-/// What is left of a row.
+/// What is left of the row `w`: the row itself before the first step.
 pub fn row_left<'a>(left: &'a Option<Row>, w: &'a Row) -> &'a Row
     ensures { result.now ≡ left_of left.now w.now }
 {
@@ -173,7 +182,7 @@ pub fn row_left<'a>(left: &'a Option<Row>, w: &'a Row) -> &'a Row
 }
 
 // A step of an outside block at its line.
-#[tactic(auto, using(crate::proofs::Refusals::refuses_on), unfolding(crate::specs::OneLine::quotient_taken))]
+#[tactic(auto, using(crate::proofs::Refusals::refuses_on), unfolding(crate::specs::LineConditions::quotient_step))]
 fn quotient_step<R: OreRing>(
     ring: &R,
     alloc: Global,
@@ -186,7 +195,7 @@ fn quotient_step<R: OreRing>(
     requires basis_of { All (All (Belongs (R.signature_of ring.now))) basis.now.rows }
     requires row_of { All (Belongs (R.signature_of ring.now)) row.now }
     requires step_of { MonomialOf (R.signature_of ring.now) step.now.monomial }
-    ensures judges { Judges sums_of result (quotient_taken program (R.signature_of ring.now) (rows_of basis.now) line (sums_of row.now) step.now) }
+    ensures judges { Judges sums_of result (quotient_step program (R.signature_of ring.now) (rows_of basis.now) line (sums_of row.now) step.now) }
     ensures of { IfOk result (All (Belongs (R.signature_of ring.now))) }
     ensures width { IfOk result (λ r. length r ≡ basis.now.cols) }
 {

@@ -1,7 +1,7 @@
 use Rattle.std.proofs.Common.{◌≡◌, ℕ, ◌-◌, ◌*◌, ◌^◌, ◌≤◌, drop, length, nat_eq}
 use Rattle.std.specs.List.{count_by}
 use Rattle.ore_pairs.specs.PairList.{pair_count}
-use Rattle.ore_check.specs.OneLine.{count_at}
+use Rattle.ore_check.specs.InnerContracts.{count_at}
 use Rattle.ore_check.proofs.count.pair_count.Given as goal
 
 abbrev pub invariant-loop-k : goal.invariant-loop-k

@@ -3,7 +3,7 @@ use Rattle.std.proofs.lemmas.Result.{err_from_is_err_and}
 use Rattle.ore_algebra.specs.Limits.{program}
 use Rattle.ore_monomial.proofs.Stops.{fails_like}
 use Rattle.ore_rows.specs.Stored.{rows_of, sums_of}
-use Rattle.ore_check.specs.CheckBlock.{less_step}
+use Rattle.ore_check.specs.LineConditions.{less_step}
 use Rattle.ore_check.proofs.Folds.{folded_on, folded_stops}
 use Rattle.ore_check.proofs.Places.{drop_read}
 use Rattle.ore_check.proofs.formed.less_steps.Goals as goal

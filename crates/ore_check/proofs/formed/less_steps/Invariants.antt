@@ -3,7 +3,7 @@ use Rattle.std.specs.List.{All}
 use Rattle.ore_algebra.specs.Limits.{program}
 use Rattle.ore_ring.specs.Belongs.{Belongs}
 use Rattle.ore_rows.specs.Stored.{rows_of, sums_of}
-use Rattle.ore_check.specs.CheckBlock.{less_steps}
+use Rattle.ore_check.specs.LineConditions.{less_steps}
 use Rattle.ore_check.proofs.formed.less_steps.Given as goal
 
 abbrev pub invariant-loop-k : goal.invariant-loop-k

@@ -9,7 +9,7 @@ use Rattle.ore_rows.specs.Reduction.{Step}
 use Rattle.ore_rows.specs.Stored.{rows_of, sums_of}
 use Rattle.ore_rows.proofs.Dots.{all_at}
 use Rattle.ore_check.specs.CheckBlock.{quotient_steps}
-use Rattle.ore_check.specs.OneLine.{left_of}
+use Rattle.ore_check.specs.InnerContracts.{left_of}
 use Rattle.ore_check.proofs.Chains.{refuses_as, passed_as}
 use Rattle.ore_check.proofs.GivenRows.{quotients_next, quotients_end}
 use Rattle.ore_check.proofs.Places.{left_has}

@@ -5,7 +5,7 @@ use Rattle.ore_algebra.specs.Limits.{program}
 use Rattle.ore_ring.specs.Belongs.{Belongs}
 use Rattle.ore_rows.specs.Stored.{rows_of, sums_of}
 use Rattle.ore_check.specs.CheckBlock.{quotient_steps}
-use Rattle.ore_check.specs.OneLine.{left_of}
+use Rattle.ore_check.specs.InnerContracts.{left_of}
 use Rattle.ore_check.proofs.taken.quotient_steps.Given as goal
 
 abbrev pub invariant-loop-k : goal.invariant-loop-k

@@ -1,6 +1,6 @@
 use Rattle.std.proofs.Common.{◌≤◌, length, arith}
 use Rattle.ore_check.proofs.Entries.{treated_next, treated_end}
-use Rattle.ore_check.proofs.pairs.treated_in.Goals as goal
+use Rattle.ore_check.proofs.pairs.treated_count.Goals as goal
 
 pub loop-k-preserved : goal.loop-k-preserved
 loop-k-preserved c =
