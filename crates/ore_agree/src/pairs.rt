@@ -9,10 +9,11 @@ use crate::texts::{basis_from, row_is};
 use ore_groebner::entries::entry_row;
 use ore_mixed::MixedRing;
 use ore_monomial::{Exps, Order};
-use ore_pairs::{common, s_row};
+use ore_pairs::{Listed, common, may_skip, s_row};
 use ore_rational::Rational;
 use ore_ring::OreRing;
 use ore_rows::Basis;
+use std::alloc::Global;
 use std::test::Fail;
 
 // The first two rows have equal lead columns.
@@ -46,6 +47,63 @@ fn a_combination(rt: HostRuntime) -> Result<(), Fail> {
     let (row, cofactor) = s_row(&ring, rt.alloc(), &basis, 0, 1)?;
     assert!(rt; row_is(&ring, rt.alloc(), &names, &row, "-1")?);
     assert!(rt; row_is(&ring, rt.alloc(), &names, &cofactor, "t,-d")?);
+    Ok(())
+}
+
+// Whether the pair of the first two rows may be skipped by way of the third just where both its pairs are listed.
+fn skips_by_third(alloc: Global, basis: &Basis) -> Result<bool, Fail>
+    requires rows { 1 < length basis.now.items }
+    requires columns { (lead_at basis.now.items 0).column ≡ (lead_at basis.now.items 1).column }
+{
+    let mut listed = Listed::new(alloc);
+    listed.add(0, 2)?;
+    listed.add(2, 3)?;
+    let early = may_skip(basis, &listed, 0, 1, 2);
+    listed.add(1, 2)?;
+    Ok(!early && may_skip(basis, &listed, 0, 1, 2))
+}
+
+// Whether it may be skipped by way of one of both, of the fourth, or of none, where their pairs with the third and the
+// fourth are listed.
+fn skips_by_others(alloc: Global, basis: &Basis) -> Result<bool, Fail>
+    requires rows { 1 < length basis.now.items }
+    requires columns { (lead_at basis.now.items 0).column ≡ (lead_at basis.now.items 1).column }
+{
+    let mut listed = Listed::new(alloc);
+    listed.add(0, 2)?;
+    listed.add(1, 2)?;
+    listed.add(0, 3)?;
+    listed.add(1, 3)?;
+    for via in [0, 1, 3, 9] {
+        if may_skip(basis, &listed, 0, 1, via) {
+            return Ok(true);
+        }
+    }
+    Ok(false)
+}
+
+#[test]
+fn listed_pairs(rt: HostRuntime) -> Result<(), Fail> {
+    let mut listed = Listed::new(rt.alloc());
+    listed.add(0, 2)?;
+    listed.add(1, 3)?;
+    assert!(rt; listed.has(0, 2) && listed.has(1, 3));
+    assert!(rt; !listed.has(0, 1) && !listed.has(0, 3));
+    Ok(())
+}
+
+#[test]
+fn skipped_pairs(rt: HostRuntime) -> Result<(), Fail> {
+    let ring = MixedRing::new(mixed(Order::DegRevLex)?);
+    let names = letters(rt.alloc())?;
+    if names.len() != 12 {
+        return Err(Fail::new("a letter is missing"));
+    }
+    // t u divides the common multiple of t and u, and b doesn't
+    let basis = basis_from(&ring, rt.alloc(), &names, 1, "t;u;t*u;b", "0;0;0;0")?;
+    check_columns(&basis)?;
+    assert!(rt; skips_by_third(rt.alloc(), &basis)?);
+    assert!(rt; !skips_by_others(rt.alloc(), &basis)?);
     Ok(())
 }
 

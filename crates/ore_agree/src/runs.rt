@@ -1,6 +1,6 @@
 //! Runs with the live chooser, in each kind of algebra.
 
-ghost use Rattle.std.specs.Prelude.{◌≡◌, ◌<◌, ◌^◌, IfOk, length};
+ghost use Rattle.std.specs.Prelude.{◌≡◌, ◌<◌, ◌≤◌, ◌^◌, IfOk, length};
 ghost use Rattle.std.specs.List.{All};
 ghost use Rattle.ore_ring.specs.Belongs.{Belongs};
 
@@ -9,14 +9,16 @@ use crate::operators::{commuting, mixed, unshifted};
 use crate::texts::{basis_is, matrix_from, rows_are};
 use ore_commutative::CommutativeRing;
 use ore_expr::Names;
+use ore_groebner::first::begin;
+use ore_groebner::progress::skip;
 use ore_groebner::run::run;
-use ore_groebner::{Event, Events, Finished, Origin, Origins, Outcome};
+use ore_groebner::{Event, Events, Finished, Halt, Origin, Origins, Outcome};
 use ore_mixed::MixedRing;
-use ore_monomial::Order;
+use ore_monomial::{Order, Signature};
 use ore_rational::Rational;
 use ore_report::LiveChooser;
 use ore_ring::OreRing;
-use ore_rows::Matrix;
+use ore_rows::{Choice, Matrix, Runs};
 use ore_weyl::WeylRing;
 use std::alloc::Global;
 use std::test::Fail;
@@ -129,6 +131,135 @@ fn are_from_events(origins: &Origins, events: &[usize]) -> bool {
         }
     }
     true
+}
+
+// The choices of a run that is too long for the budget.
+fn cut_run<R: OreRing>(ring: &R, alloc: Global, a: &Matrix, budget: u32) -> Result<Runs, Fail>
+    requires of { All (All (Belongs (R.signature_of ring.now))) a.now.rows }
+    requires few { budget ≤ 1000000 }
+{
+    let mut chooser = LiveChooser::new(alloc, budget);
+    match run(ring, alloc, a, &mut chooser) {
+        Err(Halt::Spent) => Ok(chooser.into_runs()),
+        _ => Err(Fail::new("the budget isn't spent")),
+    }
+}
+
+// Whether there is one run of two choices, of which this is the last.
+fn are_two(runs: &Runs, last: Choice) -> bool {
+    if runs.len() != 1 {
+        return false;
+    }
+    let only = runs.get(0);
+    only.len() == 2 && *only.get(1) == last
+}
+
+// The choices of two runs, of which the second is one too many for the budget.
+fn two_runs<R: OreRing>(ring: &R, alloc: Global, a: &Matrix, budget: u32) -> Result<Runs, Fail>
+    requires of { All (All (Belongs (R.signature_of ring.now))) a.now.rows }
+    requires few { budget ≤ 1000000 }
+{
+    let mut chooser = LiveChooser::new(alloc, budget);
+    complete(ring, alloc, a, &mut chooser)?;
+    match run(ring, alloc, a, &mut chooser) {
+        Err(Halt::Spent) => Ok(chooser.into_runs()),
+        _ => Err(Fail::new("the budget isn't spent")),
+    }
+}
+
+// Whether a run has three choices and the next has two, of which this is the last.
+fn are_three_and_two(runs: &Runs, last: Choice) -> bool {
+    if runs.len() != 2 {
+        return false;
+    }
+    if runs.get(0).len() != 3 {
+        return false;
+    }
+    let second = runs.get(1);
+    second.len() == 2 && *second.get(1) == last
+}
+
+// Whether a skip of the first two rows by way of the third lists their pair, and is noted.
+fn notes_skip<R: OreRing>(ring: &R, alloc: Global, a: &Matrix) -> Result<bool, Fail>
+    requires { All (All (Belongs (R.signature_of ring.now))) a.now.rows }
+{
+    let progress = skip(begin(ring, alloc, a)?, 0, 1, 2)?;
+    if !progress.listed.has(0, 1) || progress.listed.has(0, 2) {
+        return Ok(false);
+    }
+    if progress.events.len() != 1 {
+        return Ok(false);
+    }
+    Ok(skipped_rows(&progress.events[0]) == Some((0, 1, 2)))
+}
+
+// The two rows of a skipped pair, and the third.
+fn skipped_rows(event: &Event) -> Option<(usize, usize, usize)> {
+    match event {
+        Event::Treated { .. } => None,
+        Event::Skipped { i, j, via } => Some((*i, *j, *via)),
+    }
+}
+
+#[test]
+fn three_equal_rows(rt: HostRuntime) -> Result<(), Fail> {
+    let ring = MixedRing::new(Signature::new(&[], Order::DegLex)?);
+    let names = Names::new(rt.alloc());
+    if OreRing::signature(&ring).count() != 0 {
+        return Err(Fail::new("there are variables"));
+    }
+    let finished = run_on(&ring, rt.alloc(), &names, 1, "1;1;1")?;
+    let rows = Rows {
+        basis: "1;1;1",
+        cofactors: "1,0,0;0,1,0;0,0,1",
+        from: "1,0,0;0,1,0;0,0,1",
+        syzygies: "1,-1,0;1,0,-1;0,1,-1",
+    };
+    assert!(rt; gives(&ring, rt.alloc(), &names, &finished, &rows)?);
+    let pairs = [(0, 1, 0, 0), (0, 2, 0, 0), (1, 2, 0, 0)];
+    assert!(rt; are_treated(&finished.events, &pairs)?);
+    assert!(rt; are_from_events(&finished.origins, &[0, 1, 2]));
+    Ok(())
+}
+
+#[test]
+fn a_budget_of_two(rt: HostRuntime) -> Result<(), Fail> {
+    let ring = MixedRing::new(Signature::new(&[], Order::DegLex)?);
+    let names = Names::new(rt.alloc());
+    if OreRing::signature(&ring).count() != 0 {
+        return Err(Fail::new("there are variables"));
+    }
+    // three equal rows have three pairs
+    let a = matrix_from(&ring, rt.alloc(), &names, 1, "1;1;1")?;
+    let given = cut_run(&ring, rt.alloc(), &a, 2)?;
+    assert!(rt; are_two(&given, Choice::Treat { i: 0, j: 2 }));
+    Ok(())
+}
+
+#[test]
+fn a_spent_budget(rt: HostRuntime) -> Result<(), Fail> {
+    let ring = MixedRing::new(Signature::new(&[], Order::DegLex)?);
+    let names = Names::new(rt.alloc());
+    if OreRing::signature(&ring).count() != 0 {
+        return Err(Fail::new("there are variables"));
+    }
+    // three equal rows have three pairs, so of five two are left for a second run
+    let a = matrix_from(&ring, rt.alloc(), &names, 1, "1;1;1")?;
+    let given = two_runs(&ring, rt.alloc(), &a, 5)?;
+    assert!(rt; are_three_and_two(&given, Choice::Treat { i: 0, j: 2 }));
+    Ok(())
+}
+
+#[test]
+fn a_skipped_pair(rt: HostRuntime) -> Result<(), Fail> {
+    let ring = MixedRing::new(mixed(Order::DegRevLex)?);
+    let names = letters(rt.alloc())?;
+    if names.len() != 12 {
+        return Err(Fail::new("a letter is missing"));
+    }
+    let a = matrix_from(&ring, rt.alloc(), &names, 1, "t;u;t*u")?;
+    assert!(rt; notes_skip(&ring, rt.alloc(), &a)?);
+    Ok(())
 }
 
 #[test]
