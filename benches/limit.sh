@@ -1,5 +1,5 @@
 #!/bin/sh
-# The time and the memory of the built program on inputs of the greatest length, in bytes `#` and in zeros.
+# The time and the memory of the built program on inputs of bytes `#`, up to the greatest length and one byte past it.
 # Run by hand: benches/limit.sh
 set -u
 here=$(cd "$(dirname "$0")/.." && pwd)
