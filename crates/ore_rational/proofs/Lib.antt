@@ -4,3 +4,4 @@ pub mod Bounds
 pub mod Stored
 pub mod Quotients
 pub mod Reciprocals
+pub mod Whole

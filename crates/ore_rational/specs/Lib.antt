@@ -4,3 +4,5 @@ pub mod Reduced
 pub mod Within
 pub mod Range
 pub mod Stored
+pub mod FractionRing
+pub mod Field

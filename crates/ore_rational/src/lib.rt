@@ -12,9 +12,13 @@
 //! - a product or a quotient cancels first, and passes exactly where a number of the reduced result is
 //!   too great (`fits`).
 //!
+//! Most fractions are whole numbers, and most parts have 64 bits. So two whole numbers are added and
+//! multiplied without a division, and divisors, quotients and products of magnitudes that 64 bits hold
+//! are formed in these; each such path has the contract of the wide one.
+//!
 //! The greatest magnitude is that of `program` in `ore_algebra`'s limits, the crate on which this one
-//! stands. No call takes memory. The laws of a field, and that whole numbers are fractions, are proved in
-//! `proofs/FractionLaws.antt`.
+//! stands. No call takes memory. The fractions are a field (`specs/Field.antt`) that the whole numbers
+//! are part of; its laws are the functions of `laws`.
 #![tactic(auto)]
 
 ghost use Rattle.std.specs.Prelude.{◌≡◌, ◌≢◌, ◌<◌, ◌^◌, ℤ, pos, ◌+ℤ◌, ◌*ℤ◌, neg_ℤ, ◌<ℤ◌, nat_abs, OkIff, int_div, IsTrue, ◌↔◌, if◌then◌else◌};
@@ -85,13 +89,43 @@ impl Eq for Rational {
 // The greatest magnitude of a stored number, 2^127 - 1.
 const GREATEST: u128 = 0x7fff_ffff_ffff_ffff_ffff_ffff_ffff_ffff;
 
-// The greatest common divisor.
+// The least number that doesn't fit 64 bits.
+const WORD: u128 = 0x1_0000_0000_0000_0000;
+
+// The least magnitude that a signed number of 64 bits can lack.
+const SMALL: u128 = 0x8000_0000_0000_0000;
+
+// The greatest common divisor of two numbers of 64 bits.
+fn word_gcd(a: u64, b: u64) -> u64
+    ensures { result ≡ gcd_of a b }
+{
+    let mut x = a;
+    let mut y = b;
+    while y != 0 {
+        let rest = x % y;
+        x = y;
+        y = rest;
+    }
+    x
+}
+
+// Whether two numbers have 64 bits at most.
+fn are_words(a: u128, b: u128) -> bool
+    ensures { IsTrue result ↔ (a < 2 ^ 64) × (b < 2 ^ 64) }
+{
+    a < WORD && b < WORD
+}
+
+// The greatest common divisor. As soon as both numbers have 64 bits, the rest is done in these.
 fn gcd(a: u128, b: u128) -> u128
     ensures { result ≡ gcd_of a b }
 {
     let mut x = a;
     let mut y = b;
     while y != 0 {
+        if are_words(x, y) {
+            return word_gcd(x as u64, y as u64) as u128;
+        }
         let rest = x % y;
         x = y;
         y = rest;
@@ -122,12 +156,35 @@ fn quotient_of(n: i128, divisor: i128) -> i128
     if divisor == 1 {
         return n;
     }
+    if are_small(n, divisor) {
+        return (n as i64 / divisor as i64) as i128;
+    }
     n / divisor
+}
+
+// Whether two numbers have magnitudes below 2^63.
+fn are_small(a: i128, b: i128) -> bool
+    ensures { IsTrue result ↔ (nat_abs a < 2 ^ 63) × (nat_abs b < 2 ^ 63) }
+{
+    a.unsigned_abs() < SMALL && b.unsigned_abs() < SMALL
+}
+
+// The product of two numbers of magnitudes below 2^63, which is always in range.
+fn small_product(a: i128, b: i128) -> i128
+    requires a_is { nat_abs a < 2 ^ 63 }
+    requires b_is { nat_abs b < 2 ^ 63 }
+    ensures value { result ≡ a *ℤ b }
+    ensures range { InRange result }
+{
+    (a as i64) as i128 * (b as i64) as i128
 }
 
 fn checked_product(a: i128, b: i128) -> Result<i128, Passed>
     ensures { OkIff result (InRange (a *ℤ b)) (a *ℤ b) }
 {
+    if are_small(a, b) {
+        return Ok(small_product(a, b));
+    }
     match a.checked_mul(b) {
         Some(value) if value != i128::MIN => Ok(value),
         _ => Err(Passed),
@@ -141,6 +198,13 @@ fn checked_sum(a: i128, b: i128) -> Result<i128, Passed>
         Some(value) if value != i128::MIN => Ok(value),
         _ => Err(Passed),
     }
+}
+
+// Whether two fractions are whole numbers.
+fn are_whole(p: &Rational, q: &Rational) -> bool
+    ensures { IsTrue result ↔ (p.now.den ≡ 1) × (q.now.den ≡ 1) }
+{
+    p.denominator() == 1 && q.denominator() == 1
 }
 
 // A magnitude with a sign.
@@ -225,6 +289,28 @@ impl Rational {
     pub fn add(self, other: Rational) -> Result<Rational, Passed>
         ensures { OkIff result (IsTrue (sum_fits program self other)) (add_of self other) }
     {
+        if are_whole(&self, &other) {
+            return self.whole_sum(other);
+        }
+        self.wide_sum(other)
+    }
+
+    // The sum of two whole numbers.
+    fn whole_sum(self, other: Rational) -> Result<Rational, Passed>
+        requires self_is { self.den ≡ 1 }
+        requires other_is { other.den ≡ 1 }
+        ensures { OkIff result (IsTrue (sum_fits program self other)) (add_of self other) }
+    {
+        let Ok(n) = checked_sum(self.numerator(), other.numerator()) else {
+            return Err(Passed)
+        };
+        Ok(Rational::from_parts(n, 1))
+    }
+
+    // The sum of any two fractions.
+    fn wide_sum(self, other: Rational) -> Result<Rational, Passed>
+        ensures { OkIff result (IsTrue (sum_fits program self other)) (add_of self other) }
+    {
         let (a, b) = (self.numerator(), self.denominator());
         let (c, d) = (other.numerator(), other.denominator());
         let g = common_divisor(b, d);
@@ -257,6 +343,28 @@ impl Rational {
 
     /// The product. `Passed` where a number of the reduced product leaves the range.
     pub fn mul(self, other: Rational) -> Result<Rational, Passed>
+        ensures { OkIff result (IsTrue (fits program (mul_of self other))) (mul_of self other) }
+    {
+        if are_whole(&self, &other) {
+            return self.whole_product(other);
+        }
+        self.wide_product(other)
+    }
+
+    // The product of two whole numbers.
+    fn whole_product(self, other: Rational) -> Result<Rational, Passed>
+        requires self_is { self.den ≡ 1 }
+        requires other_is { other.den ≡ 1 }
+        ensures { OkIff result (IsTrue (fits program (mul_of self other))) (mul_of self other) }
+    {
+        let Ok(n) = checked_product(self.numerator(), other.numerator()) else {
+            return Err(Passed)
+        };
+        Ok(Rational::from_parts(n, 1))
+    }
+
+    // The product of any two fractions.
+    fn wide_product(self, other: Rational) -> Result<Rational, Passed>
         ensures { OkIff result (IsTrue (fits program (mul_of self other))) (mul_of self other) }
     {
         let (a, b) = (self.numerator(), self.denominator());

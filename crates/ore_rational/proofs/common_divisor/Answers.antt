@@ -1,10 +1,9 @@
 -- `is` and `below`: the number that the loop gives is the greatest common divisor, and fits 128 bits with a sign.
-use Rattle.std.proofs.Common.{sym, ℕ, ◌<◌, ◌^◌, nat_abs, arith, ◌≡◌, ap, ap₂, pos, ◌∙◌}
+use Rattle.std.proofs.Common.{sym, ◌<◌, ◌^◌, nat_abs, arith, ◌≡◌, ap, ap₂, pos, ◌∙◌}
 use Rattle.std.proofs.lemmas.Int.{ints, to_z_pos}
 use Rattle.std.specs.Int.{w128}
-use Rattle.ore_rational.specs.Gcd.{gcd, gcd_is}
-use Rattle.std.proofs.lemmas.Nat.Gcd.{same_from_IsGcd, dvd_refl}
-use native.Mathlib.Nat.{one-dvd}
+use Rattle.ore_rational.specs.Gcd.{gcd}
+use Rattle.ore_rational.proofs.Whole.{one-gcd, gcd-one}
 use Rattle.ore_rational.specs.Stored.{abs_pos}
 use Rattle.ore_rational.proofs.Stored.{gcd-below, back}
 use Rattle.ore_rational.proofs.common_divisor.Goals as goal
@@ -25,12 +24,6 @@ returns-clause-value c = to_z_pos w128 _ (below c).1 ∙ ap pos (is c)
 
 pub returns-clause-positive : goal.returns-clause-positive
 returns-clause-positive c = let h = below c in omega (arith, ints)
-
-one-gcd : (b : ℕ) → gcd 1 b ≡ 1
-one-gcd b = same_from_IsGcd 1 b (gcd 1 b) 1 (gcd_is 1 b) (dvd_refl 1, one-dvd b, λ d u v. u)
-
-gcd-one : (a : ℕ) → gcd a 1 ≡ 1
-gcd-one a = same_from_IsGcd a 1 (gcd a 1) 1 (gcd_is a 1) (one-dvd a, dvd_refl 1, λ d u v. v)
 
 pub returns-then-a-eq1-clause-value : goal.returns-then-a-eq1-clause-value
 returns-then-a-eq1-clause-value c = let e : c.args.a ≡ pos 1 = omega (arith, ints) in rw e (ap pos (sym (one-gcd (nat_abs c.args.b))))

@@ -8,8 +8,8 @@ use Rattle.ore_rational.specs.Range.{InRange}
 use Rattle.ore_rational.specs.Within.{sum_gcd, sum_num, sum_rest, sum_den}
 use Rattle.ore_rational.proofs.Bounds.{sum-left, sum-right, sum-num, sum-den, sum_fits_from}
 use Rattle.ore_rational.proofs.Stored.{read, read_same, pos_above}
-use Rattle.ore_rational.proofs.Rational.add.Goals as goal
-use Rattle.ore_rational.proofs.Rational.add.Goals.{After-quotient_of-numerator}
+use Rattle.ore_rational.proofs.Rational.wide_sum.Goals as goal
+use Rattle.ore_rational.proofs.Rational.wide_sum.Goals.{After-quotient_of-numerator}
 
 a_is : (c : After-quotient_of-numerator) → to_z w128 (of_z w128 c.numerator-a.result) ≡ c.args.self.num
 a_is c = read _ c.numerator-a.type_inv ∙ c.numerator-a.ensures.value

@@ -7,8 +7,8 @@ use Rattle.ore_rational.proofs.FractionLaws.{first_gcd, second_gcd, product_num,
 use Rattle.ore_rational.specs.Range.{InRange}
 use Rattle.ore_rational.proofs.Bounds.{fits-num, fits-den, fits_from}
 use Rattle.ore_rational.proofs.Stored.{read, read_same, pos_above}
-use Rattle.ore_rational.proofs.Rational.mul.Goals as goal
-use Rattle.ore_rational.proofs.Rational.mul.Goals.{After-quotient_of-d_over_g, In-Ok-checked_product}
+use Rattle.ore_rational.proofs.Rational.wide_product.Goals as goal
+use Rattle.ore_rational.proofs.Rational.wide_product.Goals.{After-quotient_of-d_over_g, In-Ok-checked_product}
 
 g_is : (c : After-quotient_of-d_over_g) → c.common_divisor-g.result ≡ pos (first_gcd c.args.self c.args.other)
 g_is c =
