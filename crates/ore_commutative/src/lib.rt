@@ -23,7 +23,7 @@ ghost use Rattle.ore_monomial.specs.Signature.{is_acting};
 ghost use Rattle.ore_commutative.specs.Commutes.{Commutes};
 
 use ore_monomial::{Exps, RingStop, Signature, VarKind};
-use ore_ring::{Op, OreRing, Pass, minus, plus, times};
+use ore_ring::MonomialProduct;
 use std::alloc::Global;
 use std::marker::Model;
 
@@ -84,7 +84,7 @@ fn acts(kind: VarKind) -> bool
     )
 }
 
-impl Pass for CommutativeRing {
+impl MonomialProduct for CommutativeRing {
     ghost signature_of = { λ r. r };
 
     fn signature(&self) -> &Signature {
@@ -108,34 +108,3 @@ impl Pass for CommutativeRing {
         Ok(terms)
     }
 }
-
-impl OreRing for CommutativeRing {
-    ghost signature_of = { λ r. r };
-
-    fn signature(&self) -> &Signature {
-        &self.signature
-    }
-
-    fn add(&self, alloc: Global, a: &Op, b: &Op) -> Result<Op, RingStop> {
-        plus(alloc, a, b)
-    }
-
-    fn sub(&self, alloc: Global, a: &Op, b: &Op) -> Result<Op, RingStop> {
-        minus(alloc, a, b)
-    }
-
-    fn mul(&self, alloc: Global, a: &Op, b: &Op) -> Result<Op, RingStop> {
-        times(self, alloc, a, b)
-    }
-
-    fn adjoint(&self, alloc: Global, a: &Op) -> Result<Op, RingStop> {
-        ore_ring::adjoint(self, alloc, a)
-    }
-
-    fn copy(&self, alloc: Global, a: &Op) -> Result<Op, RingStop> {
-        Ok(a.copy(alloc)?)
-    }
-}
-
-#[cfg(test)]
-mod tests;

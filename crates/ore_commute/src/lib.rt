@@ -38,6 +38,3 @@ pub mod variables;
 
 pub use coordinates::pass;
 pub use laws::closed_form_is_letter_rule;
-
-#[cfg(test)]
-mod tests;

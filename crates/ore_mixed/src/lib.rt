@@ -20,7 +20,7 @@
 ghost use Rattle.std.specs.Prelude.{◌≡◌};
 
 use ore_monomial::{Exps, RingStop, Signature};
-use ore_ring::{Op, OreRing, Pass, minus, plus, times};
+use ore_ring::MonomialProduct;
 use std::alloc::Global;
 use std::marker::Model;
 
@@ -50,7 +50,7 @@ impl MixedRing {
     }
 }
 
-impl Pass for MixedRing {
+impl MonomialProduct for MixedRing {
     ghost signature_of = { λ r. r };
 
     fn signature(&self) -> &Signature {
@@ -66,34 +66,3 @@ impl Pass for MixedRing {
         ore_commute::pass(alloc, &self.signature, left, right)
     }
 }
-
-impl OreRing for MixedRing {
-    ghost signature_of = { λ r. r };
-
-    fn signature(&self) -> &Signature {
-        &self.signature
-    }
-
-    fn add(&self, alloc: Global, a: &Op, b: &Op) -> Result<Op, RingStop> {
-        plus(alloc, a, b)
-    }
-
-    fn sub(&self, alloc: Global, a: &Op, b: &Op) -> Result<Op, RingStop> {
-        minus(alloc, a, b)
-    }
-
-    fn mul(&self, alloc: Global, a: &Op, b: &Op) -> Result<Op, RingStop> {
-        times(self, alloc, a, b)
-    }
-
-    fn adjoint(&self, alloc: Global, a: &Op) -> Result<Op, RingStop> {
-        ore_ring::adjoint(self, alloc, a)
-    }
-
-    fn copy(&self, alloc: Global, a: &Op) -> Result<Op, RingStop> {
-        Ok(a.copy(alloc)?)
-    }
-}
-
-#[cfg(test)]
-mod tests;

@@ -23,6 +23,7 @@ use Rattle.ore_ring.specs.Product.{times}
 use Rattle.ore_ring.specs.Adjoint.{sign, adjoint_letter_times, adjoint_monomial, adjoint}
 use Rattle.ore_ring.specs.AdjointWithin.{kept_exponents, part, coordinate_part, letter_part, sign_of}
 use Rattle.ore_ring.specs.Belongs.{OperatorOf}
+use Rattle.ore_ring.specs.Meets as meets
 use Rattle.ore_ring.proofs.Product.{times-linear_left, times-linear_right, times_one_left}
 use Rattle.ore_ring.proofs.Support.{AtMost, own_other, exponent-raise_any, most_scale, most_single, most_extend, times_most}
 use Rattle.ore_ring.proofs.Adjoints.{A, adjoint-raise, adjoint_unit, adjoint_one, adjoint-times}
@@ -141,7 +142,7 @@ module _ (s : Signature) where
 module _ (K : Domain) (s : Signature) where
   -- no letter of m acts on a coordinate of n
   abbrev pub MeetsNone : Monomial → Monomial → Type 0
-  MeetsNone m n = (x : ℕ) → is_acting (kind_at s x) ≡ true → exponent m x ≢ 0 → exponent n (coordinate_of (kind_at s x)) ≡ 0
+  MeetsNone = meets.MeetsNone s
 
   still_there : (x y : ℕ) (m : Monomial) → x < 12 → exponent m y ≢ 0 → exponent (raise x m) y ≢ 0
   still_there x y m xl n e = let a = exponent-raise_any x y m xl in n (omega arith)

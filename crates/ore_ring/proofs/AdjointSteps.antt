@@ -4,13 +4,15 @@
 --     part_is, part_small     all written, they are the coordinate part, and its degree is small
 --     letters_are             the rest of the monomial is its letter part
 --     even_power, odd_power   powers of -1
---     adjoint_ok, adjoint_stops, adjoint_belongs    an adjoint, from the contributions of its terms
-use Rattle.std.proofs.Common.{◌≡◌, ◌≢◌, ℕ, zero, suc, ◌+◌, ◌-◌, ◌%◌, ◌<◌, ◌≤◌, Bool, true, false, not, cond, List, length, get_or, set, pos, refl, sym, ap, ◌∙◌, subst, arith, get_or-set_same, get_or-set_other}
+--     adjoint_made, adjoint_stops, adjoint_of    an adjoint, from the contributions of its terms
+use Rattle.std.proofs.Common.{◌≡◌, ◌≢◌, ℕ, zero, suc, ◌+◌, ◌-◌, ◌%◌, ◌<◌, ◌≤◌, Bool, true, false, not, cond, List, [], length, get_or, set, pos, refl, sym, ap, ◌∙◌, subst, arith, get_or-set_same, get_or-set_other}
+use Rattle.std.specs.Prelude.{IfOk}
+use Rattle.std.specs.declared.result.Result.{Result}
 use Rattle.std.specs.declared.result.Result.TheVariants.{Ok, Err}
 use Rattle.std.specs.List.{sum}
 use native.Mathlib.Decide.{ℕ_discrete}
 use Rattle.ore_algebra.specs.Free.{none}
-use Rattle.ore_algebra.specs.Limits.{Cause, program, fold_within}
+use Rattle.ore_algebra.specs.Limits.{Cause, program, ◌>>=◌, fold_within}
 use Rattle.ore_algebra.specs.Ring.{power}
 use Rattle.ore_algebra.proofs.DomainLaws as Numbers
 use Rattle.ore_rational.specs.Fraction.{Fraction, whole, mul, neg}
@@ -19,14 +21,18 @@ use Rattle.ore_monomial.specs.Monomial.{Monomial, monomial_of, exponent, degree,
 use Rattle.ore_monomial.specs.MonomialCode.{twelve_numbers}
 use Rattle.ore_monomial.specs.Signature.{Signature, kind_at, is_coordinate}
 use Rattle.ore_monomial.specs.LetterRule.{Operator}
+use Rattle.ore_monomial.specs.declared.stop.RingStop.{RingStop}
+use Rattle.ore_monomial.specs.Gives.{Gives}
 use Rattle.ore_monomial.proofs.Divisors.{degree-divides}
 use Rattle.ore_monomial.proofs.Monomials.{same_exponents, seen_exponent, exponent-quotient, degree-product}
 use Rattle.ore_ring.specs.AdjointWithin.{part, coordinate_part, letter_part, adjoint_term_within, adjoint_within}
 use Rattle.ore_ring.specs.Belongs.{Belongs, OperatorOf}
+use Rattle.ore_ring.specs.Contributions.{add_terms_within, push_adjoint}
 use Rattle.ore_ring.specs.Ordered.{Ordered}
 use Rattle.ore_ring.specs.Terms.{Terms, falling}
 use Rattle.ore_ring.proofs.AdjointLaws.{adjoint_value}
 use Rattle.ore_ring.proofs.AdjointParts.{exponent-part, part_in, part_out, split, of_adjoint}
+use Rattle.ore_ring.proofs.Contributed.{adjoint_collected}
 use Rattle.ore_ring.proofs.OpSums.{minus_one_times}
 use Rattle.ore_ring.proofs.Support.{exponent-le-degree}
 
@@ -123,11 +129,18 @@ module _ (s : Signature) (v : Ordered) (ts : Terms) (te : ts ≡ falling v.by v.
   unfolding adjoint_within
   chosen z n = λ i. fold_within (adjoint_term_within program s) (sym n i) (sym (te ∙ ap (λ o. falling o v.sum) vo.order) i)
 
-  pub adjoint_stops : (c : Cause) (z : Operator rationals) → z ≡ none rationals plain_cmp → fold_within (adjoint_term_within program s) z ts ≡ Err c → adjoint_within program s v.sum ≡ Err c
-  adjoint_stops c z n h = chosen z n ∙ h
+  collected : adjoint_within program s v.sum ≡ (fold_within (push_adjoint program s) [] ts >>= add_terms_within program (none rationals plain_cmp))
+  collected = chosen (none rationals plain_cmp) refl ∙ sym (adjoint_collected program s ts)
 
-  pub adjoint_ok : (z x : Operator rationals) → z ≡ none rationals plain_cmp → fold_within (adjoint_term_within program s) z ts ≡ Ok x → adjoint_within program s v.sum ≡ Ok x
-  adjoint_ok z x n h = chosen z n ∙ h
+  pub adjoint_stops : (c : Cause) (z : Terms) → z ≡ [] → fold_within (push_adjoint program s) z ts ≡ Err c → adjoint_within program s v.sum ≡ Err c
+  adjoint_stops c z n h = collected ∙ ap (λ r. r >>= add_terms_within program (none rationals plain_cmp)) (ap (λ z. fold_within (push_adjoint program s) z ts) (sym n) ∙ h)
+
+  pub adjoint_made : (z out : Terms) → z ≡ [] → fold_within (push_adjoint program s) z ts ≡ Ok out → adjoint_within program s v.sum ≡ add_terms_within program (none rationals plain_cmp) out
+  adjoint_made z out n h = collected ∙ ap (λ r. r >>= add_terms_within program (none rationals plain_cmp)) (ap (λ z. fold_within (push_adjoint program s) z ts) (sym n) ∙ h)
 
   pub adjoint_belongs : (x : Ordered) → x.by ≡ v.by → adjoint_within program s v.sum ≡ Ok x.sum → Belongs s x
   adjoint_belongs x b e = record { order = b ∙ vo.order; variables = subst (OperatorOf rationals s) (sym (adjoint_value program s v.sum x.sum e)) (of_adjoint rationals s v.sum vo.variables) }
+
+  pub adjoint_of : (r : Result Ordered RingStop) → Gives (λ x. x.sum) r (adjoint_within program s v.sum) → IfOk r (λ x. x.by ≡ v.by) → IfOk r (Belongs s)
+  adjoint_of (Ok x) e b = adjoint_belongs x b e
+  adjoint_of (Err c) e b = tt

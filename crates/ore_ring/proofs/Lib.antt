@@ -17,7 +17,6 @@ pub mod AllTerms
 pub mod LeadTerm
 pub mod FractionSteps
 pub mod Degrees
-pub mod Gathered
 pub mod MergeIs
 pub mod MergeSteps
 pub mod Splice
@@ -25,5 +24,10 @@ pub mod StoredOp
 pub mod OpSums
 pub mod AddTerm
 pub mod Wholes
-pub mod GatherSteps
 pub mod ProductSteps
+pub mod Rearranged
+pub mod TermSums
+pub mod Contributed
+pub mod FallingSum
+pub mod Gathered
+pub mod GatherSteps

@@ -75,7 +75,7 @@ module _ (l : Limits) (o : Order) where
   fits_skip u us [] h = refl
   fits_skip u us (t ∷ ts) h = λ i. shared_fits l t.1 (at_skip t.0 u us (eq_order t.0 u.0 Less (less_of _ (first _ _ h))) i) && fits_skip u us ts (second _ _ h) i
 
-  shared_none : (x y : Fraction) → y ≡ zero → shared_fits l x y ≡ true
+  pub shared_none : (x y : Fraction) → y ≡ zero → shared_fits l x y ≡ true
   unfolding shared_fits
   shared_none x y e = by (fraction_discrete y zero)
     where
@@ -83,7 +83,7 @@ module _ (l : Limits) (o : Order) where
       by (yes e) = refl
       by (no n) = absurd (n e)
 
-  shared_some : (x y : Fraction) → y ≢ zero → shared_fits l x y ≡ sum_fits l x y
+  pub shared_some : (x y : Fraction) → y ≢ zero → shared_fits l x y ≡ sum_fits l x y
   unfolding shared_fits
   shared_some x y k = by (fraction_discrete y zero)
     where

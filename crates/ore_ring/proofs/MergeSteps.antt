@@ -2,21 +2,22 @@
 --     kept-append, kept_gone, kept_there     a term that is kept unless its fraction is 0
 --     at_less, at_equal, at_greater, at_stop     a step by how the next two terms compare
 --     at_end_left, at_end_right, both_ends       one list is used up
-use Rattle.std.proofs.Common.{◌≡◌, ◌≢◌, ℕ, ◌+◌, ◌<◌, ◌≤◌, List, [], ◌∷◌, ◌++◌, drop, length, get_or, pos, refl, sym, ap, ap₂, ◌∙◌, append_assoc, append-nil, arith, add-one, take, ◌-◌}
-use Rattle.std.proofs.lemmas.List.{take_all, length-drop}
+--     opposite_at, less_ends                     of a list with each fraction negated, the term at a place and the end
+use Rattle.std.proofs.Common.{◌≡◌, ◌≢◌, ℕ, ◌+◌, ◌<◌, ◌≤◌, List, [], ◌∷◌, ◌++◌, drop, length, get_or, pos, refl, subst, sym, ap, ap₂, ◌∙◌, append_assoc, append-nil, arith, add-one, take, ◌-◌}
+use Rattle.std.proofs.lemmas.List.{take_all, drop-map, get_or-map, length-drop, length-map}
 use Rattle.std.specs.declared.cmp.Ordering.{Ordering}
 use Rattle.std.specs.declared.cmp.Ordering.TheVariants.{Less, Equal, Greater}
 use Rattle.std.specs.declared.result.Result.{Result}
 use Rattle.std.specs.declared.result.Result.TheVariants.{Ok, Err}
 use Rattle.std.proofs.Math.Seq.{drop-cons}
-use Rattle.ore_rational.specs.Fraction.{Fraction, whole}
+use Rattle.ore_rational.specs.Fraction.{Fraction, whole, neg}
 use Rattle.ore_rational.proofs.FractionLaws.{fraction_discrete}
 use Rattle.ore_monomial.specs.Monomial.{Monomial, order_cmp}
 use Rattle.ore_monomial.specs.declared.order.Order.{Order}
 use Rattle.ore_algebra.specs.Limits.{Limits, Cause, ◌>>=◌}
 use Rattle.ore_rational.specs.Within.{sum_within}
 use Rattle.ore_ring.specs.Terms.{Term, Terms}
-use Rattle.ore_ring.specs.Merge.{kept, with_front, step_within, into_within, merge_within}
+use Rattle.ore_ring.specs.Merge.{kept, with_front, step_within, into_within, merge_within, opposite_terms}
 
 pub kept-append : (m : Monomial) (x : Fraction) (ts : Terms) → kept m x [] ++ ts ≡ kept m x ts
 kept-append m x ts = by (fraction_discrete x (whole (pos 0)))
@@ -113,3 +114,14 @@ from_there xs i = take_all (length xs - i) (drop i xs) (omega (arith, length-dro
 
 pub both_ends : {A : Type 0} (front xs ys one two : List A) (i j : ℕ) → two ≡ one ++ take (length ys - j) (drop j ys) → one ≡ front ++ take (length xs - i) (drop i xs) → (front ++ drop i xs) ++ drop j ys ≡ two
 both_ends front xs ys one two i j e f = sym (e ∙ ap₂ ◌++◌ (f ∙ ap (λ zs. front ++ zs) (from_there xs i)) (from_there ys j))
+
+-- ---- the second list with each fraction negated
+
+pub opposite_at : (us : Terms) (j : ℕ) (x u : Term) → u ≡ (x.0, neg x.1) → x ≡ get_or us j x → j < length us → (u ≡ get_or (opposite_terms us) j u) × (j < length (opposite_terms us))
+opposite_at us j x u e h l = (
+  e ∙ ap (λ (t : Term). (t.0, neg t.1)) h ∙ sym (get_or-map (λ (t : Term). (t.0, neg t.1)) us j x u l),
+  subst (λ n. j < n) (sym (length-map us (λ (t : Term). (t.0, neg t.1)))) l,
+)
+
+pub less_ends : (front xs ys one two : Terms) (i j : ℕ) → two ≡ one ++ opposite_terms (take (length ys - j) (drop j ys)) → one ≡ front ++ take (length xs - i) (drop i xs) → (front ++ drop i xs) ++ drop j (opposite_terms ys) ≡ two
+less_ends front xs ys one two i j e f = sym (e ∙ ap₂ ◌++◌ (f ∙ ap (λ zs. front ++ zs) (from_there xs i)) (ap opposite_terms (from_there ys j) ∙ sym (drop-map (λ (t : Term). (t.0, neg t.1)) j ys)))

@@ -1,6 +1,7 @@
 -- One term added to falling terms, at its place.
 --     splice_end, splice_before    it is inserted, at the end or before a lesser term
 --     splice_at, splice_stops      its monomial is there: the sum, or the sum stops
+--     later_less, any_default      a later term is less; an element, whatever the default
 --     over_to, not_over_from       what one comparison says of the terms before and after
 use Rattle.std.proofs.Common.{◌≡◌, ◌≢◌, ℕ, zero, suc, ◌+◌, ◌<◌, ◌≤◌, List, [], ◌∷◌, ◌++◌, take, drop, set, length, get_or, refl, sym, ap, ◌∙◌, arith, add-one, T, ◌⊎◌, ⊎_elim}
 use Rattle.std.specs.declared.cmp.Ordering.{Ordering}
@@ -89,13 +90,13 @@ below_at o m [] j e h l = absurd (omega arith)
 below_at o m (t ∷ ts) zero e h l = less_of _ (first _ _ h)
 below_at o m (t ∷ ts) (suc j) e h l = below_at o m ts j e (second _ _ h) (omega arith)
 
-later_less : (o : Order) (ts : Terms) → T (is_sorted (back o) ts) → (i j : ℕ) (d e : Term) → i < j → j < length ts → order_cmp o (get_or ts j e).0 (get_or ts i d).0 ≡ Less
+pub later_less : (o : Order) (ts : Terms) → T (is_sorted (back o) ts) → (i j : ℕ) (d e : Term) → i < j → j < length ts → order_cmp o (get_or ts j e).0 (get_or ts i d).0 ≡ Less
 later_less o [] h i j d e k l = absurd (omega arith)
 later_less o (t ∷ ts) h i zero d e k l = absurd (omega arith)
 later_less o (t ∷ ts) h zero (suc j) d e k l = below_at o t.0 ts j e (first _ _ h) (omega arith)
 later_less o (t ∷ ts) h (suc i) (suc j) d e k l = later_less o ts (second _ _ h) i j d e (omega arith) (omega arith)
 
-any_default : {A : Type 0} (xs : List A) (i : ℕ) (d e : A) → i < length xs → get_or xs i d ≡ get_or xs i e
+pub any_default : {A : Type 0} (xs : List A) (i : ℕ) (d e : A) → i < length xs → get_or xs i d ≡ get_or xs i e
 any_default [] i d e h = absurd (omega arith)
 any_default (x ∷ xs) zero d e h = refl
 any_default (x ∷ xs) (suc i) d e h = any_default xs i d e (omega arith)

@@ -8,6 +8,9 @@ pub mod Within
 pub mod AdjointWithin
 pub mod Merge
 pub mod Place
+pub mod Products
+pub mod Contributions
+pub mod Value
+pub mod Meets
 pub mod Gathered
 pub mod IsGathered
-pub mod Products

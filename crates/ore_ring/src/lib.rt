@@ -10,13 +10,19 @@
 //! (`specs/Within.antt`, `specs/AdjointWithin.antt`), which says in which order its numbers are formed and
 //! where it stops: with Degree where two monomials have degrees with too great a sum, with Overflow where
 //! a number leaves the range of the fractions. Without limits it gives the exact value, and where it
-//! doesn't stop it gives the exact value too (`proofs/WithinLaws.antt`). The calls meet these definitions
+//! doesn't stop it gives the exact value too (`law_value`). The calls meet these definitions
 //! at the limits of the program: the value where there is one, else the cause. Want of memory is the one
 //! answer beside them.
 //!
 //! A ring of operators is an `OreRing`: a signature and the operations, with one meaning for all of them.
-//! A ring is made from a way to multiply two monomials, `Pass`, by the functions `plus`, `minus`, `times`
-//! and `adjoint` of this crate.
+//! Each way to multiply two monomials, a `MonomialProduct`, makes one: sums, products and adjoints stand
+//! here once.
+//!
+//! The contributions of a product are collected in one vector, in the order that the definition says. Where
+//! they don't fall, a stable sort brings those of a monomial together, which keeps their order, and then
+//! they are added in turn (`sum_of_terms`). All sums stop for one cause, so this forms the same sums and
+//! answers the same (`proofs/Rearranged.antt`, `proofs/Contributed.antt`). A [`Gather`] is a sum that stays open for more
+//! terms: a sorted map, where a term costs a descent of a tree.
 //!
 //! Proved in `proofs/`: the product is associative and distributes (`Product`), the lead of a product is
 //! the product of the leads (`Leads`), there are no zero divisors (`NoZeroDivisor`), the adjoint reverses
@@ -28,17 +34,22 @@
 
 mod fraction;
 pub mod gather;
+mod laws;
+mod meet;
 mod merge;
 pub mod multiply;
 pub mod op;
 mod place;
 pub mod reverse;
 pub mod ring;
+pub mod sort;
 pub mod sum;
 
 pub use gather::Gather;
-pub use multiply::{Pass, times};
+pub use laws::law_value;
+pub use multiply::{MonomialProduct, times};
 pub use op::{Op, lead};
 pub use reverse::adjoint;
 pub use ring::OreRing;
+pub use sort::sum_of_terms;
 pub use sum::{minus, plus};

@@ -1,7 +1,8 @@
 //! Sums of lists of falling terms.
 
-ghost use Rattle.std.specs.Prelude.{◌≡◌, [], ◌++◌, OnOk, IfOk};
+ghost use Rattle.std.specs.Prelude.{◌≡◌, [], ◌++◌, OnOk};
 ghost use Rattle.ore_algebra.specs.Limits.{program};
+ghost use Rattle.ore_rational.specs.Fraction.{neg};
 ghost use Rattle.ore_monomial.specs.Gives.{Gives};
 ghost use Rattle.ore_ring.specs.Merge.{merge_within, kept, opposite_terms};
 
@@ -62,12 +63,59 @@ pub(crate) fn keep(
     Ok(())
 }
 
-/// The terms with each fraction negated.
-pub(crate) fn negated(
+/// The difference of two lists of falling terms, by one walk over both.
+pub(crate) fn merged_less(
     alloc: Global,
-    terms: &[(Exps, Rational)],
-) -> Result<Vec<(Exps, Rational)>, AllocError>
-    ensures { IfOk result (λ v. v.items ≡ opposite_terms terms.now) }
+    order: Order,
+    a: &[(Exps, Rational)],
+    b: &[(Exps, Rational)],
+) -> Result<Vec<(Exps, Rational)>, RingStop>
+    ensures { Gives (λ v. v.items) result (merge_within program order a.now (opposite_terms b.now)) }
 {
-    terms.iter().map(|t| (t.0, t.1.neg())).collect(alloc)
+    let mut out = Vec::new(alloc);
+    let mut i = 0;
+    let mut j = 0;
+    while i < a.len() && j < b.len() {
+        let t = a[i];
+        let u = negated(&b[j]);
+        match compare(order, &t.0, &u.0) {
+            Ordering::Less => {
+                out.push(u)?;
+                j += 1;
+            }
+            Ordering::Equal => {
+                let s = sum(t.1, u.1)?;
+                keep(&mut out, t.0, s)?;
+                i += 1;
+                j += 1;
+            }
+            Ordering::Greater => {
+                out.push(t)?;
+                i += 1;
+            }
+        }
+    }
+    out.extend_from_slice(&a[i..])?;
+    extend_negated(&mut out, &b[j..])?;
+    Ok(out)
+}
+
+// A term with its fraction negated.
+fn negated(term: &(Exps, Rational)) -> (Exps, Rational)
+    ensures { result ≡ (term.now.0, neg term.now.1) }
+{
+    (term.0, term.1.neg())
+}
+
+// Appends the terms with each fraction negated.
+fn extend_negated(
+    out: &mut Vec<(Exps, Rational)>,
+    terms: &[(Exps, Rational)],
+) -> Result<(), AllocError>
+    ensures { OnOk result (out.new.items ≡ out.old.items ++ opposite_terms terms.now) }
+{
+    for term in terms {
+        out.push(negated(term))?;
+    }
+    Ok(())
 }

@@ -11,17 +11,19 @@ ghost use Rattle.ore_ring.specs.Belongs.{Belongs};
 ghost use Rattle.ore_monomial.specs.Numbers.{numbers};
 ghost use Rattle.ore_ring.specs.Products.{AreWhole};
 ghost use Rattle.ore_ring.specs.Terms.{IsFalling};
-ghost use Rattle.ore_ring.specs.Within.{numbers_within, contribute, pair_within, row_within, times_within, degrees_fit};
+ghost use Rattle.ore_ring.specs.Contributions.{push_number as number_of, push_product as product_of, push_pair as pair_of, push_row as row_of};
+ghost use Rattle.ore_ring.specs.Within.{numbers_within, times_within, degrees_fit};
 
 use crate::fraction::product;
-use crate::gather::Gather;
+use crate::meet::meets_none;
 use crate::op::Op;
+use crate::sort::sum_of_terms;
 use ore_monomial::{Exps, Order, RingStop, Signature};
 use ore_rational::Rational;
 use std::alloc::Global;
 
 /// A way to multiply two monomials, from which a ring of operators is made.
-pub trait Pass {
+pub trait MonomialProduct {
     /// The signature of the monomials.
     ghost signature_of: { Self → Lawful };
 
@@ -36,7 +38,7 @@ pub trait Pass {
 }
 
 /// The product of two operators.
-pub fn times<P: Pass>(p: &P, alloc: Global, a: &Op, b: &Op) -> Result<Op, RingStop>
+pub fn times<P: MonomialProduct>(p: &P, alloc: Global, a: &Op, b: &Op) -> Result<Op, RingStop>
     requires a_of { Belongs (P.signature_of p.now) a.now }
     requires b_of { Belongs (P.signature_of p.now) b.now }
     ensures gives { Gives (λ f. f.sum) result (times_within program (P.signature_of p.now) a.now.sum b.now.sum) }
@@ -48,9 +50,9 @@ pub fn times<P: Pass>(p: &P, alloc: Global, a: &Op, b: &Op) -> Result<Op, RingSt
     if !degrees_pass(order, ts, us) {
         return Err(RingStop::Degree);
     }
-    let mut acc = Gather::new(alloc, order);
-    rows_added(p, alloc, &mut acc, ts, us)?;
-    Ok(acc.finish(alloc)?)
+    let mut contributions = Vec::with_capacity(alloc, us.len())?;
+    push_rows(p, alloc, &mut contributions, ts, us)?;
+    sum_of_terms(alloc, order, contributions)
 }
 
 // Whether all products of two terms keep the degree: the first terms have the greatest degrees.
@@ -69,83 +71,103 @@ fn degrees_pass(order: Order, ts: &[(Exps, Rational)], us: &[(Exps, Rational)]) 
 }
 
 // The contributions of two lists of terms.
-fn rows_added<P: Pass>(
+fn push_rows<P: MonomialProduct>(
     p: &P,
     alloc: Global,
-    acc: &mut Gather,
+    out: &mut Vec<(Exps, Rational)>,
     ts: &[(Exps, Rational)],
     us: &[(Exps, Rational)],
 ) -> Result<(), RingStop>
     requires { All (λ t. All (λ u. degree t.0 + degree u.0 ≤ 32767) us.now) ts.now }
-    ensures by { acc.new.by ≡ acc.old.by }
-    ensures turns { Turns result acc.new.sum (fold_within (row_within program (P.signature_of p.now) us.now) acc.old.sum ts.now) }
+    ensures { Turns result out.new.items (fold_within (row_of program (P.signature_of p.now) us.now) out.old.items ts.now) }
 {
     for t in ts {
-        row_added(p, alloc, acc, t, us)?;
+        push_row(p, alloc, out, t, us)?;
     }
     Ok(())
 }
 
 // The contributions of one term and a list of terms.
-#[tactic(auto, unfolding(crate::specs::Within::row_within))]
-fn row_added<P: Pass>(
+#[tactic(auto, unfolding(crate::specs::Contributions::push_row))]
+fn push_row<P: MonomialProduct>(
     p: &P,
     alloc: Global,
-    acc: &mut Gather,
+    out: &mut Vec<(Exps, Rational)>,
     t: &(Exps, Rational),
     us: &[(Exps, Rational)],
 ) -> Result<(), RingStop>
     requires { All (λ u. degree t.now.0 + degree u.0 ≤ 32767) us.now }
-    ensures by { acc.new.by ≡ acc.old.by }
-    ensures turns { Turns result acc.new.sum (row_within program (P.signature_of p.now) us.now acc.old.sum t.now) }
+    ensures { Turns result out.new.items (row_of program (P.signature_of p.now) us.now out.old.items t.now) }
 {
     for u in us {
-        pair_added(p, alloc, acc, t, u)?;
+        push_pair(p, alloc, out, t, u)?;
     }
     Ok(())
 }
 
 // The contributions of two terms.
-#[tactic(auto, unfolding(crate::specs::Within::pair_within))]
-fn pair_added<P: Pass>(
+#[tactic(auto, unfolding(crate::specs::Contributions::push_pair))]
+fn push_pair<P: MonomialProduct>(
     p: &P,
     alloc: Global,
-    acc: &mut Gather,
+    out: &mut Vec<(Exps, Rational)>,
     t: &(Exps, Rational),
     u: &(Exps, Rational),
 ) -> Result<(), RingStop>
     requires { degree t.now.0 + degree u.now.0 ≤ 32767 }
-    ensures by { acc.new.by ≡ acc.old.by }
-    ensures turns { Turns result acc.new.sum (pair_within program (P.signature_of p.now) t.now acc.old.sum u.now) }
+    ensures { Turns result out.new.items (pair_of program (P.signature_of p.now) t.now out.old.items u.now) }
 {
     let uv = product(t.1, u.1)?;
-    let ks = p.pass(alloc, &t.0, &u.0)?;
-    all_contributed(acc, uv, &ks)
+    push_product(p, alloc, out, uv, &t.0, &u.0)
 }
 
-/// Adds each whole number times a fraction.
-pub(crate) fn all_contributed(
-    acc: &mut Gather,
+/// The contributions of two monomials with a fraction. Where none of their letters meet, it is one.
+#[tactic(auto, unfolding(crate::specs::Contributions::push_product))]
+pub(crate) fn push_product<P: MonomialProduct>(
+    p: &P,
+    alloc: Global,
+    out: &mut Vec<(Exps, Rational)>,
+    uv: Rational,
+    left: &Exps,
+    right: &Exps,
+) -> Result<(), RingStop>
+    requires { degree left.now + degree right.now ≤ 32767 }
+    ensures { Turns result out.new.items (product_of program (P.signature_of p.now) uv out.old.items left.now right.now) }
+{
+    if meets_none(p.signature(), left, right) {
+        let both = left.plus(right)?;
+        return push_number(out, uv, &(both, 1));
+    }
+    let ks = p.pass(alloc, left, right)?;
+    push_numbers(out, uv, &ks)
+}
+
+// Appends each whole number times a fraction.
+fn push_numbers(
+    out: &mut Vec<(Exps, Rational)>,
     uv: Rational,
     ks: &[(Exps, i128)],
 ) -> Result<(), RingStop>
     requires { AreWhole ks.now }
-    ensures by { acc.new.by ≡ acc.old.by }
-    ensures turns { Turns result acc.new.sum (fold_within (contribute program uv) acc.old.sum ks.now) }
+    ensures { Turns result out.new.items (fold_within (number_of program uv) out.old.items ks.now) }
 {
     for k in ks {
-        contributed(acc, uv, k)?;
+        push_number(out, uv, k)?;
     }
     Ok(())
 }
 
-// Adds a whole number times a fraction.
-#[tactic(auto, unfolding(crate::specs::Within::contribute))]
-fn contributed(acc: &mut Gather, uv: Rational, k: &(Exps, i128)) -> Result<(), RingStop>
+// Appends a whole number times a fraction.
+#[tactic(auto, unfolding(crate::specs::Contributions::push_number))]
+fn push_number(
+    out: &mut Vec<(Exps, Rational)>,
+    uv: Rational,
+    k: &(Exps, i128),
+) -> Result<(), RingStop>
     requires { InRange k.now.1 }
-    ensures by { acc.new.by ≡ acc.old.by }
-    ensures turns { Turns result acc.new.sum (contribute program uv acc.old.sum k.now) }
+    ensures { Turns result out.new.items (number_of program uv out.old.items k.now) }
 {
     let c = product(uv, Rational::whole(k.1))?;
-    acc.add(k.0, c)
+    out.push((k.0, c))?;
+    Ok(())
 }

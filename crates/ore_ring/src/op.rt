@@ -10,9 +10,10 @@ ghost use Rattle.ore_monomial.specs.Monomial.{plain_cmp};
 ghost use Rattle.ore_ring.specs.Lead.{IsLead};
 ghost use Rattle.ore_ring.specs.Ordered.{Ordered};
 ghost use Rattle.ore_ring.specs.Terms.{falling, IsFalling, IsBelowLast};
-ghost use Rattle.ore_ring.specs.Within.{plus_within};
+ghost use Rattle.ore_ring.specs.Within.{plus_within, add_term_within};
 
-use crate::place::{place, splice};
+use crate::fraction::sum;
+use crate::place::{number_at, place, splice};
 use ore_monomial::{Exps, NoMemory, Order, RingStop};
 use ore_rational::Rational;
 use std::alloc::Global;
@@ -141,6 +142,19 @@ impl Op {
             return Ok(());
         }
         let k = place(self.order, &self.terms, &exps);
+        splice(&mut self.terms, self.order, k, exps, coef)
+    }
+
+    // Adds a term, where the sum with the fraction at its monomial doesn't stop.
+    pub(crate) fn add_number(&mut self, exps: Exps, coef: Rational) -> Result<(), RingStop>
+        ensures by { self.new.by ≡ self.old.by }
+        ensures turns { Turns result self.new.sum (add_term_within program self.old.sum exps coef) }
+    {
+        let k = place(self.order, &self.terms, &exps);
+        sum(number_at(self.order, &self.terms, k, &exps), coef)?;
+        if coef.is_zero() {
+            return Ok(());
+        }
         splice(&mut self.terms, self.order, k, exps, coef)
     }
 

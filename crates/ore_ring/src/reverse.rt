@@ -8,58 +8,56 @@ ghost use Rattle.ore_rational.proofs.FractionLaws.{rationals};
 ghost use Rattle.ore_monomial.specs.Gives.{Gives, Turns};
 ghost use Rattle.ore_monomial.specs.Monomial.{degree};
 ghost use Rattle.ore_monomial.specs.Signature.{kind_at, is_coordinate as is_coordinate_kind};
-ghost use Rattle.ore_ring.specs.AdjointWithin.{coordinate_part as coordinates_of, letter_part as letters_of, adjoint_term_within, adjoint_within};
+ghost use Rattle.ore_ring.specs.AdjointWithin.{coordinate_part as coordinates_of, letter_part as letters_of, adjoint_within};
 ghost use Rattle.ore_ring.specs.Belongs.{Belongs};
+ghost use Rattle.ore_ring.specs.Contributions.{push_adjoint};
 
-use crate::gather::Gather;
-use crate::multiply::{Pass, all_contributed};
+use crate::multiply::{MonomialProduct, push_product};
 use crate::op::Op;
+use crate::sort::sum_of_terms;
 use ore_monomial::{Exps, RingStop, Signature, VarKind};
 use ore_rational::Rational;
 use std::alloc::Global;
 
 /// The adjoint of an operator.
-pub fn adjoint<P: Pass>(p: &P, alloc: Global, a: &Op) -> Result<Op, RingStop>
+pub fn adjoint<P: MonomialProduct>(p: &P, alloc: Global, a: &Op) -> Result<Op, RingStop>
     requires { Belongs (P.signature_of p.now) a.now }
     ensures gives { Gives (λ f. f.sum) result (adjoint_within program (P.signature_of p.now) a.now.sum) }
     ensures of { IfOk result (Belongs (P.signature_of p.now)) }
 {
-    let mut acc = Gather::new(alloc, a.order());
-    terms_reversed(p, alloc, &mut acc, a.terms())?;
-    Ok(acc.finish(alloc)?)
+    let mut contributions = Vec::new(alloc);
+    push_terms(p, alloc, &mut contributions, a.terms())?;
+    sum_of_terms(alloc, a.order(), contributions)
 }
 
 // The contributions of a list of terms.
-fn terms_reversed<P: Pass>(
+fn push_terms<P: MonomialProduct>(
     p: &P,
     alloc: Global,
-    acc: &mut Gather,
+    out: &mut Vec<(Exps, Rational)>,
     ts: &[(Exps, Rational)],
 ) -> Result<(), RingStop>
-    ensures by { acc.new.by ≡ acc.old.by }
-    ensures turns { Turns result acc.new.sum (fold_within (adjoint_term_within program (P.signature_of p.now)) acc.old.sum ts.now) }
+    ensures { Turns result out.new.items (fold_within (push_adjoint program (P.signature_of p.now)) out.old.items ts.now) }
 {
     for t in ts {
-        term_reversed(p, alloc, acc, t)?;
+        push_term(p, alloc, out, t)?;
     }
     Ok(())
 }
 
 // The contributions of one term: its letters pass over its coordinates.
-#[tactic(auto, unfolding(crate::specs::AdjointWithin::adjoint_term_within, crate::specs::AdjointWithin::sign_of))]
-fn term_reversed<P: Pass>(
+#[tactic(auto, unfolding(crate::specs::Contributions::push_adjoint, crate::specs::AdjointWithin::sign_of))]
+fn push_term<P: MonomialProduct>(
     p: &P,
     alloc: Global,
-    acc: &mut Gather,
+    out: &mut Vec<(Exps, Rational)>,
     t: &(Exps, Rational),
 ) -> Result<(), RingStop>
-    ensures by { acc.new.by ≡ acc.old.by }
-    ensures turns { Turns result acc.new.sum (adjoint_term_within program (P.signature_of p.now) acc.old.sum t.now) }
+    ensures { Turns result out.new.items (push_adjoint program (P.signature_of p.now) out.old.items t.now) }
 {
     let (coordinates, letters) = split(p.signature(), &t.0);
     let coef = signed(&coordinates, t.1);
-    let ks = p.pass(alloc, &letters, &coordinates)?;
-    all_contributed(acc, coef, &ks)
+    push_product(p, alloc, out, coef, &letters, &coordinates)
 }
 
 // The part of a monomial in the coordinates, and that in the other letters.

@@ -9,11 +9,16 @@ ghost use Rattle.ore_ring.specs.Belongs.{Belongs};
 ghost use Rattle.ore_ring.specs.Within.{plus_within, minus_within, times_within};
 ghost use Rattle.ore_monomial.specs.declared.stop.RingStop.TheVariants.{Memory};
 
+use crate::multiply::{MonomialProduct, times};
 use crate::op::Op;
+use crate::reverse;
+use crate::sum::{minus, plus};
 use ore_monomial::{RingStop, Signature};
 use std::alloc::Global;
 
 /// The ring of the operators of one signature.
+///
+/// It is made from any way to multiply monomials: who has `MonomialProduct` has the other operations.
 ///
 /// Every operation gives what its definition says for that signature, so two rings of one signature
 /// give the same. Operators that are handed in belong to the signature, and so do those that are answered.
@@ -72,6 +77,35 @@ pub trait OreRing {
     fn copy(&self, alloc: Global, a: &Op) -> Result<Op, RingStop>
         ensures same { IfOk result (λ f. f ≡ a.now) }
         ensures memory { IfErr result (λ e. e ≡ Memory) };
+}
+
+/// Each way to multiply monomials makes a ring.
+impl<P: MonomialProduct> OreRing for P {
+    ghost signature_of = { λ r. P.MonomialProduct.signature_of r };
+
+    fn signature(&self) -> &Signature {
+        MonomialProduct::signature(self)
+    }
+
+    fn add(&self, alloc: Global, a: &Op, b: &Op) -> Result<Op, RingStop> {
+        plus(alloc, a, b)
+    }
+
+    fn sub(&self, alloc: Global, a: &Op, b: &Op) -> Result<Op, RingStop> {
+        minus(alloc, a, b)
+    }
+
+    fn mul(&self, alloc: Global, a: &Op, b: &Op) -> Result<Op, RingStop> {
+        times(self, alloc, a, b)
+    }
+
+    fn adjoint(&self, alloc: Global, a: &Op) -> Result<Op, RingStop> {
+        reverse::adjoint(self, alloc, a)
+    }
+
+    fn copy(&self, alloc: Global, a: &Op) -> Result<Op, RingStop> {
+        Ok(a.copy(alloc)?)
+    }
 }
 
 #[cfg(test)]

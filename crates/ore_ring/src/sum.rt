@@ -7,7 +7,7 @@ ghost use Rattle.ore_monomial.specs.Signature.{Signature as Lawful};
 ghost use Rattle.ore_ring.specs.Belongs.{Belongs};
 ghost use Rattle.ore_ring.specs.Within.{plus_within, minus_within};
 
-use crate::merge::{merged, negated};
+use crate::merge::{merged, merged_less};
 use crate::op::Op;
 use ore_monomial::RingStop;
 use std::alloc::Global;
@@ -30,10 +30,6 @@ pub fn minus(alloc: Global, a: &Op, b: &Op) -> Result<Op, RingStop>
     ensures by { IfOk result (λ f. f.by ≡ a.now.by) }
     ensures of { (s : Lawful) → Belongs s a.now → Belongs s b.now → IfOk result (Belongs s) }
 {
-    let opposite = negated(alloc, b.terms())?;
-    let terms = merged(alloc, a.order(), a.terms(), &opposite)?;
+    let terms = merged_less(alloc, a.order(), a.terms(), b.terms())?;
     Ok(Op::from_terms(a.order(), terms))
 }
-
-#[cfg(test)]
-mod tests;

@@ -1,2 +1,1 @@
 pub mod Unshifted
-mod TestRing

@@ -34,6 +34,3 @@ mod ring;
 mod variables;
 
 pub use ring::WeylRing;
-
-#[cfg(test)]
-mod tests;

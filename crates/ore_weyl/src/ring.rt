@@ -6,7 +6,7 @@ ghost use Rattle.ore_weyl.specs.Shifts.{HasNoShift};
 use crate::monomials::product_terms;
 use crate::variables::has_no_shift;
 use ore_monomial::{Exps, RingStop, Signature};
-use ore_ring::{Op, OreRing, Pass, minus, plus, times};
+use ore_ring::MonomialProduct;
 use std::alloc::Global;
 use std::marker::Model;
 
@@ -43,7 +43,7 @@ impl WeylRing {
     }
 }
 
-impl Pass for WeylRing {
+impl MonomialProduct for WeylRing {
     ghost signature_of = { λ r. r };
 
     fn signature(&self) -> &Signature {
@@ -57,33 +57,5 @@ impl Pass for WeylRing {
         right: &Exps,
     ) -> Result<Vec<(Exps, i128)>, RingStop> {
         product_terms(alloc, &self.signature, left, right)
-    }
-}
-
-impl OreRing for WeylRing {
-    ghost signature_of = { λ r. r };
-
-    fn signature(&self) -> &Signature {
-        &self.signature
-    }
-
-    fn add(&self, alloc: Global, a: &Op, b: &Op) -> Result<Op, RingStop> {
-        plus(alloc, a, b)
-    }
-
-    fn sub(&self, alloc: Global, a: &Op, b: &Op) -> Result<Op, RingStop> {
-        minus(alloc, a, b)
-    }
-
-    fn mul(&self, alloc: Global, a: &Op, b: &Op) -> Result<Op, RingStop> {
-        times(self, alloc, a, b)
-    }
-
-    fn adjoint(&self, alloc: Global, a: &Op) -> Result<Op, RingStop> {
-        ore_ring::adjoint(self, alloc, a)
-    }
-
-    fn copy(&self, alloc: Global, a: &Op) -> Result<Op, RingStop> {
-        Ok(a.copy(alloc)?)
     }
 }

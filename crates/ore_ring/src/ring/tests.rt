@@ -4,9 +4,6 @@ ghost use Rattle.ore_monomial.specs.declared.signature.VarKind.TheVariants.{Coor
 ghost use Rattle.ore_ring.specs.Belongs.{Belongs};
 
 use super::*;
-use crate::multiply::{Pass, times};
-use crate::reverse;
-use crate::sum::{minus, plus};
 use ore_monomial::{Exps, Order, SignatureFault, VarKind};
 use ore_rational::Rational;
 use std::marker::Model;
@@ -33,7 +30,7 @@ impl Model for Polynomials {
     ghost invariant = { λ a. a.signature.kinds ≡ replicate 12 Coordinate };
 }
 
-impl Pass for Polynomials {
+impl MonomialProduct for Polynomials {
     ghost signature_of = { λ r. r };
 
     fn signature(&self) -> &Signature {
@@ -53,34 +50,6 @@ impl Pass for Polynomials {
         let mut terms = Vec::new(alloc);
         terms.push((both, 1))?;
         Ok(terms)
-    }
-}
-
-impl OreRing for Polynomials {
-    ghost signature_of = { λ r. r };
-
-    fn signature(&self) -> &Signature {
-        &self.signature
-    }
-
-    fn add(&self, alloc: Global, a: &Op, b: &Op) -> Result<Op, RingStop> {
-        plus(alloc, a, b)
-    }
-
-    fn sub(&self, alloc: Global, a: &Op, b: &Op) -> Result<Op, RingStop> {
-        minus(alloc, a, b)
-    }
-
-    fn mul(&self, alloc: Global, a: &Op, b: &Op) -> Result<Op, RingStop> {
-        times(self, alloc, a, b)
-    }
-
-    fn adjoint(&self, alloc: Global, a: &Op) -> Result<Op, RingStop> {
-        reverse::adjoint(self, alloc, a)
-    }
-
-    fn copy(&self, alloc: Global, a: &Op) -> Result<Op, RingStop> {
-        Ok(a.copy(alloc)?)
     }
 }
 
