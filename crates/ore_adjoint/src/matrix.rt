@@ -5,11 +5,12 @@ ghost use Rattle.std.specs.List.{All};
 ghost use Rattle.ore_adjoint.specs.AdjointMatrix.{adjoint_column_within, transpose_adjoint_within};
 ghost use Rattle.ore_algebra.specs.Limits.{program};
 ghost use Rattle.ore_monomial.specs.Gives.{Gives};
+ghost use Rattle.ore_ring.specs.AdjointWithin.{adjoint_within};
 ghost use Rattle.ore_ring.specs.Belongs.{Belongs};
 ghost use Rattle.ore_rows.specs.Stored.{rows_of, sums_of};
 
 use ore_monomial::RingStop;
-use ore_ring::OreRing;
+use ore_ring::{Op, OreRing};
 use ore_rows::{Matrix, Row};
 use std::alloc::Global;
 
@@ -51,7 +52,19 @@ fn adjoint_column<R: OreRing>(
 {
     let mut out = Vec::new(alloc);
     for i in 0..m.rows() {
-        out.push(ring.adjoint(alloc, m.row(i).entry(j))?)?;
+        out.push(adjoint(ring, alloc, m.row(i).entry(j))?)?;
     }
     Ok(Row::from_vec(out))
+}
+
+// The adjoint of an entry; that of zero is zero, and isn't formed.
+fn adjoint<R: OreRing>(ring: &R, alloc: Global, f: &Op) -> Result<Op, RingStop>
+    requires { Belongs (R.signature_of ring.now) f.now }
+    ensures gives { Gives (λ f. f.sum) result (adjoint_within program (R.signature_of ring.now) f.now.sum) }
+    ensures of { IfOk result (Belongs (R.signature_of ring.now)) }
+{
+    if f.is_zero() {
+        return Ok(Op::zero(alloc, ring.signature().order()));
+    }
+    ring.adjoint(alloc, f)
 }

@@ -2,7 +2,7 @@ ghost use Rattle.std.specs.Prelude.{◌≡◌, IfOk};
 
 use super::*;
 use ore_monomial::{Exps, Order, RingStop, Signature, SignatureFault};
-use ore_ring::{Op, OreRing, Pass, adjoint, minus, plus, times};
+use ore_ring::{MonomialProduct, Op, OreRing};
 use ore_rows::{Matrix, unit_row};
 use std::alloc::Global;
 use std::marker::Model;
@@ -28,7 +28,7 @@ impl Model for Numbers {
     ghost invariant = { λ a. a.signature.kinds ≡ [] };
 }
 
-impl Pass for Numbers {
+impl MonomialProduct for Numbers {
     ghost signature_of = { λ r. r };
 
     fn signature(&self) -> &Signature {
@@ -48,34 +48,6 @@ impl Pass for Numbers {
         let mut terms = Vec::new(alloc);
         terms.push((both, 1))?;
         Ok(terms)
-    }
-}
-
-impl OreRing for Numbers {
-    ghost signature_of = { λ r. r };
-
-    fn signature(&self) -> &Signature {
-        &self.signature
-    }
-
-    fn add(&self, alloc: Global, a: &Op, b: &Op) -> Result<Op, RingStop> {
-        plus(alloc, a, b)
-    }
-
-    fn sub(&self, alloc: Global, a: &Op, b: &Op) -> Result<Op, RingStop> {
-        minus(alloc, a, b)
-    }
-
-    fn mul(&self, alloc: Global, a: &Op, b: &Op) -> Result<Op, RingStop> {
-        times(self, alloc, a, b)
-    }
-
-    fn adjoint(&self, alloc: Global, a: &Op) -> Result<Op, RingStop> {
-        adjoint(self, alloc, a)
-    }
-
-    fn copy(&self, alloc: Global, a: &Op) -> Result<Op, RingStop> {
-        Ok(a.copy(alloc)?)
     }
 }
 

@@ -9,7 +9,7 @@ ghost use Rattle.ore_monomial.specs.Signature.{MonomialOf};
 ghost use Rattle.ore_monomial.specs.declared.stop.RingStop.TheVariants.{Memory};
 ghost use Rattle.ore_ring.specs.Belongs.{Belongs};
 ghost use Rattle.ore_rows.specs.Arithmetic.{within};
-ghost use Rattle.ore_rows.specs.Reduction.{AreMonic, less_multiple, step_operator};
+ghost use Rattle.ore_rows.specs.Reduction.{step_operator};
 ghost use Rattle.ore_rows.specs.Reduction as reduction;
 ghost use Rattle.ore_rows.specs.Stored.{sums_of};
 ghost use Rattle.ore_rows.specs.StoredBasis.{AllBelong, monics};
@@ -17,7 +17,7 @@ ghost use Rattle.ore_division.specs.StoredWork.{work_of};
 
 use ore_monomial::{RingStop, Signature};
 use ore_ring::{Op, OreRing};
-use ore_rows::{Basis, Row, Step, Steps, row_lead, row_sub, scale};
+use ore_rows::{Basis, Row, Step, Steps, row_lead, row_less};
 use std::alloc::Global;
 
 /// What is left of a row and of its cofactor row, and the steps that were taken from them.
@@ -36,7 +36,7 @@ pub struct Reduced {
 /// (Buchberger 1965; in algebras of this kind Kandri-Rody and Weispfenning 1990.)
 ///
 /// The row has `basis.cols()` entries and the cofactor row `basis.width()`. All operators, also those of the basis, are
-/// of the signature of the ring, and the basis rows have lead coefficient 1 in its order.
+/// of the signature of the ring.
 ///
 /// # Errors
 /// The stop of the first product or difference that stops, and want of memory. Then both rows are dropped.
@@ -52,7 +52,6 @@ pub fn reduce<R: OreRing>(
     requires row_of { All (Belongs (R.signature_of ring.now)) row }
     requires cofactor_of { All (Belongs (R.signature_of ring.now)) cofactor }
     requires basis_of { AllBelong (R.signature_of ring.now) basis.now.items }
-    requires monic { AreMonic rationals (R.signature_of ring.now).order (monics basis.now) }
     ensures gives { Gives work_of result (reduction.reduce rationals (R.signature_of ring.now).order (within program (R.signature_of ring.now)) (monics basis.now) (record { row = sums_of row; cofactor = sums_of cofactor; steps = [] })) }
     ensures row_of { IfOk result (λ r. All (Belongs (R.signature_of ring.now)) r.row) }
     ensures cofactor_of { IfOk result (λ r. All (Belongs (R.signature_of ring.now)) r.cofactor) }
@@ -117,8 +116,8 @@ fn subtract<R: OreRing>(
     } = work;
     let index = step.index;
     let term = step_term(ring, alloc, &step)?;
-    let row = row_less(ring, alloc, &row, &term, basis.row(index))?;
-    let cofactor = row_less(ring, alloc, &cofactor, &term, basis.cofactor(index))?;
+    let row = row_less(ring, alloc, row, &term, basis.row(index))?;
+    let cofactor = row_less(ring, alloc, cofactor, &term, basis.cofactor(index))?;
     let mut taken = steps.into_vec();
     taken.push(step)?;
     Ok(Reduced {
@@ -137,25 +136,4 @@ fn step_term<R: OreRing>(ring: &R, alloc: Global, step: &Step) -> Result<Op, Rin
 {
     let order = ring.signature().order();
     Ok(Op::term(alloc, order, step.exps, step.coef)?)
-}
-
-// The row less the multiple of another.
-#[tactic(auto, unfolding(ore_rows::specs::Reduction::less_multiple))]
-fn row_less<R: OreRing>(
-    ring: &R,
-    alloc: Global,
-    row: &Row,
-    term: &Op,
-    other: &Row,
-) -> Result<Row, RingStop>
-    requires width { length row.now ≡ length other.now }
-    requires row_of { All (Belongs (R.signature_of ring.now)) row.now }
-    requires term_of { Belongs (R.signature_of ring.now) term.now }
-    requires other_of { All (Belongs (R.signature_of ring.now)) other.now }
-    ensures gives { Gives sums_of result (less_multiple rationals (within program (R.signature_of ring.now)) term.now.sum (sums_of other.now) (sums_of row.now)) }
-    ensures of { IfOk result (All (Belongs (R.signature_of ring.now))) }
-    ensures width { IfOk result (λ r. length r ≡ length row.now) }
-{
-    let multiple = scale(ring, alloc, term, other)?;
-    row_sub(ring, alloc, row, &multiple)
 }

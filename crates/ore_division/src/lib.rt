@@ -6,8 +6,8 @@
 //! first product or difference that stops, in the order that stands there. Want of memory is the one answer beside
 //! it. Since each step makes the lead smaller, it ends.
 //!
-//! The basis rows have lead coefficient 1, as those of a `Basis` have that is filled by its `push` for the signature
-//! of the ring; that, the lengths and that all belongs to the signature are the conditions of the call.
+//! The lengths, and that all belongs to the signature of the ring, are the conditions of the call; that the basis rows
+//! have lead coefficient 1 is known of each `Basis`.
 //!
 //! The law function of [`laws`] says what reduction gives, also without limits: no lead of the basis divides the
 //! lead of the rest; the steps, each times its row, and the rest make up the row, and likewise the cofactor row; and

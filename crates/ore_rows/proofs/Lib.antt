@@ -14,3 +14,5 @@ pub mod StoredBases
 pub mod WithinValues
 pub mod SoundArithmetic
 pub mod BasisParts
+pub mod ZeroOperands
+pub mod Moving

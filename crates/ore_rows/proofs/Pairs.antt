@@ -6,7 +6,8 @@
 --     folded, folded_next, folded_stops, folded_end     a fold over the pairs, and its turns
 --     width_within, both_width     what is made of each item has as many items
 --     all_rest       what holds of all of a list holds of all but its first item
-use Rattle.std.proofs.Common.{◌≡◌, ◌⊎◌, suc, pred, length, inl, inr, List, [], ◌∷◌, ◌++◌, map, refl, sym, ap, ◌∙◌, subst, append_assoc, append-nil, arith}
+--     shorter        a list without its first item has a length that is less by 1
+use Rattle.std.proofs.Common.{◌≡◌, ◌⊎◌, ℕ, ◌+◌, suc, pred, length, inl, inr, List, [], ◌∷◌, ◌++◌, map, refl, sym, ap, ◌∙◌, subst, append_assoc, append-nil, arith}
 use Rattle.std.proofs.lemmas.List.{map-append, length-map}
 use Rattle.std.proofs.lemmas.List.Elements.{All-tail}
 use Rattle.std.specs.List.{All, zip}
@@ -16,6 +17,9 @@ use Rattle.ore_algebra.specs.Limits.{Cause, ◌>>=◌, fold_within, map_within, 
 
 pub all_rest : {X : Type 0} (P : X → Type 0) (xs : List X) (x : X) (us : List X) → xs ≡ x ∷ us → All P xs → All P us
 all_rest P xs x us e h = All-tail P x us (subst (All P) e h)
+
+pub shorter : {X : Type 0} (xs us : List X) (x : X) (n m : ℕ) → xs ≡ x ∷ us → m + 1 ≡ n → length xs ≡ n → length us ≡ m
+shorter xs us x n m e f h = let more = sym (ap length e) ∙ h in omega (arith, more)
 
 pub width_within : {A B : Type 0} (f : A → Result B Cause) (xs : List A) (ys : List B) → map_within f xs ≡ Ok ys → length ys ≡ length xs
 width_within f [] ys e = let same : [] ≡ ys = cc in sym (ap length same)

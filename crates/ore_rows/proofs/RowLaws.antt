@@ -135,8 +135,8 @@ module _ (K : Domain) (s : Signature) (lawful : IsLawful s) where
   pub torsion_free : (m : ℕ) (q r : List (Row K)) → AreLong K m q → IsExact K s m q r → IsTorsionFree K s (length q) r
   unfolding IsExact IsTorsionFree IsTorsion
   torsion_free m q r long exact z lz oz (d, od, nz, inside) =
-      (exact z lz oz).0 (scale-reflects d nz m (combine K s m z q) (length-combine m z q long)
-      (scale-combine d m z q ∙ (exact (row_scale K s d z) (length-row_scale d z ∙ lz) (of_row_scale K s d z od oz)).1 inside))
+      (exact.1 z lz oz).0 (scale-reflects d nz m (combine K s m z q) (length-combine m z q long)
+      (scale-combine d m z q ∙ (exact.1 (row_scale K s d z) (length-row_scale d z ∙ lz) (of_row_scale K s d z od oz)).1 inside))
 
 -- ---- entries
 

@@ -5,7 +5,10 @@
 --     with_leads-push        one more row beside its lead
 --     no_lead_of_zeros       a row of zeros has no lead
 --     entry_at, width_at     what is read at a place; it has the widths that all have
+--     has_lead, is_monic     for a row of a signature, a lead by the order that its entries carry is one by the signature's
+--     are_monic              the rows of a basis that are of a signature are monic by its order
 --     are_monic-push, all_belong-push    one more row with lead coefficient 1; one more of the signature
+--     monic_push, lead_read  one more row beside its lead; the lead of the row at a place
 --     stored_same, stored_push, basis_push    the same rows and leads; one more of each, and what is seen then
 use Rattle.std.proofs.Common.{◌≡◌, ℕ, zero, suc, pred, ◌+◌, ◌<◌, List, [], ◌∷◌, ◌++◌, length, map, get_or, refl, sym, ap, ◌∙◌, subst, arith}
 use Rattle.std.specs.List.{All, slice_get}
@@ -13,7 +16,7 @@ use Rattle.std.specs.Option.{option_map}
 use Rattle.std.specs.declared.option.Option.TheVariants.{Some}
 use Rattle.std.proofs.lemmas.List.{length_push, map-append}
 use Rattle.std.proofs.lemmas.Option.{slice_get-map, slice_get-get_or}
-use Rattle.std.proofs.lemmas.List.Elements.{All-nil, All-cons, All-head, All-tail, All-push}
+use Rattle.std.proofs.lemmas.List.Elements.{All-nil, All-cons, All-head, All-tail, All-map, All-push}
 use Rattle.ore_algebra.specs.Free.{none, coefficient}
 use Rattle.ore_rational.proofs.FractionLaws.{rationals}
 use Rattle.ore_rational.specs.Fraction.{Fraction}
@@ -24,10 +27,10 @@ use Rattle.ore_monomial.specs.declared.order.Order.{Order}
 use Rattle.ore_monomial.proofs.Operators
 use Rattle.ore_ring.specs.Belongs.{Belongs}
 use Rattle.ore_ring.specs.Ordered.{Ordered}
-use Rattle.ore_rows.specs.Reduction.{Monic, IsMonic, AreMonic, rows_of, cofactors_of, leads_of}
+use Rattle.ore_rows.specs.Reduction.{Monic, IsMonic, AreMonic, rows_of, cofactors_of, leads_of, lead_at}
 use Rattle.ore_rows.specs.RowLead.{IsRowLead}
 use Rattle.ore_rows.specs.Stored.{IsZeroRow, sums_of}
-use Rattle.ore_rows.specs.StoredBasis.{StoredBasis, HaveWidths, AllBelong, monic_of, monics, with_leads, IsStored}
+use Rattle.ore_rows.specs.StoredBasis.{StoredBasis, HasLead, HaveLeads, HaveWidths, AllBelong, monic_of, monics, with_leads, IsStored}
 use Rattle.ore_rows.specs.declared.basis.Entry.{Entry}
 
 pub length-with_leads : (es : List Entry) (ls : List Term) → length ls ≡ length es → length (with_leads es ls) ≡ length es
@@ -94,10 +97,14 @@ width_at n m es k e l h a = subst (λ (x : Entry). (length x.row ≡ n) × (leng
 pub stored_same : (n m : ℕ) (es fs : List Entry) (ls us : List Term) → fs ≡ es → us ≡ ls → IsStored n m es ls → IsStored n m fs us
 stored_same n m es fs ls us h k a = subst (λ (x : List Entry). IsStored n m x us) (sym h) (subst (λ (x : List Term). IsStored n m es x) (sym k) a)
 
-pub stored_push : (n m : ℕ) (es : List Entry) (ls : List Term) (e : Entry) (t : Term) → length e.row ≡ n → length e.cofactor ≡ m → IsStored n m es ls → IsStored n m (es ++ e ∷ []) (ls ++ t ∷ [])
-stored_push n m es ls e t h k a = record {
+monic_push : (es : List Entry) (ls : List Term) (e : Entry) (t : Term) → length ls ≡ length es → HaveLeads (with_leads es ls) → HasLead e.row t → HaveLeads (with_leads (es ++ e ∷ []) (ls ++ t ∷ []))
+monic_push es ls e t l a h = subst HaveLeads (sym (with_leads-push es ls e t l)) (All-push (λ (b : Monic (List Ordered)). HasLead b.row b.lead) (with_leads es ls) (record { row = e.row; cofactor = e.cofactor; lead = t }) a h)
+
+pub stored_push : (n m : ℕ) (es : List Entry) (ls : List Term) (e : Entry) (t : Term) → length e.row ≡ n → length e.cofactor ≡ m → HasLead e.row t → IsStored n m es ls → IsStored n m (es ++ e ∷ []) (ls ++ t ∷ [])
+stored_push n m es ls e t h k x a = record {
   long = length_push ls t ∙ ap (λ j. j + 1) a.long ∙ sym (length_push es e);
   widths = All-push (λ (x : Entry). (length x.row ≡ n) × (length x.cofactor ≡ m)) es e a.widths (h, k);
+  monic = monic_push es ls e t a.long a.monic x;
 }
 
 pub basis_push : (b : StoredBasis) (n m : ℕ) (es fs : List Entry) (ls us : List Term) (e : Entry) (t : Term) → record { cols = n; width = m; items = with_leads es ls } ≡ b → fs ≡ es ++ e ∷ [] → us ≡ ls ++ t ∷ [] → length ls ≡ length es
@@ -106,6 +113,28 @@ basis_push b n m es fs ls us e t v h k l =
     (λ i. record { cols = n; width = m; items = with_leads (h i) (k i) })
     ∙ (λ i. record { cols = n; width = m; items = with_leads-push es ls e t l i })
     ∙ (λ i. record (v i) { items = (v i).items ++ record { row = e.row; cofactor = e.cofactor; lead = t } ∷ [] })
+
+-- ---- leads by the order of a signature
+
+pub has_lead : (s : Signature) (row : List Ordered) (t : Term) → All (Belongs s) row → IsRowLead rationals s.order (sums_of row) t rationals.one → HasLead row t
+has_lead s row t belong h = record { order = s.order; carried = λ k f l. (belong k f l).order; lead = h }
+
+pub is_monic : (s : Signature) (row : List Ordered) (t : Term) → All (Belongs s) row → HasLead row t → IsRowLead rationals s.order (sums_of row) t rationals.one
+is_monic s [] t belong h = absurd (no_lead_of_zeros h.order [] t rationals.one (All-nil (λ (f : Ordered). f.sum ≡ none rationals plain_cmp)) h.lead)
+is_monic s (f ∷ row) t belong h = subst (λ (o : Order). IsRowLead rationals o (sums_of (f ∷ row)) t rationals.one) (sym (All-head (λ (g : Ordered). g.by ≡ h.order) f row h.carried) ∙ (All-head (Belongs s) f row belong).order) h.lead
+
+pub are_monic : (s : Signature) (b : StoredBasis) → AllBelong s b.items → HaveLeads b.items → AreMonic rationals s.order (monics b)
+are_monic s b belong h = All-map (IsMonic rationals s.order) monic_of b.items (λ k m l. is_monic s (get_or b.items k m).row (get_or b.items k m).lead (belong k m l).0 (h k m l))
+
+-- the lead of the row at a place
+pub lead_read : (es : List Entry) (ls : List Term) (k : ℕ) (e : Entry) → length ls ≡ length es → k < length es → e ≡ get_or es k e → HaveLeads (with_leads es ls) → HasLead e.row (lead_at (with_leads es ls) k)
+lead_read es ls k e l inside h a = by es ls k l inside h a
+  where
+    by : (es : List Entry) (ls : List Term) (k : ℕ) → length ls ≡ length es → k < length es → e ≡ get_or es k e → HaveLeads (with_leads es ls) → HasLead e.row (lead_at (with_leads es ls) k)
+    by [] ls k l inside h a = absurd (omega arith)
+    by (f ∷ es) [] k l inside h a = absurd (omega arith)
+    by (f ∷ es) (t ∷ ls) zero l inside h a = subst (λ (x : Entry). HasLead x.row t) (sym h) (All-head (λ (b : Monic (List Ordered)). HasLead b.row b.lead) _ _ a)
+    by (f ∷ es) (t ∷ ls) (suc k) l inside h a = by es ls k (ap pred l) (omega arith) h (All-tail (λ (b : Monic (List Ordered)). HasLead b.row b.lead) _ _ a)
 
 -- a basis stays one of rows with lead coefficient 1
 pub are_monic-push : (o : Order) (b : StoredBasis) (m : Monic (List Ordered)) → AreMonic rationals o (monics b) → IsMonic rationals o (monic_of m) → AreMonic rationals o (monics (record b { items = b.items ++ m ∷ [] }))

@@ -6,12 +6,18 @@
 --                      within limits an operation gives what it gives without, or stops
 --     ScaleValue, SumValue, DifferenceValue, DotValue, CombineValue, ProductValue
 --                      so what it gives within limits is its value
+--     ZeroProduct, ZeroSum, ZeroDifference, ZeroAdjoint
+--                      what comes of the operator zero, under any limits: such an operation never stops
 use Rattle.std.specs.Prelude.{◌≡◌, ℕ, List, length}
 use Rattle.std.specs.declared.result.Result.TheVariants.{Ok}
+use Rattle.ore_algebra.specs.Free.{none}
 use Rattle.ore_algebra.specs.Limits.{Limits, unlimited, IsAtMost}
 use Rattle.ore_rational.proofs.FractionLaws.{rationals}
+use Rattle.ore_monomial.specs.Monomial.{plain_cmp}
 use Rattle.ore_monomial.specs.Signature.{Signature}
 use Rattle.ore_monomial.specs.LetterRule.{Operator}
+use Rattle.ore_ring.specs.AdjointWithin.{adjoint_within}
+use Rattle.ore_ring.specs.Within.{plus_within, minus_within, times_within}
 use Rattle.ore_rows.specs.Rows.{Row, AreLong, row_plus, row_minus, row_scale, dot, combine, matrix_times}
 use Rattle.ore_rows.specs.RowsWithin.{sum_within, difference_within, scale_within, dot_within, combine_within, matrix_times_within}
 
@@ -95,3 +101,21 @@ module _ (s : Signature) where
   -- what a product of matrices that fit gives is their product
   abbrev pub ProductValue : Type 0
   ProductValue = (l : Limits) (n : ℕ) (a b x : List (Row rationals)) → AreLong rationals (length b) a → AreLong rationals n b → matrix_times_within l s n a b ≡ Ok x → x ≡ matrix_times rationals s n a b
+
+-- ---- the operator zero
+
+-- a product with zero is zero
+abbrev pub ZeroProduct : Signature → Type 0
+ZeroProduct s = (l : Limits) (f : Operator rationals) → (times_within l s f (none rationals plain_cmp) ≡ Ok (none rationals plain_cmp)) × (times_within l s (none rationals plain_cmp) f ≡ Ok (none rationals plain_cmp))
+
+-- a sum with zero is the other operand
+abbrev pub ZeroSum : Type 0
+ZeroSum = (l : Limits) (f : Operator rationals) → (plus_within l f (none rationals plain_cmp) ≡ Ok f) × (plus_within l (none rationals plain_cmp) f ≡ Ok f)
+
+-- where zero is taken away, the same is left
+abbrev pub ZeroDifference : Type 0
+ZeroDifference = (l : Limits) (f : Operator rationals) → minus_within l f (none rationals plain_cmp) ≡ Ok f
+
+-- the adjoint of zero is zero
+abbrev pub ZeroAdjoint : Signature → Type 0
+ZeroAdjoint s = (l : Limits) → adjoint_within l s (none rationals plain_cmp) ≡ Ok (none rationals plain_cmp)

@@ -7,5 +7,5 @@ pub mod LeadFound
 pub mod Reduction
 pub mod StoredSteps
 pub mod StoredBasis
-pub mod Run
+pub mod Shown
 pub mod Laws

@@ -10,7 +10,8 @@
 --     dot                            a row times a column
 --     combine                        the sum of multiples of rows
 --     InRowModule                    a row is a combination of rows, by operators of the signature
---     IsExact                        the rows of the signature that a matrix takes to zero are those of a row module
+--     IsExact                        a matrix l has a column for each row of a matrix a, and the rows of the signature
+--                                    that a takes to zeros are those of the row module of l
 --     IsTorsion, IsTorsionFree       a nonzero operator of the signature takes a row into a row module; of the rows of
 --                                    the signature only its own are taken there
 --     matrix_times                   the product of matrices
@@ -83,9 +84,10 @@ module _ (K : Domain) (s : Signature) where
   unfoldable pub InRowModule : ℕ → List (Row K) → Row K → Type 0
   InRowModule n rows z = (c : Row K) × (length c ≡ length rows) × RowOf K s c × (combine n c rows ≡ z)
 
-  -- the rows of the signature that give zeros times a are those in the row module of l (n columns of a)
+  -- l has a column for each row of a, which has n columns, and the rows of the signature that times a are zeros are
+  -- those in the row module of l
   unfoldable pub IsExact : ℕ → List (Row K) → List (Row K) → Type 0
-  IsExact n a l = (c : Row K) → length c ≡ length a → RowOf K s c → (combine n c a ≡ zero_row K n) ↔ InRowModule (length a) l c
+  IsExact n a l = AreLong K (length a) l × ((c : Row K) → length c ≡ length a → RowOf K s c → (combine n c a ≡ zero_row K n) ↔ InRowModule (length a) l c)
 
   -- some nonzero operator of the signature takes z into the row module of a
   unfoldable pub IsTorsion : ℕ → List (Row K) → Row K → Type 0

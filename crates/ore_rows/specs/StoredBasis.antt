@@ -4,8 +4,10 @@
 --                             speak of
 --     HaveWidths              each row has one entry a column, and each cofactor row its number of entries
 --     AllBelong               each entry belongs to a signature
+--     HasLead, HaveLeads      a term is the lead of a row by the order that its entries carry, with the coefficient 1;
+--                             the noted lead of each row is
 --     with_leads              rows and cofactor rows, each beside its lead
---     IsStored                there is a lead for each row, and the rows have their widths
+--     IsStored                there is a lead for each row, which is its lead, and the rows have their widths
 --     monic_code, basis_code  codes of a basis row and of a basis as lists of numbers
 use Rattle.std.specs.Prelude.{◌≡◌, ℕ, List, map, length, refl}
 use Rattle.std.specs.List.{All, zip}
@@ -13,12 +15,14 @@ use Rattle.std.specs.Coded.{Coded, coded×, coded_list, coded_ℕ, code_by}
 use Rattle.ore_rational.proofs.FractionLaws.{rationals}
 use Rattle.ore_monomial.specs.Monomial.{Monomial}
 use Rattle.ore_monomial.specs.MonomialCode.{monomial_code}
+use Rattle.ore_monomial.specs.declared.order.Order.{Order}
 use Rattle.ore_monomial.specs.Signature.{Signature}
 use Rattle.ore_monomial.specs.Term.{Term}
 use Rattle.ore_ring.specs.Ordered.{Ordered}
 use Rattle.ore_ring.specs.Belongs.{Belongs}
 use Rattle.ore_rows.specs.Rows.{Row}
 use Rattle.ore_rows.specs.Reduction.{Monic}
+use Rattle.ore_rows.specs.RowLead.{IsRowLead}
 use Rattle.ore_rows.specs.Stored.{sums_of, row_code}
 use Rattle.ore_rows.specs.declared.basis.Entry.{Entry}
 
@@ -44,16 +48,27 @@ HaveWidths n m items = All (λ b. (length b.row ≡ n) × (length b.cofactor ≡
 abbrev pub AllBelong : Signature → List (Monic (List Ordered)) → Type 0
 AllBelong s items = All (λ b. All (Belongs s) b.row × All (Belongs s) b.cofactor) items
 
+-- each entry of the row carries one order, and by that order t is the lead of the row, with the coefficient 1
+pub record HasLead (row : List Ordered) (t : Term) : Type 0 where
+  pub order : Order
+  pub carried : All (λ f. f.by ≡ order) row
+  pub lead : IsRowLead rationals order (sums_of row) t rationals.one
+
+-- the noted lead of each row is its lead
+abbrev pub HaveLeads : List (Monic (List Ordered)) → Type 0
+HaveLeads items = All (λ b. HasLead b.row b.lead) items
+
 -- ---- how it is stored
 
 -- each row and its cofactor row with the lead at their place
 abbrev pub with_leads : List Entry → List Term → List (Monic (List Ordered))
 with_leads rows leads = map (λ p. record { row = p.0.row; cofactor = p.0.cofactor; lead = p.1 }) (zip rows leads)
 
--- there are as many leads as rows, and rows have cols entries, cofactor rows width entries
+-- there are as many leads as rows, each the lead of its row; rows have cols entries, cofactor rows width entries
 pub record IsStored (cols width : ℕ) (rows : List Entry) (leads : List Term) : Type 0 where
   pub long : length leads ≡ length rows
   pub widths : All (λ e. (length e.row ≡ cols) × (length e.cofactor ≡ width)) rows
+  pub monic : HaveLeads (with_leads rows leads)
 
 -- the codes of the row and of its cofactor row, beside the monomial and the column of the lead
 abbrev pub monic_code : Coded (Monic (List Ordered))

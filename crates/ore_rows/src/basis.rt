@@ -1,14 +1,14 @@
 //! A basis of rows, each with its cofactor row and its lead.
 
-ghost use Rattle.std.specs.Prelude.{◌≡◌, ◌<◌, [], ◌∷◌, ◌++◌, length, slice_get, IfOk, IfErr};
+ghost use Rattle.std.specs.Prelude.{◌≡◌, ◌<◌, ◌^◌, [], ◌∷◌, ◌++◌, length, slice_get, IfOk, IfErr};
 ghost use Rattle.std.specs.List.{All};
 ghost use Rattle.ore_rational.proofs.FractionLaws.{rationals};
 ghost use Rattle.ore_monomial.specs.Term.{Term};
 ghost use Rattle.ore_ring.specs.Belongs.{Belongs};
-ghost use Rattle.ore_rows.specs.Reduction.{rows_of, cofactors_of, leads_of};
+ghost use Rattle.ore_rows.specs.Reduction.{rows_of, cofactors_of, leads_of, lead_at};
 ghost use Rattle.ore_rows.specs.RowLead.{IsRowLead};
 ghost use Rattle.ore_rows.specs.Stored.{sums_of};
-ghost use Rattle.ore_rows.specs.StoredBasis.{HaveWidths};
+ghost use Rattle.ore_rows.specs.StoredBasis.{HasLead, HaveLeads, HaveWidths};
 
 use crate::lead::row_lead;
 use crate::row::Row;
@@ -26,9 +26,9 @@ struct Entry {
 
 /// Rows of `cols` entries, each with a cofactor row of `width` entries and with its lead.
 ///
-/// The type's invariant has these numbers of entries, and that there is one lead for each row. It doesn't have that a
-/// lead is that of its row, with coefficient 1: [`Basis::push`] asks it of each row, for the signature that it is given,
-/// and callers owe it of all rows where it is needed (`AreMonic` in `specs/Reduction.antt`).
+/// The type's invariant has these numbers of entries, and that each row has the noted lead, with the coefficient 1, by
+/// the order that its entries carry (`HasLead` in `specs/StoredBasis.antt`). [`Basis::push`] asks it of its row, and
+/// [`Basis::cols`] and [`Basis::row`] tell it of all rows and of one.
 #[derive(Drop)]
 pub struct Basis {
     cols: usize,
@@ -64,7 +64,8 @@ impl Basis {
 
     /// The number of rows.
     pub fn len(&self) -> usize
-        ensures { result ≡ length self.now.items }
+        ensures value { result ≡ length self.now.items }
+        ensures few { result < 2 ^ 63 }
     {
         self.items.len()
     }
@@ -73,6 +74,7 @@ impl Basis {
     pub fn cols(&self) -> usize
         ensures value { result ≡ self.now.cols }
         ensures widths { HaveWidths self.now.cols self.now.width self.now.items }
+        ensures leads { HaveLeads self.now.items }
     {
         self.cols
     }
@@ -89,6 +91,7 @@ impl Basis {
         requires { k < length self.now.items }
         ensures value { slice_get (rows_of self.now.items) k ≡ Some result.now }
         ensures width { length result.now ≡ self.now.cols }
+        ensures lead { HasLead result.now (lead_at self.now.items k) }
     {
         let entry = &self.items[k];
         &entry.row

@@ -1,6 +1,9 @@
-//! What a run does with its pairs of basis rows, one after another.
+//! What a run does with its pairs of basis rows, one after another, which of that a rule allows, and what the syzygies
+//! come from.
 
-ghost use Rattle.std.specs.Prelude.{◌≡◌, ◌<◌, length, slice_get};
+ghost use Rattle.std.specs.Prelude.{◌≡◌, ◌<◌, ℕ, Bool, List, length, slice_get};
+ghost use Rattle.ore_rows.specs.declared.choices.Choice as choices;
+ghost use Rattle.ore_rows.specs.Shown.{Shown};
 
 use std::marker::Model;
 
@@ -12,6 +15,25 @@ pub enum Choice {
     Treat { i: usize, j: usize },
     /// Nothing, since the pairs of both rows with the row at `via` were dealt with before.
     Skip { i: usize, j: usize, via: usize },
+}
+
+/// Which choices may come, and whether the budget may be spent, by the leads of the basis and the pairs in the order in
+/// which they were listed.
+pub trait Rule {
+    /// The choice may come.
+    ghost allows: { Shown → List (ℕ × ℕ) → choices.Choice → Bool };
+
+    /// The answer that the budget is spent may come.
+    ghost allows_spent: { Shown → List (ℕ × ℕ) → Bool };
+}
+
+/// What a syzygy of a run comes from.
+#[derive(Clone, Copy, Debug, PartialEq, Eq, Drop)]
+pub enum Origin {
+    /// The row of the matrix at this place, which is zero.
+    ZeroRow(usize),
+    /// The pair that was treated in the event at this place.
+    Event(usize),
 }
 
 /// The choices of a run, in order.

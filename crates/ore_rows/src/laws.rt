@@ -1,7 +1,7 @@
 //! What limits do to the operations on rows and matrices, as contracts.
 //!
 //! Each function here has no answer and does nothing. `specs/Laws.antt` has the statements, and
-//! `proofs/WithinValues.antt` proves them.
+//! `proofs/WithinValues.antt` and `proofs/ZeroOperands.antt` prove them.
 
 ghost use Rattle.ore_rows.specs.Laws.{
   CombineAtMost,
@@ -22,6 +22,10 @@ ghost use Rattle.ore_rows.specs.Laws.{
   SumAtMost,
   SumUnlimited,
   SumValue,
+  ZeroAdjoint,
+  ZeroDifference,
+  ZeroProduct,
+  ZeroSum,
 };
 
 use ore_monomial::Signature;
@@ -54,4 +58,14 @@ pub fn law_value(sig: &Signature)
     ensures dot { DotValue sig.now }
     ensures combine { CombineValue sig.now }
     ensures product { ProductValue sig.now }
+{}
+
+/// Under any limits, a product with the operator zero is zero, a sum with it is the other operand, where it is taken
+/// away the same is left, and its adjoint is zero. So none of these stops, and operations on rows and matrices don't
+/// form them.
+pub fn law_zero(sig: &Signature)
+    ensures product { ZeroProduct sig.now }
+    ensures sum { ZeroSum }
+    ensures difference { ZeroDifference }
+    ensures adjoint { ZeroAdjoint sig.now }
 {}

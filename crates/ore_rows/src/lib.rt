@@ -10,11 +10,15 @@
 //! operators. Each gives what its definition in `specs/RowsWithin.antt` gives at the limits of the program,
 //! and stops as the first operation of the ring that stops in the order that stands there. Want of memory
 //! is the one answer beside it. [`row_copy`] and [`stack`], which puts a row above a matrix, stop for want of
-//! memory alone.
+//! memory alone. [`row_take`] is `row_sub` of a row that is moved in, and [`row_less`] takes a multiple of
+//! another row from it; they move the entries that stay.
 //!
-//! A [`Basis`] keeps rows, each with a cofactor row and beside its lead. What it is seen as stands in
-//! `specs/StoredBasis.antt`. Its type knows how many entries its rows have, and not that their lead coefficients are 1:
-//! [`Basis::push`] asks that of each row, and callers owe it where all rows must be so.
+//! No product, sum or difference with the operator zero is formed: it has its value under any limits
+//! (`laws::law_zero`), so that an operation stops exactly where its definition does.
+//!
+//! A [`Basis`] keeps rows with lead coefficient 1, each with a cofactor row and beside its lead. What it is seen as
+//! stands in `specs/StoredBasis.antt`. Its type knows how many entries its rows have, and that each noted lead is that
+//! of its row, with the coefficient 1, by the order that the entries carry: [`Basis::push`] asks that of its row.
 //!
 //! Contracts see a row as the list of its entries, and a matrix as its number of columns beside the list
 //! of its rows (`specs/Stored.antt`). Whoever holds a matrix can learn from [`Matrix::cols`] that its rows
@@ -30,9 +34,10 @@
 //! lead and any other has one, what the lead of a multiple is, and that two rows with one lead and one
 //! coefficient differ by what is below it. `proofs/UnitRows.antt` has the laws of the identity.
 //!
-//! `specs/Reduction.antt` and `specs/Run.antt` define lead reduction and runs, over the arithmetic of
-//! `specs/Arithmetic.antt`, which is exact or stops at limits. The crates above meet these definitions. [`Steps`],
-//! [`Choices`] and [`Runs`] are the lists that they give and take. `proofs/GreatestTerms.antt` proves that the
+//! `specs/Reduction.antt` defines lead reduction, over the arithmetic of `specs/Arithmetic.antt`, which is exact or stops
+//! at limits. The crates above meet this definition, and that of runs (`ore_pairs/specs/Run.antt`). [`Steps`],
+//! [`Choices`] and [`Runs`] are the lists that they give and take, an [`Origin`] says what a syzygy of a run comes from,
+//! and a [`Rule`] which choices may come, by what is shown of a basis (`specs/Shown.antt`). `proofs/GreatestTerms.antt` proves that the
 //! function `row_lead` of the definitions finds the lead, and `proofs/SoundArithmetic.antt` that within limits each
 //! operation on rows gives the exact value or stops.
 //!
@@ -44,6 +49,7 @@
 
 pub mod basis;
 pub mod choices;
+mod entry_ops;
 pub mod laws;
 pub mod lead;
 pub mod matrix;
@@ -54,11 +60,11 @@ pub mod steps;
 pub mod units;
 
 pub use basis::Basis;
-pub use choices::{Choice, Choices, Runs};
+pub use choices::{Choice, Choices, Origin, Rule, Runs};
 pub use lead::row_lead;
 pub use matrix::Matrix;
 pub use matrix_ops::{combine, stack, times};
 pub use row::Row;
-pub use row_ops::{row_add, row_copy, row_sub, scale};
+pub use row_ops::{row_add, row_copy, row_less, row_sub, row_take, scale};
 pub use steps::{Step, Steps};
 pub use units::{identity, unit_row};

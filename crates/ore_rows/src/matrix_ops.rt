@@ -9,6 +9,7 @@ ghost use Rattle.ore_ring.specs.Belongs.{Belongs};
 ghost use Rattle.ore_rows.specs.RowsWithin.{combine_within, dot_within, matrix_times_within, product_added};
 ghost use Rattle.ore_rows.specs.Stored.{places, rows_of, sums_of};
 
+use crate::entry_ops::{join, mul};
 use crate::matrix::Matrix;
 use crate::row::Row;
 use crate::row_ops::row_copy;
@@ -85,21 +86,15 @@ pub fn stack<R: OreRing>(ring: &R, alloc: Global, z: &Row, m: &Matrix) -> Result
 
 // A product added to an operator.
 #[tactic(auto, unfolding(crate::specs::RowsWithin::product_added))]
-fn add_product<R: OreRing>(
-    ring: &R,
-    alloc: Global,
-    acc: &Op,
-    f: &Op,
-    g: &Op,
-) -> Result<Op, RingStop>
-    requires acc_of { Belongs (R.signature_of ring.now) acc.now }
+fn add_product<R: OreRing>(ring: &R, alloc: Global, acc: Op, f: &Op, g: &Op) -> Result<Op, RingStop>
+    requires acc_of { Belongs (R.signature_of ring.now) acc }
     requires f_of { Belongs (R.signature_of ring.now) f.now }
     requires g_of { Belongs (R.signature_of ring.now) g.now }
-    ensures gives { Gives (λ f. f.sum) result (product_added program (R.signature_of ring.now) acc.now.sum (f.now.sum, g.now.sum)) }
+    ensures gives { Gives (λ f. f.sum) result (product_added program (R.signature_of ring.now) acc.sum (f.now.sum, g.now.sum)) }
     ensures of { IfOk result (Belongs (R.signature_of ring.now)) }
 {
-    let product = ring.mul(alloc, f, g)?;
-    ring.add(alloc, acc, &product)
+    let product = mul(ring, alloc, f, g)?;
+    join(ring, alloc, acc, product)
 }
 
 // A row times the entries at place `j` of as many rows.
@@ -118,7 +113,7 @@ fn dot<R: OreRing>(
 {
     let mut acc = Op::zero(alloc, ring.signature().order());
     for (f, row) in c.iter().zip(rows) {
-        acc = add_product(ring, alloc, &acc, f, row.entry(j))?;
+        acc = add_product(ring, alloc, acc, f, row.entry(j))?;
     }
     Ok(acc)
 }

@@ -32,6 +32,13 @@ impl Row {
         Row { entries }
     }
 
+    // The entries as a vector.
+    pub(crate) fn into_vec(self) -> Vec<Op>
+        ensures { result.items ≡ self }
+    {
+        self.entries
+    }
+
     /// The number of entries.
     pub fn len(&self) -> usize
         ensures { result ≡ length self.now }

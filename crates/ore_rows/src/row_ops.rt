@@ -5,10 +5,14 @@ ghost use Rattle.std.specs.List.{All};
 ghost use Rattle.ore_algebra.specs.Limits.{program};
 ghost use Rattle.ore_monomial.specs.Gives.{Gives};
 ghost use Rattle.ore_monomial.specs.declared.stop.RingStop.TheVariants.{Memory};
+ghost use Rattle.ore_rational.proofs.FractionLaws.{rationals};
 ghost use Rattle.ore_ring.specs.Belongs.{Belongs};
+ghost use Rattle.ore_rows.specs.Arithmetic.{within};
+ghost use Rattle.ore_rows.specs.Reduction.{less_multiple};
 ghost use Rattle.ore_rows.specs.RowsWithin.{scale_within, sum_within, difference_within};
 ghost use Rattle.ore_rows.specs.Stored.{sums_of};
 
+use crate::entry_ops::{add, mul, sub, take};
 use crate::row::Row;
 use ore_monomial::RingStop;
 use ore_ring::{Op, OreRing};
@@ -27,7 +31,7 @@ pub fn scale<R: OreRing>(ring: &R, alloc: Global, f: &Op, row: &Row) -> Result<R
 {
     let mut out = Vec::new(alloc);
     for g in row.entries() {
-        out.push(ring.mul(alloc, f, g)?)?;
+        out.push(mul(ring, alloc, f, g)?)?;
     }
     Ok(Row::from_vec(out))
 }
@@ -61,7 +65,7 @@ pub fn row_add<R: OreRing>(ring: &R, alloc: Global, a: &Row, b: &Row) -> Result<
 {
     let mut out = Vec::new(alloc);
     for (f, g) in a.entries().iter().zip(b.entries()) {
-        out.push(ring.add(alloc, f, g)?)?;
+        out.push(add(ring, alloc, f, g)?)?;
     }
     Ok(Row::from_vec(out))
 }
@@ -80,7 +84,52 @@ pub fn row_sub<R: OreRing>(ring: &R, alloc: Global, a: &Row, b: &Row) -> Result<
 {
     let mut out = Vec::new(alloc);
     for (f, g) in a.entries().iter().zip(b.entries()) {
-        out.push(ring.sub(alloc, f, g)?)?;
+        out.push(sub(ring, alloc, f, g)?)?;
     }
     Ok(Row::from_vec(out))
+}
+
+/// The difference of two rows of one length, entry by entry. An entry of the first row from which zero is taken is
+/// moved. All entries are of the signature of the ring.
+///
+/// # Errors
+/// The stop of the first difference that stops, and want of memory. Then the first row is dropped.
+pub fn row_take<R: OreRing>(ring: &R, alloc: Global, row: Row, other: &Row) -> Result<Row, RingStop>
+    requires lengths { length row ≡ length other.now }
+    requires row_of { All (Belongs (R.signature_of ring.now)) row }
+    requires other_of { All (Belongs (R.signature_of ring.now)) other.now }
+    ensures gives { Gives sums_of result (difference_within program (sums_of row) (sums_of other.now)) }
+    ensures of { IfOk result (All (Belongs (R.signature_of ring.now))) }
+    ensures width { IfOk result (λ r. length r ≡ length row) }
+{
+    let mut out = Vec::new(alloc);
+    for (f, g) in row.into_vec().into_iter().zip(other.entries()) {
+        out.push(take(ring, alloc, f, g)?)?;
+    }
+    Ok(Row::from_vec(out))
+}
+
+/// A row less `f` times another of its length: the products are formed in order, and then the differences. Entries
+/// whose multiple is zero are moved. All operators are of the signature of the ring.
+///
+/// # Errors
+/// The stop of the first product or difference that stops, and want of memory. Then the first row is dropped.
+#[tactic(auto, unfolding(crate::specs::Reduction::less_multiple))]
+pub fn row_less<R: OreRing>(
+    ring: &R,
+    alloc: Global,
+    row: Row,
+    f: &Op,
+    other: &Row,
+) -> Result<Row, RingStop>
+    requires lengths { length row ≡ length other.now }
+    requires row_of { All (Belongs (R.signature_of ring.now)) row }
+    requires f_of { Belongs (R.signature_of ring.now) f.now }
+    requires other_of { All (Belongs (R.signature_of ring.now)) other.now }
+    ensures gives { Gives sums_of result (less_multiple rationals (within program (R.signature_of ring.now)) f.now.sum (sums_of other.now) (sums_of row)) }
+    ensures of { IfOk result (All (Belongs (R.signature_of ring.now))) }
+    ensures width { IfOk result (λ r. length r ≡ length row) }
+{
+    let multiple = scale(ring, alloc, f, other)?;
+    row_take(ring, alloc, row, &multiple)
 }

@@ -1,6 +1,6 @@
 //! Unit rows, and the matrix of all of one length.
 
-ghost use Rattle.std.specs.Prelude.{◌≡◌, ◌<◌, ◌^◌, length, cond, IfOk};
+ghost use Rattle.std.specs.Prelude.{◌≡◌, length, cond, IfOk};
 ghost use Rattle.std.specs.List.{All};
 ghost use Rattle.ore_algebra.specs.Free.{none, single};
 ghost use Rattle.ore_rational.proofs.FractionLaws.{rationals};
@@ -36,12 +36,9 @@ pub fn unit_row(alloc: Global, sig: &Signature, n: usize, i: usize) -> Result<Ro
 
 /// The matrix of the `n` unit rows of `n` entries: `n` rows by `n` columns.
 ///
-/// `n` is below 2^63.
-///
 /// # Errors
-/// Want of memory.
+/// Want of memory, so also where `n` is so great that no list can have `n` items.
 pub fn identity(alloc: Global, sig: &Signature, n: usize) -> Result<Matrix, NoMemory>
-    requires { n < 2 ^ 63 }
     ensures rows { IfOk result (λ m. rows_of m ≡ rows.identity_rows rationals n) }
     ensures cols { IfOk result (λ m. m.cols ≡ n) }
     ensures count { IfOk result (λ m. length m.rows ≡ n) }
@@ -51,7 +48,7 @@ pub fn identity(alloc: Global, sig: &Signature, n: usize) -> Result<Matrix, NoMe
     for k in 0..n {
         out.push(unit_row(alloc, sig, n, k)?)?;
     }
-    Ok(Matrix::from_rows(n, out))
+    Ok(Matrix::from_rows(out.len(), out))
 }
 
 // The operator 1, or the operator 0.

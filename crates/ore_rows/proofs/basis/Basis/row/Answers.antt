@@ -1,8 +1,9 @@
-use Rattle.std.proofs.Common.{◌≡◌, length, sym, ap, ◌∙◌, arith}
+use Rattle.std.proofs.Common.{◌≡◌, length, subst, sym, ap, ◌∙◌, arith}
 use Rattle.std.specs.List.{slice_get}
 use Rattle.std.proofs.lemmas.Grind.{common_steps}
-use Rattle.ore_rows.specs.Reduction.{rows_of}
-use Rattle.ore_rows.proofs.StoredBases.{entry_at, width_at, length-with_leads, rows-with_leads}
+use Rattle.ore_rows.specs.Reduction.{rows_of, lead_at}
+use Rattle.ore_rows.specs.StoredBasis.{HasLead}
+use Rattle.ore_rows.proofs.StoredBases.{entry_at, width_at, length-with_leads, rows-with_leads, lead_read}
 use Rattle.ore_rows.proofs.basis.Basis.row.Goals as goal
 
 pub index-entry-requires : goal.index-entry-requires
@@ -21,3 +22,9 @@ pub returns-clause-width : goal.returns-clause-width
 returns-clause-width c =
     let same : length c.args.self.now.items ≡ length c.self.inside.items.items = sym (ap (λ b. length b.items) c.self.view_is) ∙ length-with_leads c.self.inside.items.items c.self.inside.leads c.self.invariant.long in
     (width_at c.self.inside.cols c.self.inside.width c.self.inside.items.items c.args.k c.index-entry.result.now (omega arith) c.index-entry.ensures c.self.invariant.widths).0 ∙ ap (λ b. b.cols) c.self.view_is
+
+pub returns-clause-lead : goal.returns-clause-lead
+returns-clause-lead c =
+    let same : length c.args.self.now.items ≡ length c.self.inside.items.items = sym (ap (λ b. length b.items) c.self.view_is) ∙ length-with_leads c.self.inside.items.items c.self.inside.leads c.self.invariant.long in
+    subst (λ b. HasLead c.index-entry.result.now.row (lead_at b.items c.args.k)) c.self.view_is
+    (lead_read c.self.inside.items.items c.self.inside.leads c.args.k c.index-entry.result.now c.self.invariant.long (omega arith) c.index-entry.ensures c.self.invariant.monic)

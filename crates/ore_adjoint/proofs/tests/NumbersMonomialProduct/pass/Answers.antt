@@ -1,7 +1,7 @@
 use Rattle.std.proofs.Common.{[], ◌∷◌, ◌++◌, pos, sym, ap, ◌∙◌}
 use Rattle.std.specs.declared.result.Result.TheVariants.{Ok}
 use Rattle.ore_adjoint.proofs.TestRing.{passes}
-use Rattle.ore_adjoint.proofs.tests.NumbersPass.pass.Goals as goal
+use Rattle.ore_adjoint.proofs.tests.NumbersMonomialProduct.pass.Goals as goal
 
 pub returns : goal.returns
 returns c =

@@ -1,0 +1,75 @@
+-- Operations of the ring on the operator zero, under any limits: none of them stops.
+--     plus_none, none_plus         a sum with zero is the other operand
+--     minus_none                   a difference from which zero is taken is the same
+--     times_none, none_times       a product with zero is zero
+--     adjoint_none                 the adjoint of zero is zero
+--     copied                       a copy gives what a definition gives that gives the operand
+use Rattle.std.proofs.Common.{◌≡◌, [], ◌∷◌, true, refl, sym, ap, ◌∙◌, subst, cond}
+use Rattle.std.specs.Prelude.{IfOk, IfErr}
+use Rattle.std.specs.declared.result.Result.{Result}
+use Rattle.std.specs.declared.result.Result.TheVariants.{Ok, Err}
+use Rattle.ore_algebra.specs.Free.{coefficient, none, plus, terms}
+use Rattle.ore_algebra.specs.Limits.{Limits, Cause, Overflow, Degree, where_test, fold_within}
+use Rattle.ore_rational.proofs.FractionLaws.{rationals}
+use Rattle.ore_monomial.specs.Gives.{Fails, Gives}
+use Rattle.ore_monomial.specs.Monomial.{plain_cmp}
+use Rattle.ore_monomial.specs.Signature.{Signature}
+use Rattle.ore_monomial.specs.LetterRule.{Operator}
+use Rattle.ore_monomial.specs.declared.order.Order.TheVariants.{DegLex}
+use Rattle.ore_monomial.specs.declared.stop.RingStop.{RingStop}
+use Rattle.ore_monomial.specs.declared.stop.RingStop.TheVariants.{Memory}
+use Rattle.ore_monomial.proofs.Operators
+use Rattle.ore_ring.specs.Ordered.{Ordered}
+use Rattle.ore_ring.specs.AdjointWithin.{adjoint_within, adjoint_term_within}
+use Rattle.ore_ring.specs.Terms.{Terms, falling}
+use Rattle.ore_ring.specs.Within.{shared_fits, all_shared_fit, plus_within, minus_within, opposite, degrees_fit, row_within, times_within}
+use Rattle.ore_ring.proofs.AllTerms.{all_terms}
+use Rattle.ore_ring.proofs.Falls.{falls_none, falling-none}
+use Rattle.ore_ring.proofs.MergeIs.{fits_is, fits_none}
+
+module _ (l : Limits) where
+  pub plus_none : (f : Operator rationals) → plus_within l f (none rationals plain_cmp) ≡ Ok f
+  unfolding plus_within none
+  plus_none f =
+      ap (λ b. where_test b (plus rationals plain_cmp f (none rationals plain_cmp)) Overflow) (fits_is l DegLex (terms rationals plain_cmp f) [] ∙ fits_none l DegLex (terms rationals plain_cmp f))
+      ∙ ap Ok (Operators.plus_none rationals f)
+
+  pub none_plus : (f : Operator rationals) → plus_within l (none rationals plain_cmp) f ≡ Ok f
+  unfolding plus_within all_shared_fit none
+  none_plus f =
+      ap (λ b. where_test b (plus rationals plain_cmp (none rationals plain_cmp) f) Overflow) (all_terms (λ t. shared_fits l t.1 (coefficient rationals plain_cmp f t.0)) DegLex [] (falls_none DegLex))
+      ∙ ap Ok (Operators.none-plus rationals f)
+
+  pub minus_none : (f : Operator rationals) → minus_within l f (none rationals plain_cmp) ≡ Ok f
+  unfolding opposite
+  minus_none f = ap (plus_within l f) (Operators.scale_none rationals (rationals.minus rationals.one)) ∙ plus_none f
+
+  fits_all : (ts : Terms) → degrees_fit l ts [] ≡ true
+  unfolding degrees_fit
+  fits_all [] = refl
+  fits_all (t ∷ ts) = fits_all ts
+
+  module _ (s : Signature) where
+    nothing_comes : (acc : Operator rationals) (ts : Terms) → fold_within (row_within l s []) acc ts ≡ Ok acc
+    unfolding row_within
+    nothing_comes acc [] = refl
+    nothing_comes acc (t ∷ ts) = nothing_comes acc ts
+
+    pub times_none : (f : Operator rationals) → times_within l s f (none rationals plain_cmp) ≡ Ok (none rationals plain_cmp)
+    unfolding times_within
+    times_none f =
+        ap (λ us. cond (degrees_fit l (falling s.order f) us) (fold_within (row_within l s us) (none rationals plain_cmp) (falling s.order f)) (Err Degree)) (falling-none s.order)
+        ∙ ap (λ b. cond b (fold_within (row_within l s []) (none rationals plain_cmp) (falling s.order f)) (Err Degree)) (fits_all (falling s.order f))
+        ∙ nothing_comes (none rationals plain_cmp) (falling s.order f)
+
+    pub none_times : (f : Operator rationals) → times_within l s (none rationals plain_cmp) f ≡ Ok (none rationals plain_cmp)
+    unfolding times_within degrees_fit
+    none_times f = ap (λ ts. cond (degrees_fit l ts (falling s.order f)) (fold_within (row_within l s (falling s.order f)) (none rationals plain_cmp) ts) (Err Degree)) (falling-none s.order)
+
+    pub adjoint_none : adjoint_within l s (none rationals plain_cmp) ≡ Ok (none rationals plain_cmp)
+    unfolding adjoint_within
+    adjoint_none = ap (fold_within (adjoint_term_within l s) (none rationals plain_cmp)) (falling-none s.order)
+
+pub copied : (r : Result Ordered RingStop) (f : Ordered) (given : Result (Operator rationals) Cause) → IfOk r (λ x. x ≡ f) → IfErr r (λ e. e ≡ Memory) → given ≡ Ok f.sum → Gives (λ (w : Ordered). w.sum) r given
+copied (Ok x) f given same memory e = e ∙ ap (λ (w : Ordered). Ok w.sum) (sym same)
+copied (Err x) f given same memory e = subst (λ (y : RingStop). Fails y given) (sym memory) tt
