@@ -3,20 +3,16 @@
 --     based_stops, based_gives   one more basis row
 --     begun_lines, monic_kept    what is kept still fits together
 --     begun_first                the number of rows that is kept
---     origins_next               the origins of the syzygies after one more row
 --     drop_at, drop_end          a list from a place on, inside it and past its end
 --     rows_start, rows_next, rows_stop, rows_end     the rows from a place on
 --     empty_kept                 before the first row
-use Rattle.std.proofs.Common.{◌≡◌, inl, inr, ℕ, zero, suc, ◌≤◌, ◌+◌, List, [], ◌∷◌, ◌++◌, length, map, drop, refl, sym, ap, ◌∙◌, subst, arith}
-use Rattle.std.specs.List.{All, AllZip, slice_get}
-use Rattle.std.specs.Option.{option_map}
+use Rattle.std.proofs.Common.{◌≡◌, ℕ, zero, suc, ◌≤◌, ◌+◌, List, [], ◌∷◌, ◌++◌, length, map, drop, refl, sym, ap, ◌∙◌, subst, arith}
+use Rattle.std.specs.List.{All, slice_get}
 use Rattle.std.specs.declared.option.Option.{Option}
 use Rattle.std.specs.declared.option.Option.TheVariants.{None, Some}
 use Rattle.std.specs.declared.result.Result.{Result}
 use Rattle.std.specs.declared.result.Result.TheVariants.{Ok, Err}
 use Rattle.std.proofs.lemmas.List.Elements.{All-nil}
-use Rattle.std.proofs.lemmas.Option.{slice_get-map}
-use Rattle.std.proofs.lemmas.Slice.Zip.{all_zipped_more}
 use Rattle.ore_algebra.specs.Limits.{Cause, program, ◌>>=◌}
 use Rattle.ore_rational.proofs.FractionLaws.{rationals, rational_inverses}
 use Rattle.ore_monomial.specs.Signature.{Signature}
@@ -27,26 +23,26 @@ use Rattle.ore_rows.specs.Arithmetic.{within}
 use Rattle.ore_rows.specs.Reduction.{Monic, AreMonic}
 use Rattle.ore_rows.specs.RowLead.{row_lead}
 use Rattle.ore_rows.specs.Rows.{Row, unit_row}
-use Rattle.ore_rows.specs.Run.{State, is_listed, made_monic}
-use Rattle.ore_rows.specs.Run as run
-use Rattle.ore_rows.specs.Stored.{OperatorMatrix, sums_of}
+use Rattle.ore_pairs.specs.Run.{State, is_listed, made_monic}
+use Rattle.ore_pairs.specs.Run as run
+use Rattle.ore_rows.specs.Stored.{sums_of}
 use Rattle.ore_rows.specs.StoredBasis.{StoredBasis, AllBelong, monics}
+use Rattle.ore_rows.specs.declared.choices.Origin.TheVariants as origin
 use Rattle.ore_pairs.specs.Listed.{is_in}
-use Rattle.ore_groebner.specs.Honest.{IsOrigin}
-use Rattle.ore_groebner.specs.Progressing.{lines_from, new_rows, pushed, based, state_of, zero_row_at, IsBegun, IsKept, IsNoted}
+use Rattle.ore_groebner.specs.Progressing.{entries_from, new_rows, pushed, based, state_of, IsBegun, IsKept}
 use Rattle.ore_groebner.specs.declared.progress.Progress.{Progress}
 
 module _ (s : Signature) (q k : ℕ) (r : Row rationals) (st : State rationals) where
   abbrev begun : Result (State rationals) Cause
   begun = run.begin_row rationals rational_inverses s.order (within program s) q k r st
 
-  pub begin_none : row_lead rationals s.order r ≡ None → begun ≡ Ok (record st { syzygies = st.syzygies ++ unit_row rationals q k ∷ [] })
+  pub begin_none : row_lead rationals s.order r ≡ None → begun ≡ Ok (record st { syzygies = st.syzygies ++ unit_row rationals q k ∷ []; origins = st.origins ++ origin.ZeroRow k ∷ [] })
   unfolding run.begin_row
-  begin_none e = ap (λ (x : Option Term). elim x [ None ↦ Ok (record st { syzygies = st.syzygies ++ unit_row rationals q k ∷ [] }) | Some t ↦ based st (made_monic rationals rational_inverses (within program s) r (unit_row rationals q k) t) ]) e
+  begin_none e = ap (λ (x : Option Term). elim x [ None ↦ Ok (record st { syzygies = st.syzygies ++ unit_row rationals q k ∷ []; origins = st.origins ++ origin.ZeroRow k ∷ [] }) | Some t ↦ based st (made_monic rationals rational_inverses (within program s) r (unit_row rationals q k) t) ]) e
 
   pub begin_some : (t : Term) → row_lead rationals s.order r ≡ Some t → begun ≡ based st (made_monic rationals rational_inverses (within program s) r (unit_row rationals q k) t)
   unfolding run.begin_row
-  begin_some t e = ap (λ (x : Option Term). elim x [ None ↦ Ok (record st { syzygies = st.syzygies ++ unit_row rationals q k ∷ [] }) | Some t ↦ based st (made_monic rationals rational_inverses (within program s) r (unit_row rationals q k) t) ]) e
+  begin_some t e = ap (λ (x : Option Term). elim x [ None ↦ Ok (record st { syzygies = st.syzygies ++ unit_row rationals q k ∷ []; origins = st.origins ++ origin.ZeroRow k ∷ [] }) | Some t ↦ based st (made_monic rationals rational_inverses (within program s) r (unit_row rationals q k) t) ]) e
 
 -- ---- one more basis row
 
@@ -72,8 +68,8 @@ based_gives st (Ok b) bs e = ap (λ bs. Ok (record st { basis = bs })) (same_ok 
 
 -- ---- what is kept
 
-no_lines : (n : ℕ) → lines_from n [] ≡ []
-unfolding lines_from
+no_lines : (n : ℕ) → entries_from n [] ≡ []
+unfolding entries_from
 no_lines n = refl
 
 none_new : new_rows [] ≡ 0
@@ -84,8 +80,8 @@ none_listed : (x y : ℕ) → is_in x y [] ≡ is_listed rationals x y []
 unfolding is_in is_listed
 none_listed x y = refl
 
-pub begun_lines : (p : Progress) (n : ℕ) → IsBegun p → lines_from n p.events.items ≡ []
-begun_lines p n b = ap (lines_from n) b.events ∙ no_lines n
+pub begun_lines : (p : Progress) (n : ℕ) → IsBegun p → entries_from n p.events.items ≡ []
+begun_lines p n b = ap (entries_from n) b.events ∙ no_lines n
 
 pub monic_kept : (s : Signature) (q : Progress) → IsBegun q → q.first ≡ length q.basis.items → AllBelong s q.basis.items → AreMonic rationals s.order (monics q.basis) → All (λ r. length r ≡ q.basis.width) q.syzygies.items → All (All (Belongs s)) q.syzygies.items → IsKept s q
 monic_kept s q begun first belongs monic wide of = record {
@@ -106,10 +102,6 @@ begun_first s p kept begun = counts (length p.basis.items) p.first (new_rows p.e
   where
     counts : (a f n : ℕ) → a ≡ f + n → n ≡ 0 → f ≡ a
     counts a f n h k = omega arith
-
-pub origins_next : (s : Signature) (a : OperatorMatrix) (k : ℕ) (row : List Ordered) (p q : Progress) → slice_get a.rows k ≡ Some row → p.basis.width ≡ length a.rows → IsNoted s k row p q → AllZip (IsOrigin s a []) p.origins.items p.syzygies.items → AllZip (IsOrigin s a []) q.origins.items q.syzygies.items
-origins_next s a k row p q at width (inl same) h = rw (same.1, same.0) h
-origins_next s a k row p q at width (inr new) h = rw (new.2, new.1) (all_zipped_more (IsOrigin s a []) p.origins.items p.syzygies.items (zero_row_at k) new.0 h (sums_of row, slice_get-map sums_of a.rows k ∙ ap (option_map sums_of) at, new.3, new.4 ∙ ap (λ n. unit_row rationals n k) width))
 
 -- ---- the rows from a place on
 
@@ -148,9 +140,9 @@ module _ (s : Signature) (rows : List (Row rationals)) where
   unfolding run.begin_rows
   rows_stop q k r st c e f = ap (λ rs. begin_at q k rs st) (drop_at rows k r e) ∙ (λ n. f n >>= λ st. begin_at q (suc k) (drop (suc k) rows) st)
 
-  pub rows_start : (p : Progress) → monics p.basis ≡ [] → IsBegun p → p.syzygies.items ≡ [] → run.begin rationals rational_inverses s.order (within program s) rows ≡ begin_at (length rows) 0 (drop 0 rows) (state_of p)
+  pub rows_start : (p : Progress) → monics p.basis ≡ [] → IsBegun p → p.syzygies.items ≡ [] → p.origins.items ≡ [] → run.begin rationals rational_inverses s.order (within program s) rows ≡ begin_at (length rows) 0 (drop 0 rows) (state_of p)
   unfolding run.begin
-  rows_start p basis begun syzygies = λ n. begin_at (length rows) 0 rows (record { basis = sym basis n; listed = sym (begun_lines p p.first begun) n; syzygies = map sums_of (sym syzygies n) })
+  rows_start p basis begun syzygies origins = λ n. begin_at (length rows) 0 rows (record { basis = sym basis n; listed = sym (begun_lines p p.first begun) n; syzygies = map sums_of (sym syzygies n); origins = sym origins n })
 
 pub empty_kept : (s : Signature) (p : Progress) (n m : ℕ) → p.basis ≡ record { cols = n; width = m; items = [] } → p.first ≡ 0 → IsBegun p → p.syzygies.items ≡ [] → IsKept s p
 empty_kept s p n m basis first begun syzygies = monic_kept s p begun (first ∙ ap (λ (b : StoredBasis). length b.items) (sym basis)) (subst (λ (b : StoredBasis). AllBelong s b.items) (sym basis) (All-nil _)) (subst (λ (b : StoredBasis). AreMonic rationals s.order (monics b)) (sym basis) (All-nil _)) (subst (All (λ (r : List Ordered). length r ≡ p.basis.width)) (sym syzygies) (All-nil _)) (subst (All (All (Belongs s))) (sym syzygies) (All-nil _))

@@ -1,9 +1,8 @@
 -- A complete run is exact.
 --     complete_lists           each pair of a complete state is listed
 --     shown_inside             times the cofactor rows, the syzygies of the treated pairs go into the module of those of the state
---     back_inside              what is left of a unit row by way of the basis and back is there too
 --     complete_exact           a row of the signature takes a to zeros exactly where it is a combination of the syzygies
-use Rattle.std.proofs.Common.{◌≡◌, inl, inr, ℕ, zero, suc, ◌+◌, ◌<◌, List, [], ◌∷◌, length, sym, ap, ◌∙◌, subst, arith}
+use Rattle.std.proofs.Common.{◌≡◌, ℕ, suc, ◌<◌, List, [], ◌∷◌, length, sym, ap, ◌∙◌, subst, arith}
 use Rattle.std.specs.List.{AllByRecursion}
 use Rattle.std.proofs.lemmas.List.{length-map}
 use Rattle.ore_algebra.specs.Domain.{Domain}
@@ -11,26 +10,26 @@ use Rattle.ore_monomial.specs.Signature.{Signature, IsLawful}
 use Rattle.ore_monomial.specs.Term.{Term}
 use Rattle.ore_monomial.specs.declared.order.Order.{Order}
 use Rattle.ore_rows.specs.Rows.{Row, RowOf, AreLong, zero_row, unit_row, row_minus, combine, InRowModule, IsExact}
-use Rattle.ore_rows.specs.RowLead.{coefficient_at}
 use Rattle.ore_rows.specs.Reduction.{Monic, rows_of, cofactors_of, leads_of, origin, row_at}
-use Rattle.ore_rows.specs.Run.{State, IsComplete, constant, from_rows}
-use Rattle.ore_rows.proofs.Differences.{row_minus_self, row_minus_back}
+use Rattle.ore_pairs.specs.Run.{State, IsComplete, from_rows}
+use Rattle.ore_rows.specs.declared.choices.Origin.{Origin}
+use Rattle.ore_rows.specs.declared.choices.Origin.TheVariants.{ZeroRow, Event}
+use Rattle.ore_rows.proofs.Differences.{row_minus_back}
 use Rattle.ore_rows.proofs.RowLaws as Rows
-use Rattle.ore_rows.proofs.RowModules.{module_zero, module_minus}
-use Rattle.ore_rows.proofs.UnitRows.{length-unit_row}
 use Rattle.ore_pairs.specs.PairList.{Entry, Pair, Skip, AreAllListed, syzygies}
 use Rattle.ore_pairs.proofs.Exact.{left_over, left_inside}
 use Rattle.ore_pairs.proofs.Generate.{combination_vanishes, combination_inside, syzygies_generate}
 use Rattle.ore_pairs.proofs.Syzygies.{IsWithin, within_lawful, combine-syzygy, long_syzygies}
-use Rattle.ore_groebner.specs.RunLaws.{entries_of, IsShown}
+use Rattle.ore_groebner.specs.RunLaws.{AreShown}
 use Rattle.ore_groebner.proofs.Growing.{map_inside}
-use Rattle.ore_groebner.proofs.Holding.{AreBack, Holds, leads_are, long_rows, wide_cofactors, of_rows, wide_syzygies, vanishing}
+use Rattle.ore_groebner.proofs.Holding.{Holds, leads_are, long_rows, wide_cofactors, of_rows, wide_syzygies, vanishing}
 use Rattle.ore_groebner.proofs.Listing.{is_listed_to}
 use Rattle.ore_groebner.proofs.Opening.{at_slice, slice_there}
-use Rattle.ore_groebner.proofs.Returning.{from_rows-none, from_rows-some, length-from_rows, long_from_rows, of_from_rows, combine-from, keeps}
+use Rattle.ore_groebner.proofs.Returning.{length-from_rows, long_from_rows, of_from_rows, keeps}
+use Rattle.ore_groebner.proofs.Sources.{from_inside}
 
 module _ (K : Domain) (st : State K) where
-  complete_lists : IsComplete K st → AreAllListed (leads_of st.basis) (entries_of st.listed)
+  complete_lists : IsComplete K st → AreAllListed (leads_of st.basis) st.listed
   unfolding IsComplete
   complete_lists complete i j l h e =
       let jl : j < length st.basis = map_inside (λ (b : Monic (Row K)). b.lead) st.basis j h in
@@ -41,37 +40,15 @@ module _ (K : Domain) (st : State K) where
       is_listed_to K i j st.listed (complete i j x.0 y.0 x.1 y.1 l (ap (λ (t : Term). t.column) (sym ex) ∙ e ∙ ap (λ (t : Term). t.column) ey))
 
 module _ (K : Domain) (s : Signature) (lawful : IsLawful s) where
-  shown_inside : (q : ℕ) (leads : List Term) (cofactors l : List (Row K)) → AreLong K q cofactors → (es : List (Entry K)) → AllByRecursion (IsWithin K (length cofactors)) es → AllByRecursion (IsShown K s q leads cofactors l) es
+  shown_inside : (q : ℕ) (leads : List Term) (cofactors : List (Row K)) (os : List Origin) (l : List (Row K)) → AreLong K q cofactors → AreLong K q l → (k : ℕ) (es : List (Entry K)) → AllByRecursion (IsWithin K (length cofactors)) es → AreShown K s q leads cofactors os l k es
       → AllByRecursion (λ r. InRowModule K s q l (combine K s q r cofactors)) (syzygies K s (length cofactors) leads es)
   unfolding syzygies
-  shown_inside q leads cofactors l long [] w h = tt
-  shown_inside q leads cofactors l long (Pair i j steps ∷ es) w h = (
-    subst (InRowModule K s q l) (sym (combine-syzygy K s lawful q leads cofactors i j steps long w.0.0 w.0.1 w.0.2)) h.0,
-    shown_inside q leads cofactors l long es w.1 h.1,
+  shown_inside q leads cofactors os l long ll k [] w h = tt
+  shown_inside q leads cofactors os l long ll k (Pair i j steps ∷ es) w h = (
+    subst (InRowModule K s q l) (sym (combine-syzygy K s lawful q leads cofactors i j steps long w.0.0 w.0.1 w.0.2)) (from_inside K s lawful q os l ll (Event k) _ h.0),
+    shown_inside q leads cofactors os l long ll (suc k) es w.1 h.1,
   )
-  shown_inside q leads cofactors l long (Skip i j via ∷ es) w h = shown_inside q leads cofactors l long es w.1 h.1
-
-  module _ (o : Order) (q : ℕ) (basis : List (Monic (Row K))) (l : List (Row K)) (wide : AreLong K q (cofactors_of basis)) (long : AreLong K q l) where
-    abbrev multiples : ℕ → List (Row K) → List (Row K)
-    multiples i rs = from_rows K o (length basis) i rs
-
-    abbrev Left : ℕ → Row K → Type 0
-    Left k r = InRowModule K s q l (row_minus K (unit_row K q k) (combine K s q r (cofactors_of basis)))
-
-    back_inside : (i k : ℕ) (rs : List (Row K)) → AreBack K s o q i k rs basis l → (j m : ℕ) → m ≡ k + j → j < length rs → Left m (row_at (multiples i rs) j)
-    back_inside i k [] h j m e lt = absurd (omega arith)
-    back_inside i k (r ∷ rs) (inl (none, mem, h)) zero m e lt =
-        let same : k ≡ m = omega arith in
-        subst (λ m. Left m (row_at (multiples i (r ∷ rs)) 0)) same (subst (λ rows. Left k (row_at rows 0)) (sym (from_rows-none K s lawful o (length basis) i r rs none))
-        (module_minus K s lawful q l long (unit_row K q k) _ mem (subst (InRowModule K s q l) (sym (Rows.combine-zero K s (length basis) q (cofactors_of basis) wide)) (module_zero K s lawful q l long))))
-    back_inside i k (r ∷ rs) (inl (none, mem, h)) (suc j) m e lt =
-        subst (λ rows. Left m (row_at rows (suc j))) (sym (from_rows-none K s lawful o (length basis) i r rs none)) (back_inside i (suc k) rs h j m (omega arith) (omega arith))
-    back_inside i k (r ∷ rs) (inr (t, some, b, h)) zero m e lt =
-        let same : k ≡ m = omega arith in
-        subst (λ m. Left m (row_at (multiples i (r ∷ rs)) 0)) same (subst (λ rows. Left k (row_at rows 0)) (sym (from_rows-some K s lawful o (length basis) i r rs t some))
-        (subst (InRowModule K s q l) (sym (ap (row_minus K (unit_row K q k)) (combine-from K s lawful (λ b. b.cofactor) q basis wide i (constant K (coefficient_at K r t)) b.0 ∙ b.2) ∙ row_minus_self K (unit_row K q k) ∙ ap (zero_row K) (length-unit_row K q k))) (module_zero K s lawful q l long)))
-    back_inside i k (r ∷ rs) (inr (t, some, b, h)) (suc j) m e lt =
-        subst (λ rows. Left m (row_at rows (suc j))) (sym (from_rows-some K s lawful o (length basis) i r rs t some)) (back_inside (suc i) (suc k) rs h j m (omega arith) (omega arith))
+  shown_inside q leads cofactors os l long ll k (Skip i j via ∷ es) w h = shown_inside q leads cofactors os l long ll (suc k) es w.1 h.1
 
   module _ (o : Order) (n : ℕ) (a : List (Row K)) (long : AreLong K n a) (of : AllByRecursion (RowOf K s) a) (st : State K) (h : Holds K s o n a st) (complete : IsComplete K st) where
     abbrev q : ℕ
@@ -84,7 +61,7 @@ module _ (K : Domain) (s : Signature) (lawful : IsLawful s) where
     leads = leads_of st.basis
 
     abbrev es : List (Entry K)
-    es = entries_of st.listed
+    es = st.listed
 
     abbrev from : List (Row K)
     from = from_rows K o size 0 a
@@ -101,10 +78,10 @@ module _ (K : Domain) (s : Signature) (lawful : IsLawful s) where
     long_from : AreLong K size (from_rows K o (length st.basis) 0 a)
     long_from = long_from_rows K s lawful o size 0 a
 
-    within : AllByRecursion (IsWithin K (length (leads_of st.basis))) (entries_of st.listed)
+    within : AllByRecursion (IsWithin K (length (leads_of st.basis))) st.listed
     within = within_lawful K s o n (rows_of st.basis) leads [] es h.lines.lawful
 
-    within_size : AllByRecursion (IsWithin K (length st.basis)) (entries_of st.listed)
+    within_size : AllByRecursion (IsWithin K (length st.basis)) st.listed
     within_size = subst (λ m. AllByRecursion (IsWithin K m) es) (length-map st.basis (λ b. b.lead)) within
 
     -- a row of cofactors by way of the basis
@@ -122,7 +99,7 @@ module _ (K : Domain) (s : Signature) (lawful : IsLawful s) where
     all_inside =
         let e = length-map st.basis (λ (b : Monic (Row K)). b.cofactor) in
         subst (λ m. AllByRecursion (λ r. InRowModule K s q st.syzygies (combine K s q r (cofactors_of st.basis))) (syzygies K s m leads es)) e
-        (shown_inside q leads (cofactors_of st.basis) st.syzygies wide es (subst (λ m. AllByRecursion (IsWithin K m) es) (sym e) within_size) h.lines.shown)
+        (shown_inside q leads (cofactors_of st.basis) st.origins st.syzygies wide long_kernel 0 es (subst (λ m. AllByRecursion (IsWithin K m) es) (sym e) within_size) h.lines.shown)
 
     returned : (c : Row K) → InRowModule K s size (syzygies K s size leads es) (through c) → InRowModule K s q st.syzygies (combine K s q (through c) (cofactors_of st.basis))
     unfolding InRowModule
@@ -135,7 +112,7 @@ module _ (K : Domain) (s : Signature) (lawful : IsLawful s) where
         subst (λ m. InRowModule K s m st.syzygies (left_over K s lawful size m from (cofactors_of st.basis) c)) e
         (left_inside K s lawful size from (cofactors_of st.basis) long_from (subst (λ m. AreLong K m (cofactors_of st.basis)) (sym e) wide) st.syzygies (subst (λ m. AreLong K m st.syzygies) (sym e) long_kernel)
         (λ k kn. subst (λ m. InRowModule K s m st.syzygies (row_minus K (unit_row K m k) (combine K s m (row_at from k) (cofactors_of st.basis)))) (sym e)
-        (back_inside o q st.basis st.syzygies wide long_kernel 0 0 a h.back k k (let z : k ≡ 0 + k = omega arith in z) (subst (λ m. k < m) e kn)))
+        (from_inside K s lawful q st.origins st.syzygies long_kernel (ZeroRow k) _ ((keeps K s lawful o n a long st h).left k (subst (λ m. k < m) e kn))))
         c (lc ∙ sym e) oc)
 
     kernel_inside : (c : Row K) → length c ≡ q → RowOf K s c → combine K s n c a ≡ zero_row K n → InRowModule K s q st.syzygies c
@@ -149,4 +126,4 @@ module _ (K : Domain) (s : Signature) (lawful : IsLawful s) where
 
     pub complete_exact : IsExact K s n a st.syzygies
     unfolding IsExact
-    complete_exact c lc oc = (kernel_inside c lc oc, module_vanishes c)
+    complete_exact = (long_kernel, λ c lc oc. (kernel_inside c lc oc, module_vanishes c))

@@ -1,12 +1,11 @@
 -- How a run ends.
---     refusal_halts      the chooser refuses
+--     answered_in, refusal_halts    the chooser refuses
 --     refusal_spent      it says that the budget is spent only where its rule allows it
 --     stop_in, stop_halts    a choice stops
 --     stop_not_spent     then the budget isn't spent
 --     runs_after         which runs are given after a halt
 --     all_complete       each pair is listed, so the state is complete
 --     IsEnded            the parts of a complete run, made of the progress
---     first_same         the number of first rows stays
 --     led_honest         the parts of a complete run
 use Rattle.std.proofs.Common.{◌≡◌, ℕ, Bool, List, [], ◌∷◌, ◌++◌, length, refl, sym, ap, ◌∙◌, subst, arith}
 use Rattle.std.proofs.Common.{inr}
@@ -19,33 +18,39 @@ use Rattle.ore_rational.proofs.FractionLaws.{rationals}
 use Rattle.ore_monomial.specs.Signature.{Signature}
 use Rattle.ore_monomial.specs.Term.{Term}
 use Rattle.ore_ring.specs.Belongs.{Belongs}
-use Rattle.ore_rows.specs.Run.{State, Stopped, IsComplete, from_rows}
+use Rattle.ore_pairs.specs.Run.{State, Stopped, IsComplete, from_rows}
 use Rattle.ore_rows.specs.Stored.{OperatorMatrix, rows_of}
 use Rattle.ore_rows.specs.StoredBasis.{StoredBasis, AllBelong, monic_of, monics}
 use Rattle.ore_rows.specs.declared.choices.Choice.{Choice}
-use Rattle.ore_groebner.specs.Choosing.{present, AreAllListed}
+use Rattle.ore_groebner.specs.Choosing.{present, pairs_of, AreAllListed, IsAnswer}
 use Rattle.ore_groebner.specs.Following.{step_of, IsRefusal, IsRefusalAllowed, IsStopIn, IsStopOf, IsLed}
-use Rattle.ore_groebner.specs.Honest.{starts, IsHonest, IsStoppedAt, IsHalted, MayBeSpent, HasOneMoreRun, HasRunsAfter}
-use Rattle.ore_groebner.specs.Progressing.{state_of, lines_from, IsKept}
+use Rattle.ore_groebner.specs.Honest.{starts, pairs_in, IsHonest, IsStoppedAt, IsHalted, MayBeSpent, HasOneMoreRun, HasRunsAfter}
+use Rattle.ore_groebner.specs.Progressing.{state_of, entries_from, choices_of, IsKept}
 use Rattle.ore_groebner.specs.Shown.{Shown, shown_of}
+use Rattle.ore_groebner.specs.declared.chooser.Next.{Next}
+use Rattle.ore_groebner.specs.declared.chooser.Next.TheVariants as next
 use Rattle.ore_groebner.specs.declared.outcome.Finished.{Finished}
 use Rattle.ore_groebner.specs.declared.outcome.Halt.{Halt}
 use Rattle.ore_groebner.specs.declared.outcome.Halt.TheVariants as halt
 use Rattle.ore_groebner.specs.declared.outcome.StopAt.{StopAt}
 use Rattle.ore_groebner.specs.declared.outcome.StopAt.TheVariants as at
 use Rattle.ore_groebner.specs.declared.progress.Progress.{Progress}
-use Rattle.ore_groebner.proofs.Leading.{led_reached, spent_here}
-use Rattle.ore_groebner.proofs.Limited.{refused, given}
+use Rattle.ore_groebner.proofs.Leading.{led_reached, led_pairs, spent_here}
+use Rattle.ore_groebner.proofs.Limited.{refused}
 use Rattle.ore_groebner.proofs.Opened.{lead_there}
+use Rattle.ore_groebner.proofs.SamePairs.{listed_pairs, answer_same}
 
 pub stop_not_spent : (s : Signature) (st : State rationals) (c : Choice) (h : Halt) → IsStopOf s st c h → h ≡ halt.Spent → ⊥
 stop_not_spent s st c h stops e = subst (IsStopOf s st c) e stops
 
 module _ (s : Signature) (a : OperatorMatrix) (allows : Shown → List (ℕ × ℕ) → Choice → Bool) (p : Progress) where
   module _ (runs : List (List Choice)) (budget : ℕ) (replays : Bool) (kept : List (List Choice)) where
+    answered_in : IsLed s a allows (present runs) p → (x : Next) → IsAnswer p.basis p.listed runs budget replays kept x → IsAnswer p.basis (pairs_in (state_of p)) runs budget replays kept x
+    answered_in led x h = subst (λ ps. IsAnswer p.basis ps runs budget replays kept x) (sym (led_pairs s a allows (present runs) p led)) (answer_same p.listed (pairs_of (present runs)) (listed_pairs p.listed (present runs) led.lists) p.basis runs budget replays kept x h)
+
     pub refusal_halts : IsLed s a allows (present runs) p → (h : Halt) → IsRefusal p.basis p.listed runs budget replays kept h → IsHalted s a runs budget replays kept h
-    refusal_halts led halt.Spent r = record { last = state_of p; reached = led_reached s a allows (present runs) p led; basis = p.basis; pairs = p.listed; basis_is = refl; pairs_are = led.kept.listed; answered = r }
-    refusal_halts led halt.NoLawful r = record { last = state_of p; reached = led_reached s a allows (present runs) p led; basis = p.basis; pairs = p.listed; basis_is = refl; pairs_are = led.kept.listed; answered = r }
+    refusal_halts led halt.Spent r = record { last = state_of p; reached = led_reached s a allows (present runs) p led; basis = p.basis; basis_is = refl; answered = answered_in led next.Spent r }
+    refusal_halts led halt.NoLawful r = record { last = state_of p; reached = led_reached s a allows (present runs) p led; basis = p.basis; basis_is = refl; answered = answered_in led next.NoLawful r }
     refusal_halts led halt.Memory r = tt
     refusal_halts led (halt.Overflow place) r = absurd r
     refusal_halts led (halt.Degree place) r = absurd r
@@ -71,8 +76,8 @@ module _ (s : Signature) (a : OperatorMatrix) (allows : Shown → List (ℕ × �
   runs_after before given start begun more budget replays kept halt.NoLawful h = more
   runs_after before given start begun more budget replays kept halt.Memory h = inr more
 
-  pub refusal_spent : (cs : List Choice) → IsLed s a allows cs p → (allows_spent : Shown → List (ℕ × ℕ) → Bool) (h : Halt) → IsRefusalAllowed allows_spent (shown_of p.basis) p.listed h → h ≡ halt.Spent → MayBeSpent s a allows_spent cs
-  refusal_spent cs led allows_spent h r e = spent_here s a allows cs p led allows_spent (subst (IsRefusalAllowed allows_spent (shown_of p.basis) p.listed) e r)
+  pub refusal_spent : (cs : List Choice) → IsLed s a allows cs p → (allows_spent : Shown → List (ℕ × ℕ) → Bool) (h : Halt) → IsRefusalAllowed allows_spent (shown_of p.basis) (pairs_of cs) h → h ≡ halt.Spent → MayBeSpent s a allows_spent cs
+  refusal_spent cs led allows_spent h r e = spent_here s a allows cs p led allows_spent (subst (IsRefusalAllowed allows_spent (shown_of p.basis) (pairs_of cs)) e r)
 
   all_complete : IsKept s p → AreAllListed p.basis p.listed → IsComplete rationals (state_of p)
   unfolding IsComplete
@@ -81,7 +86,7 @@ module _ (s : Signature) (a : OperatorMatrix) (allows : Shown → List (ℕ × �
       let inside = slice_get_within (monics p.basis) j y f in
       sym (kept.listed i j) ∙ all i j less (omega arith) (ap (λ (t : Term). t.column) (lead_there p.basis i x e) ∙ columns ∙ ap (λ (t : Term). t.column) (sym (lead_there p.basis j y f)))
 
-  -- where the rows of the matrix are multiples of the first n rows of the basis
+  -- where the rows of the matrix are multiples of the n rows of the basis
   pub record IsEnded (n : ℕ) (f : Finished) : Type 0 where
     pub basis : f.basis ≡ p.basis
     pub events : f.events ≡ p.events.items
@@ -91,23 +96,20 @@ module _ (s : Signature) (a : OperatorMatrix) (allows : Shown → List (ℕ × �
     pub from_cols : f.from.cols ≡ n
     pub from_of : All (All (Belongs s)) f.from.rows
 
-  -- the run has as many first rows as it began with
-  pub first_same : (cs : List Choice) (began : Progress) → IsLed s a allows cs p → starts s a ≡ Ok (state_of began) → began.first ≡ length began.basis.items → began.first ≡ p.first
-  first_same cs began led e f = f ∙ sym (length-map began.basis.items monic_of) ∙ ap (λ (st : State rationals). length st.basis) (given (state_of began) led.start (sym e ∙ led.begun)) ∙ sym led.first
-
-  pub led_honest : (cs : List Choice) → IsLed s a allows cs p → AreAllListed p.basis p.listed → (n : ℕ) → n ≡ p.first → (f : Finished) → IsEnded n f → IsHonest s a cs f
-  led_honest cs led all n first f e = record {
+  pub led_honest : (cs : List Choice) → IsLed s a allows cs p → AreAllListed p.basis p.listed → (n : ℕ) → n ≡ length p.basis.items → (f : Finished) → IsEnded n f → IsHonest s a cs f
+  led_honest cs led all n size f e = record {
     start = led.start;
     last = state_of p;
     begun = led.begun;
     led = led.led;
     complete = all_complete led.kept all;
     basis = ap monics (sym e.basis);
-    listed = (λ k. lines_from (led.first k) (sym e.events k));
+    listed = (λ k. entries_from (led.first k) (sym e.events k));
     syzygies = ap rows_of (sym e.syzygies);
-    origins = rw (e.origins, e.syzygies) led.origins;
-    from = e.from ∙ ap (λ m. from_rows rationals s.order m 0 (rows_of a)) (first ∙ led.first);
-    from_cols = e.from_cols ∙ first ∙ led.first;
+    origins = sym e.origins;
+    events = ap choices_of e.events ∙ led.events;
+    from = e.from ∙ ap (λ m. from_rows rationals s.order m 0 (rows_of a)) (size ∙ sym (length-map p.basis.items monic_of));
+    from_cols = e.from_cols ∙ size ∙ sym (length-map p.basis.items monic_of);
     syzygy_cols = ap (λ (m : OperatorMatrix). m.cols) e.syzygies ∙ led.width;
     cols = ap (λ (b : StoredBasis). b.cols) e.basis ∙ led.cols;
     width = ap (λ (b : StoredBasis). b.width) e.basis ∙ led.width;

@@ -3,14 +3,16 @@
 --     present-cons, earlier-cons         the parts of more runs
 --     present-with_choice, earlier-with_choice, treats_in-with_choice    what the last run, the others and all treat with one more choice
 --     present-start, earlier-start       the same of a run that begins
+--     treats_in-start                    the same of what all treat
+--     afforded_start, afforded_next      a run that begins, and a choice that the budget allows, stay within the budget
 --     runs_are                           the runs are the others and the last
 --     one_more                           the runs of which the others are those that were there before
 --     is_chosen-push, lists_next         the pairs of some choices, and of one more
-use Rattle.std.proofs.Common.{◌≡◌, ◌≢◌, ℕ, ◌+◌, Bool, true, false, List, [], ◌∷◌, ◌++◌, refl, sym, ap, ◌∙◌, arith}
+use Rattle.std.proofs.Common.{◌≡◌, ◌≢◌, ℕ, ◌+◌, ◌≤◌, Bool, true, false, List, [], ◌∷◌, ◌++◌, refl, sym, ap, ◌∙◌, arith}
 use Rattle.std.specs.Prelude.{◌&&◌, ◌||◌, nat_eq}
 use Rattle.ore_rows.specs.declared.choices.Choice.{Choice}
 use Rattle.ore_rows.specs.declared.choices.Choice.TheVariants.{Treat, Skip}
-use Rattle.ore_groebner.specs.Choosing.{first_of, second_of, is_chosen, treats, treats_in, present, with_choice, ListsChoices}
+use Rattle.ore_groebner.specs.Choosing.{first_of, second_of, is_chosen, treats, treats_in, present, with_choice, ListsChoices, IsAfforded, AreAfforded}
 use Rattle.ore_groebner.specs.Following.{earlier}
 use Rattle.ore_groebner.specs.Honest.{HasOneMoreRun}
 use Rattle.ore_groebner.specs.Progressing.{Adds}
@@ -74,6 +76,22 @@ pub earlier-start : (runs : List (List Choice)) → earlier (runs ++ [] ∷ []) 
 unfolding earlier
 earlier-start [] = refl
 earlier-start (cs ∷ runs) = earlier-cons cs (runs ++ [] ∷ []) (start-begun runs []) ∙ ap (λ rs. cs ∷ rs) (earlier-start runs)
+
+treats_in-start : (runs : List (List Choice)) → treats_in (runs ++ [] ∷ []) ≡ treats_in runs
+unfolding treats_in treats
+treats_in-start [] = refl
+treats_in-start (cs ∷ runs) = ap (λ n. treats cs + n) (treats_in-start runs)
+
+pub afforded_start : (runs now : List (List Choice)) (budget new : ℕ) → now ≡ runs ++ [] ∷ [] → new ≡ budget → AreAfforded runs budget → AreAfforded now new
+afforded_start runs now budget new e f h = rw (e, f, treats_in-start runs) h
+
+treats_allowed : (runs : List (List Choice)) (budget : ℕ) (c : Choice) → AreAfforded runs budget → IsAfforded runs budget c → treats_in runs + treats (c ∷ []) ≤ budget
+unfolding treats
+treats_allowed runs budget (Treat i j) h k = omega arith
+treats_allowed runs budget (Skip i j via) h k = omega arith
+
+pub afforded_next : (runs now : List (List Choice)) (budget new : ℕ) (c : Choice) → runs ≢ [] → now ≡ with_choice runs c → new ≡ budget → IsAfforded runs budget c → AreAfforded runs budget → AreAfforded now new
+afforded_next runs now budget new c begun e f k h = rw (e, f, treats_in-with_choice runs c begun) (treats_allowed runs budget c h k)
 
 pub runs_are : (runs : List (List Choice)) → runs ≢ [] → runs ≡ earlier runs ++ present runs ∷ []
 unfolding present earlier

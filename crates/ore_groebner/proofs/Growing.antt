@@ -4,26 +4,26 @@
 --     combined, s_row_is       the combination of two rows with their leads is the row of a pair
 --     after_same, s_row_same, left_same    steps, pairs, and what steps leave of a pair, by the first rows
 --     pair_same, new_same, below_same, skipped_same, treated_same    pairs of the first rows
---     lawful_same, shown_same  lists of pairs, and what they show of cofactor rows
+--     lawful_same, shown_same, shown_push    lists of pairs, and what they show of cofactor rows
 --     inside_map, map_inside, map_longer, map_grow, map_last    places in what is made of each item of a list
---     module_more, module_added    a row module with more rows has all that it had, and these rows
-use Rattle.std.proofs.Common.{◌≡◌, ℕ, zero, suc, ◌<◌, ◌≤◌, List, [], ◌∷◌, ◌++◌, length, map, get_or, refl, sym, ap, ◌∙◌, subst, arith}
+use Rattle.std.proofs.Common.{◌≡◌, ℕ, zero, suc, ◌+◌, ◌<◌, ◌≤◌, List, [], ◌∷◌, ◌++◌, length, map, get_or, refl, sym, ap, ◌∙◌, subst, arith}
 use Rattle.std.specs.List.{AllByRecursion}
-use Rattle.std.proofs.ByRecursion.{All-append, All-from_get_or, All-get_or}
 use Rattle.std.proofs.lemmas.List.{length-append, length-map}
 use Rattle.ore_algebra.specs.Domain.{Domain}
 use Rattle.ore_algebra.specs.Free.{single}
 use Rattle.ore_monomial.specs.Monomial.{Divides, lcm, quotient, plain_cmp}
-use Rattle.ore_monomial.specs.Signature.{Signature, IsLawful}
+use Rattle.ore_monomial.specs.Signature.{Signature}
 use Rattle.ore_monomial.specs.Term.{Term, term_cmp, shift}
 use Rattle.ore_monomial.specs.declared.order.Order.{Order}
-use Rattle.ore_rows.specs.Rows.{Row, AreLong, row_minus, row_scale, InRowModule}
+use Rattle.ore_rows.specs.Rows.{Row, row_minus, row_scale}
 use Rattle.ore_rows.specs.Reduction.{Step, row_at, step_operator, after}
-use Rattle.ore_rows.proofs.RowModules.{module_row, module_combine}
+use Rattle.ore_rows.specs.declared.choices.Origin.{Origin}
+use Rattle.ore_rows.specs.declared.choices.Origin.TheVariants.{Event}
 use Rattle.ore_pairs.specs.Steps.{lead_at, pair_term, s_row}
 use Rattle.ore_pairs.specs.PairList.{Entry, Pair, Skip, IsNewPair, IsBelowStep, IsTreated, IsSkipped, AreLawful}
 use Rattle.ore_pairs.proofs.Syzygies.{AreStepsWithin, IsWithin}
-use Rattle.ore_groebner.specs.RunLaws.{IsShown}
+use Rattle.ore_groebner.specs.RunLaws.{IsFrom, IsShown, AreShown}
+use Rattle.ore_groebner.proofs.Sources.{Grown, grown_event, grown_no_event}
 
 abbrev pub SameRows : {K : Domain} → ℕ → List (Row K) → List (Row K) → Type 0
 SameRows n rows more = (i : ℕ) → i < n → row_at more i ≡ row_at rows i
@@ -108,14 +108,19 @@ module _ (K : Domain) (s : Signature) where
             let il : i < length leads = let a = new.ordered in let b = new.within in omega arith in
             ((new_same before i j new, skipped_same before i j via il new.within h.0.1), lawful_same (Skip i j via ∷ before) es h.1)
 
-    pub shown_same : (q : ℕ) (cofactors more : List (Row K)) (syzygies others : List (Row K)) → SameRows (length leads) cofactors more → ((z : Row K) → InRowModule K s q syzygies z → InRowModule K s q others z)
-        → (es : List (Entry K)) → AllByRecursion (IsWithin K (length leads)) es → AllByRecursion (IsShown K s q leads cofactors syzygies) es → AllByRecursion (IsShown K s q longer more others) es
-    shown_same q cofactors more syzygies others same wider [] w h = tt
-    shown_same q cofactors more syzygies others same wider (Pair i j steps ∷ es) w h = (
-      subst (InRowModule K s q others) (sym (left_same (length leads) cofactors more leads longer same same_leads i j steps w.0.0 w.0.1 w.0.2)) (wider _ h.0),
-      shown_same q cofactors more syzygies others same wider es w.1 h.1,
-    )
-    shown_same q cofactors more syzygies others same wider (Skip i j via ∷ es) w h = (tt, shown_same q cofactors more syzygies others same wider es w.1 h.1)
+    module _ (q n : ℕ) (os : List Origin) (rs : List (Row K)) (now : List Origin) (syzygies : List (Row K)) (g : Grown K n os rs now syzygies) (cofactors more : List (Row K)) (same : SameRows (length leads) cofactors more) where
+      pub shown_same : (k : ℕ) (es : List (Entry K)) → k + length es ≤ n → AllByRecursion (IsWithin K (length leads)) es → AreShown K s q leads cofactors os rs k es → AreShown K s q longer more now syzygies k es
+      shown_same k [] l w h = tt
+      shown_same k (Pair i j steps ∷ es) l w h = (
+        subst (IsFrom K q now syzygies (Event k)) (sym (left_same (length leads) cofactors more leads longer same same_leads i j steps w.0.0 w.0.1 w.0.2)) (grown_event K q n os rs now syzygies g k (omega arith) _ h.0),
+        shown_same (suc k) es (omega arith) w.1 h.1,
+      )
+      shown_same k (Skip i j via ∷ es) l w h = (grown_no_event K q n os rs now syzygies g k (omega arith) h.0, shown_same (suc k) es (omega arith) w.1 h.1)
+
+-- one more entry
+pub shown_push : (K : Domain) (s : Signature) (q : ℕ) (leads : List Term) (cofactors : List (Row K)) (origins : List Origin) (syzygies : List (Row K)) (k : ℕ) (es : List (Entry K)) (e : Entry K) → AreShown K s q leads cofactors origins syzygies k es → IsShown K s q leads cofactors origins syzygies (k + length es) e → AreShown K s q leads cofactors origins syzygies k (es ++ e ∷ [])
+shown_push K s q leads cofactors origins syzygies k [] e h x = let z : k + 0 ≡ k = omega arith in (subst (λ k. IsShown K s q leads cofactors origins syzygies k e) z x, tt)
+shown_push K s q leads cofactors origins syzygies k (y ∷ es) e h x = let z : k + suc (length es) ≡ suc k + length es = omega arith in (h.0, shown_push K s q leads cofactors origins syzygies (suc k) es e h.1 (subst (λ k. IsShown K s q leads cofactors origins syzygies k e) z x))
 
 -- ---- a list with more behind it
 
@@ -136,25 +141,3 @@ map_grow f d (x ∷ xs) more (suc i) l = map_grow f d xs more i (omega arith)
 pub map_last : {X Y : Type 0} (f : X → Y) (d : Y) (xs : List X) (x : X) → get_or (map f (xs ++ x ∷ [])) (length xs) d ≡ f x
 map_last f d [] x = refl
 map_last f d (y ∷ xs) x = map_last f d xs x
-
-all_left : {X : Type 0} (P : X → Type 0) (xs ys : List X) → AllByRecursion P (xs ++ ys) → AllByRecursion P xs
-all_left P [] ys h = tt
-all_left P (x ∷ xs) ys h = (h.0, all_left P xs ys h.1)
-
-all_right : {X : Type 0} (P : X → Type 0) (xs ys : List X) → AllByRecursion P (xs ++ ys) → AllByRecursion P ys
-all_right P [] ys h = h
-all_right P (x ∷ xs) ys h = all_right P xs ys h.1
-
-module _ (K : Domain) (s : Signature) (lawful : IsLawful s) (q : ℕ) (rows others : List (Row K)) (long : AreLong K q rows) (long_others : AreLong K q others) where
-  long_all : AreLong K q (rows ++ others)
-  long_all = All-append (λ (r : Row K). length r ≡ q) rows others long long_others
-
-  own : AllByRecursion (InRowModule K s q (rows ++ others)) (rows ++ others)
-  own = All-from_get_or (InRowModule K s q (rows ++ others)) (rows ++ others) [] (module_row K s lawful q (rows ++ others) long_all)
-
-  pub module_more : (z : Row K) → InRowModule K s q rows z → InRowModule K s q (rows ++ others) z
-  unfolding InRowModule
-  module_more z (c, lc, oc, e) = subst (InRowModule K s q (rows ++ others)) e (module_combine K s lawful q (rows ++ others) long_all c rows oc (all_left _ rows others own))
-
-  pub module_added : (i : ℕ) → i < length others → InRowModule K s q (rows ++ others) (get_or others i [])
-  module_added i h = All-get_or (InRowModule K s q (rows ++ others)) others i [] h (all_right _ rows others own)

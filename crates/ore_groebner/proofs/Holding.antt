@@ -1,8 +1,9 @@
 -- What each state of a run holds, and the basis that it has.
---     Holds                    the rows and syzygies are of a, the lines are lawful and show syzygies, and a comes back
+--     Holds                    the rows and syzygies are of a, the lines are lawful and show syzygies, and a comes back;
+--                              each syzygy has an origin
 --     IsRowBack                a row and its unit row are multiples of a basis row and of its cofactor row
 --     AreBack                  some rows of a are so, the next of which that isn't zeros stands at place i of the basis;
---                              of one that is zeros, the unit row is a combination of the syzygies
+--                              of one that is zeros, the unit row is the syzygy that comes from it
 --     back_more                so it is with more basis rows and syzygies
 --     grown_inside             a place in a list is one in a longer list
 --     are_monic, are_wide, long_at, leads_are, long_rows, of_rows    what the rows of a basis are, as a list
@@ -17,13 +18,16 @@ use Rattle.ore_algebra.specs.Domain.{Domain}
 use Rattle.ore_monomial.specs.Signature.{Signature}
 use Rattle.ore_monomial.specs.Term.{Term}
 use Rattle.ore_monomial.specs.declared.order.Order.{Order}
-use Rattle.ore_rows.specs.Rows.{Row, RowOf, AreLong, zero_row, unit_row, row_scale, combine, matrix_times, InRowModule}
+use Rattle.ore_rows.specs.Rows.{Row, RowOf, AreLong, zero_row, unit_row, row_scale, combine, matrix_times}
 use Rattle.ore_rows.specs.RowLead.{coefficient_at, IsRowLead, row_lead}
 use Rattle.ore_rows.specs.Reduction.{Monic, AreMonic, rows_of, cofactors_of, leads_of, origin, row_at}
-use Rattle.ore_rows.specs.Run.{State, constant}
+use Rattle.ore_pairs.specs.Run.{State, constant}
+use Rattle.ore_rows.specs.declared.choices.Origin.{Origin}
+use Rattle.ore_rows.specs.declared.choices.Origin.TheVariants.{ZeroRow}
 use Rattle.ore_pairs.specs.Steps.{AreLeads, lead_at}
-use Rattle.ore_groebner.specs.RunLaws.{IsBasisRow, IsSyzygy, LinesHold}
+use Rattle.ore_groebner.specs.RunLaws.{IsBasisRow, IsSyzygy, IsNone, IsFrom, IsPlaceIn, LinesHold}
 use Rattle.ore_groebner.proofs.Growing.{map_grow}
+use Rattle.ore_groebner.proofs.Sources.{Grown, grown_row, grown_no_row}
 
 pub grown_inside : {X : Type 0} (xs more : List X) (i : ℕ) → i < length xs → i < length (xs ++ more)
 grown_inside xs more i h = let e = length-append xs more in omega arith
@@ -33,28 +37,31 @@ module _ (K : Domain) (s : Signature) (o : Order) (q : ℕ) where
   abbrev pub IsRowBack : Term → ℕ → ℕ → Row K → List (Monic (Row K)) → Type 0
   IsRowBack t i k r basis = (i < length basis) × (row_scale K s (constant K (coefficient_at K r t)) (row_at (rows_of basis) i) ≡ r) × (row_scale K s (constant K (coefficient_at K r t)) (row_at (cofactors_of basis) i) ≡ unit_row K q k)
 
-  abbrev pub AreBack : ℕ → ℕ → List (Row K) → List (Monic (Row K)) → List (Row K) → Type 0
-  AreBack i k [] basis syzygies = Unit {0}
-  AreBack i k (r ∷ rs) basis syzygies = ((row_lead K o r ≡ None) × InRowModule K s q syzygies (unit_row K q k) × AreBack i (suc k) rs basis syzygies)
-      ⊎ ((t : Term) × (row_lead K o r ≡ Some t) × IsRowBack t i k r basis × AreBack (suc i) (suc k) rs basis syzygies)
+  abbrev pub AreBack : ℕ → ℕ → List (Row K) → List (Monic (Row K)) → List Origin → List (Row K) → Type 0
+  AreBack i k [] basis origins syzygies = Unit {0}
+  AreBack i k (r ∷ rs) basis origins syzygies = ((row_lead K o r ≡ None) × IsFrom K q origins syzygies (ZeroRow k) (unit_row K q k) × AreBack i (suc k) rs basis origins syzygies)
+      ⊎ ((t : Term) × (row_lead K o r ≡ Some t) × IsRowBack t i k r basis × IsNone origins (ZeroRow k) × AreBack (suc i) (suc k) rs basis origins syzygies)
 
-  pub back_more : (basis more : List (Monic (Row K))) (syzygies others : List (Row K)) → ((z : Row K) → InRowModule K s q syzygies z → InRowModule K s q others z)
-      → (i k : ℕ) (rs : List (Row K)) → AreBack i k rs basis syzygies → AreBack i k rs (basis ++ more) others
-  back_more basis more syzygies others wider i k [] h = tt
-  back_more basis more syzygies others wider i k (r ∷ rs) (inl h) = inl (h.0, wider _ h.1, back_more basis more syzygies others wider i (suc k) rs h.2)
-  back_more basis more syzygies others wider i k (r ∷ rs) (inr (t, e, b, h)) = inr (
-    t,
-    e,
-    (grown_inside basis more i b.0, ap (row_scale K s (constant K (coefficient_at K r t))) (map_grow (λ b. b.row) [] basis more i b.0) ∙ b.1, ap (row_scale K s (constant K (coefficient_at K r t))) (map_grow (λ b. b.cofactor) [] basis more i b.0) ∙ b.2),
-    back_more basis more syzygies others wider (suc i) (suc k) rs h,
-  )
+  module _ (basis more : List (Monic (Row K))) (n : ℕ) (os : List Origin) (rows : List (Row K)) (now : List Origin) (syzygies : List (Row K)) (g : Grown K n os rows now syzygies) where
+    pub back_more : (i k : ℕ) (rs : List (Row K)) → AreBack i k rs basis os rows → AreBack i k rs (basis ++ more) now syzygies
+    back_more i k [] h = tt
+    back_more i k (r ∷ rs) (inl h) = inl (h.0, grown_row K q n os rows now syzygies g k _ h.1, back_more i (suc k) rs h.2)
+    back_more i k (r ∷ rs) (inr (t, e, b, none, h)) = inr (
+      t,
+      e,
+      (grown_inside basis more i b.0, ap (row_scale K s (constant K (coefficient_at K r t))) (map_grow (λ b. b.row) [] basis more i b.0) ∙ b.1, ap (row_scale K s (constant K (coefficient_at K r t))) (map_grow (λ b. b.cofactor) [] basis more i b.0) ∙ b.2),
+      grown_no_row K q n os rows now syzygies g k none,
+      back_more (suc i) (suc k) rs h,
+    )
 
 module _ (K : Domain) (s : Signature) (o : Order) (n : ℕ) (a : List (Row K)) where
   pub record Holds (st : State K) : Type 0 where
     pub basis : AllByRecursion (IsBasisRow K s o n a) st.basis
     pub syzygies : AllByRecursion (IsSyzygy K s o n a) st.syzygies
     pub lines : LinesHold K s o n a st
-    pub back : AreBack K s o (length a) 0 0 a st.basis st.syzygies
+    pub back : AreBack K s o (length a) 0 0 a st.basis st.origins st.syzygies
+    pub many : length st.origins ≡ length st.syzygies
+    pub places : AllByRecursion (IsPlaceIn (length a) (length st.listed)) st.origins
 
   blank : Monic (Row K)
   blank = record { row = []; cofactor = []; lead = origin }

@@ -1,58 +1,44 @@
 -- Choices that lead to the progress of a run.
---     zipped_imply               a relation of two lists that follows from another
---     IsOldOrNew, slice_get-push, take_front, take_whole    the items of a list with one more
+--     IsOldOrNew, slice_get-push, take_front    the items of a list with one more
 --     determined                 some choices lead to one state
 --     leads_push, reached_push   one more choice leads on from there
---     origin_more, origin_new, origins_push    what syzygies come from, with one more choice
+--     led_pairs                  the listed pairs are those of the choices, in order
 --     led_reached                the state of the progress is reached
 --     allowed_here               a rule allows something at the state of the progress
 --     allowed_push               a rule allows one more choice
 --     spent_here                 a rule allows that the budget is spent
 --     led_next                   one more choice leads to what it makes of the progress
 --     led_start                  no choices lead to the first basis
-use Rattle.std.proofs.Common.{◌≡◌, ℕ, zero, suc, ◌+◌, ◌<◌, ◌≤◌, Bool, true, List, [], ◌∷◌, ◌++◌, length, map, take, refl, sym, ap, ◌∙◌, subst, arith}
+use Rattle.std.proofs.Common.{◌≡◌, ℕ, zero, suc, ◌<◌, ◌≤◌, Bool, true, List, [], ◌∷◌, ◌++◌, length, take, refl, sym, ap, ◌∙◌, subst, arith}
 use Rattle.std.proofs.Common.{inl, inr}
 use Rattle.std.specs.Prelude.{◌⊎◌}
-use Rattle.std.specs.List.{AllZip, slice_get}
+use Rattle.std.specs.List.{slice_get}
 use Rattle.std.specs.declared.option.Option.{Option}
 use Rattle.std.specs.declared.option.Option.TheVariants.{None, Some}
 use Rattle.std.specs.declared.result.Result.{Result}
 use Rattle.std.specs.declared.result.Result.TheVariants.{Ok, Err}
-use Rattle.std.proofs.lemmas.Bool.{cases_lt}
-use Rattle.std.proofs.lemmas.List.{take-append-le, take_all, length_push, length-map}
-use Rattle.std.proofs.lemmas.Slice.Zip.{all_zipped_more}
+use Rattle.std.proofs.lemmas.List.{take-append-le, length-map}
 use Rattle.std.proofs.Math.Seq.{take-append_seam}
 use Rattle.ore_rational.proofs.FractionLaws.{rationals}
 use Rattle.ore_monomial.specs.Signature.{Signature}
-use Rattle.ore_ring.specs.Ordered.{Ordered}
-use Rattle.ore_rows.specs.Run.{State, Refusal}
-use Rattle.ore_rows.specs.Run as run
-use Rattle.ore_rows.specs.Rows.{Row}
-use Rattle.ore_rows.specs.Stored.{OperatorMatrix, sums_of}
+use Rattle.ore_pairs.specs.Run.{State, Refusal}
+use Rattle.ore_pairs.specs.Run as run
+use Rattle.ore_rows.specs.Stored.{OperatorMatrix}
 use Rattle.ore_rows.specs.StoredBasis.{monic_of}
 use Rattle.ore_rows.specs.declared.choices.Choice.{Choice}
 use Rattle.ore_pairs.specs.Listed.{is_in}
-use Rattle.ore_groebner.specs.Choosing.{is_chosen}
+use Rattle.ore_groebner.specs.Choosing.{is_chosen, pairs_of}
 use Rattle.ore_groebner.specs.Following.{step_of, IsFollowed, IsLed}
-use Rattle.ore_groebner.specs.Honest.{starts, leads, IsReached, IsOrigin, IsAllowedAt, AreAllowed, MayBeSpent}
-use Rattle.ore_groebner.specs.Progressing.{state_of, event_at, IsKept, IsGrown, IsBegun}
+use Rattle.ore_groebner.specs.Honest.{starts, leads, IsReached, pairs_in, IsAllowedAt, AreAllowed, MayBeSpent}
+use Rattle.ore_groebner.specs.Progressing.{state_of, choices_of, IsKept, IsBegun}
 use Rattle.ore_groebner.specs.Shown.{Shown, shown_of}
-use Rattle.ore_groebner.specs.declared.outcome.Event.{Event}
-use Rattle.ore_groebner.specs.declared.outcome.Origin.{Origin}
-use Rattle.ore_groebner.specs.declared.outcome.Origin.TheVariants as origin
 use Rattle.ore_groebner.specs.declared.progress.Progress.{Progress}
 use Rattle.ore_groebner.proofs.Given.{lists_next}
 use Rattle.ore_groebner.proofs.Limited.{refused, given}
+use Rattle.ore_groebner.proofs.Progresses.{lines_pairs}
 use Rattle.ore_groebner.proofs.Showing.{shown_in-state}
-use Rattle.ore_groebner.proofs.StoredMonics.{map_push}
 
 -- ---- lists
-
-zipped_imply : {A B : Type 0} (R S : A → B → Type 0) → ((x : A) (y : B) → R x y → S x y) → (xs : List A) (ys : List B) → AllZip R xs ys → AllZip S xs ys
-zipped_imply R S h [] [] z = tt
-zipped_imply R S h [] (y ∷ ys) z = absurd z
-zipped_imply R S h (x ∷ xs) [] z = absurd z
-zipped_imply R S h (x ∷ xs) (y ∷ ys) z = (h x y z.0, zipped_imply R S h xs ys z.1)
 
 none_is_some : {X : Type 0} {x : X} → ◌≡◌ {A = Option X} None (Some x) → ⊥
 none_is_some e = cc
@@ -77,9 +63,6 @@ slice_get-push (z ∷ xs) x (suc k) y e = by (slice_get-push xs x k y e)
 take_front : {X : Type 0} (xs : List X) (x : X) (k : ℕ) → k ≤ length xs → take k (xs ++ x ∷ []) ≡ take k xs
 take_front xs x k h = take-append-le k xs (x ∷ []) h
 
-take_whole : {X : Type 0} (xs : List X) (x : X) → take (suc (length xs)) (xs ++ x ∷ []) ≡ xs ++ x ∷ []
-take_whole xs x = take_all (suc (length xs)) (xs ++ x ∷ []) (let e = length_push xs x in omega arith)
-
 module _ (s : Signature) (a : OperatorMatrix) where
   determined : (cs : List Choice) (x y : State rationals) → IsReached s a cs x → IsReached s a cs y → x ≡ y
   determined cs x y h k = given x y (sym h.led ∙ ap (λ st. leads s a st cs) (given h.start k.start (sym h.begun ∙ k.begun)) ∙ k.led)
@@ -98,81 +81,53 @@ module _ (s : Signature) (a : OperatorMatrix) where
   pub reached_push : (mid next : State rationals) (cs : List Choice) (c : Choice) → IsReached s a cs mid → step_of s mid c ≡ Ok next → IsReached s a (cs ++ c ∷ []) next
   reached_push mid next cs c h e = record { start = h.start; begun = h.begun; led = leads_push h.start mid next cs c h.led e }
 
-  -- ---- syzygies
-
-  origin_more : (cs : List Choice) (c : Choice) (o : Origin) (r : List Ordered) → IsOrigin s a cs o r → IsOrigin s a (cs ++ c ∷ []) o r
-  origin_more cs c (origin.ZeroRow i) r h = h
-  origin_more cs c (origin.Event k) r h = by (cases_lt k (length cs))
-    where
-      longer : (m n : ℕ) → m ≡ n + 1 → n ≡ m → ⊥
-      longer m n e f = omega arith
-
-      by : (k < length cs) ⊎ (length cs ≤ k) → IsOrigin s a (cs ++ c ∷ []) (origin.Event k) r
-      by (inl l) = (h.0, h.1, subst (λ ds. IsReached s a ds h.0) (sym (take_front cs c k (omega arith))) h.2, subst (λ ds. IsReached s a ds h.1) (sym (take_front cs c (suc k) (omega arith))) h.3, h.4)
-      by (inr l) =
-          let same = determined cs h.0 h.1 (subst (λ ds. IsReached s a ds h.0) (take_all k cs l) h.2) (subst (λ ds. IsReached s a ds h.1) (take_all (suc k) cs (omega arith)) h.3) in
-          absurd (longer (length h.1.syzygies) (length h.0.syzygies) (ap (λ (rs : List (Row rationals)). length rs) h.4 ∙ length_push h.0.syzygies (sums_of r)) (ap (λ (st : State rationals). length st.syzygies) same))
-
-  origin_new : (cs : List Choice) (c : Choice) (mid next : State rationals) (r : List Ordered) → IsReached s a cs mid → step_of s mid c ≡ Ok next → next.syzygies ≡ mid.syzygies ++ sums_of r ∷ [] → IsOrigin s a (cs ++ c ∷ []) (origin.Event (length cs)) r
-  origin_new cs c mid next r h e f = (mid, next, subst (λ ds. IsReached s a ds mid) (sym (take-append_seam cs (c ∷ []))) h, subst (λ ds. IsReached s a ds next) (sym (take_whole cs c)) (reached_push mid next cs c h e), f)
-
-  origins_push : (cs : List Choice) (c : Choice) (p q : Progress) → IsReached s a cs (state_of p) → step_of s (state_of p) c ≡ Ok (state_of q) → length p.events.items ≡ length cs → IsGrown p q (event_at (length p.events.items)) → AllZip (IsOrigin s a cs) p.origins.items p.syzygies.items → AllZip (IsOrigin s a (cs ++ c ∷ [])) q.origins.items q.syzygies.items
-  origins_push cs c p q reached made events grown zipped = by grown
-    where
-      old : AllZip (IsOrigin s a (cs ++ c ∷ [])) p.origins.items p.syzygies.items
-      old = zipped_imply (IsOrigin s a cs) (IsOrigin s a (cs ++ c ∷ [])) (origin_more cs c) p.origins.items p.syzygies.items zipped
-
-      by : IsGrown p q (event_at (length p.events.items)) → AllZip (IsOrigin s a (cs ++ c ∷ [])) q.origins.items q.syzygies.items
-      by (inl same) = rw (same.1, same.0) old
-      by (inr new) = rw (new.2, new.1) (all_zipped_more (IsOrigin s a (cs ++ c ∷ [])) p.origins.items p.syzygies.items (event_at (length p.events.items)) new.0 old
-          (subst (λ k. IsOrigin s a (cs ++ c ∷ []) (event_at k) new.0) (sym events) (origin_new cs c (state_of p) (state_of q) new.0 reached made (ap (map sums_of) new.1 ∙ map_push sums_of p.syzygies.items new.0))))
-
   -- ---- rules
 
   module _ (allows : Shown → List (ℕ × ℕ) → Choice → Bool) where
     pub led_reached : (cs : List Choice) (p : Progress) → IsLed s a allows cs p → IsReached s a cs (state_of p)
     led_reached cs p led = record { start = led.start; begun = led.begun; led = led.led }
 
-    allowed_here : (cs : List Choice) (p : Progress) → IsLed s a allows cs p → (allowed : Shown → List (ℕ × ℕ) → Bool) → allowed (shown_of p.basis) p.listed ≡ true → IsAllowedAt s a allowed (state_of p)
-    allowed_here cs p led allowed h = (p.listed, led.kept.listed, ap (λ (shown : Shown). allowed shown p.listed) (shown_in-state s a p led.kept) ∙ h)
+    pub led_pairs : (cs : List Choice) (p : Progress) → IsLed s a allows cs p → pairs_in (state_of p) ≡ pairs_of cs
+    led_pairs cs p led = lines_pairs p.first p.events.items ∙ ap pairs_of led.events
 
-    pub allowed_push : (cs : List Choice) (c : Choice) (p : Progress) → IsLed s a allows cs p → allows (shown_of p.basis) p.listed c ≡ true → AreAllowed s a allows (cs ++ c ∷ [])
+    allowed_here : (cs : List Choice) (p : Progress) → IsLed s a allows cs p → (allowed : Shown → List (ℕ × ℕ) → Bool) → allowed (shown_of p.basis) (pairs_of cs) ≡ true → IsAllowedAt s allowed (state_of p)
+    allowed_here cs p led allowed h = (λ k. allowed (shown_in-state s a p led.kept k) (led_pairs cs p led k)) ∙ h
+
+    pub allowed_push : (cs : List Choice) (c : Choice) (p : Progress) → IsLed s a allows cs p → allows (shown_of p.basis) (pairs_of cs) c ≡ true → AreAllowed s a allows (cs ++ c ∷ [])
     allowed_push cs c p led here k d st e reached = by (slice_get-push cs c k d e)
       where
-        by : IsOldOrNew cs c k d → IsAllowedAt s a (λ shown ps. allows shown ps d) st
+        by : IsOldOrNew cs c k d → IsAllowedAt s (λ shown ps. allows shown ps d) st
         by (inl h) = led.allowed k d st h.0 (subst (λ ds. IsReached s a ds st) (take_front cs c k (let l = h.1 in omega arith)) reached)
         by (inr h) =
             let there : IsReached s a cs st = subst (λ ds. IsReached s a ds st) (ap (λ n. take n (cs ++ c ∷ [])) h.0 ∙ take-append_seam cs (c ∷ [])) reached in
-            subst (λ d. IsAllowedAt s a (λ shown ps. allows shown ps d) st) h.1 (subst (λ st. IsAllowedAt s a (λ shown ps. allows shown ps c) st) (determined cs (state_of p) st (led_reached cs p led) there) (allowed_here cs p led (λ shown ps. allows shown ps c) here))
+            subst (λ d. IsAllowedAt s (λ shown ps. allows shown ps d) st) h.1 (subst (λ st. IsAllowedAt s (λ shown ps. allows shown ps c) st) (determined cs (state_of p) st (led_reached cs p led) there) (allowed_here cs p led (λ shown ps. allows shown ps c) here))
 
-    pub spent_here : (cs : List Choice) (p : Progress) → IsLed s a allows cs p → (allows_spent : Shown → List (ℕ × ℕ) → Bool) → allows_spent (shown_of p.basis) p.listed ≡ true → MayBeSpent s a allows_spent cs
-    spent_here cs p led allows_spent h st reached = subst (IsAllowedAt s a allows_spent) (determined cs (state_of p) st (led_reached cs p led) reached) (allowed_here cs p led allows_spent h)
+    pub spent_here : (cs : List Choice) (p : Progress) → IsLed s a allows cs p → (allows_spent : Shown → List (ℕ × ℕ) → Bool) → allows_spent (shown_of p.basis) (pairs_of cs) ≡ true → MayBeSpent s a allows_spent cs
+    spent_here cs p led allows_spent h st reached = subst (IsAllowedAt s allows_spent) (determined cs (state_of p) st (led_reached cs p led) reached) (allowed_here cs p led allows_spent h)
 
-    pub led_next : (cs : List Choice) (c : Choice) (p q : Progress) → IsLed s a allows cs p → allows (shown_of p.basis) p.listed c ≡ true → IsFollowed s p c q → IsLed s a allows (cs ++ c ∷ []) q
+    pub led_next : (cs : List Choice) (c : Choice) (p q : Progress) → IsLed s a allows cs p → allows (shown_of p.basis) (pairs_of cs) c ≡ true → IsFollowed s p c q → IsLed s a allows (cs ++ c ∷ []) q
     led_next cs c p q led here f = record {
       start = led.start;
       begun = led.begun;
       led = leads_push led.start (state_of p) (state_of q) cs c led.led f.made;
       kept = f.kept;
-      origins = origins_push cs c p q (led_reached cs p led) f.made led.events f.grown led.origins;
       lists = lists_next p.listed q.listed cs c led.lists f.listed;
-      events = f.shape.events ∙ ap (λ n. n + 1) led.events ∙ sym (length_push cs c);
+      events = f.shape.events ∙ ap (λ ds. ds ++ c ∷ []) led.events;
       first = f.shape.first ∙ led.first;
       cols = f.shape.cols ∙ led.cols;
       width = f.shape.width ∙ led.width;
       allowed = allowed_push cs c p led here;
     }
 
-    pub led_start : (p : Progress) → starts s a ≡ Ok (state_of p) → IsKept s p → IsBegun p → AllZip (IsOrigin s a []) p.origins.items p.syzygies.items → p.first ≡ length p.basis.items → p.basis.cols ≡ a.cols → p.basis.width ≡ length a.rows → IsLed s a allows [] p
+    pub led_start : (p : Progress) → starts s a ≡ Ok (state_of p) → IsKept s p → IsBegun p → p.first ≡ length p.basis.items → p.basis.cols ≡ a.cols → p.basis.width ≡ length a.rows → IsLed s a allows [] p
     unfolding run.run is_in is_chosen
-    led_start p starts kept begun origins first cols width = record {
+    led_start p starts kept begun first cols width = record {
       start = state_of p;
       begun = starts;
       led = refl;
       kept = kept;
-      origins = origins;
       lists = λ i j. ap (is_in i j) begun.listed;
-      events = ap (λ (es : List Event). length es) begun.events;
+      events = ap choices_of begun.events;
       first = first ∙ sym (length-map p.basis.items monic_of);
       cols = cols;
       width = width;

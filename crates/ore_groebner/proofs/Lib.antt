@@ -1,4 +1,5 @@
 pub mod Limited
+pub mod Sources
 pub mod Growing
 pub mod Listing
 pub mod Parts
@@ -22,3 +23,4 @@ pub mod Showing
 pub mod Leading
 pub mod Ending
 pub mod Bounding
+pub mod SamePairs

@@ -23,9 +23,11 @@ use Rattle.ore_rows.specs.Rows.{Row, unit_row, row_minus, row_scale}
 use Rattle.ore_rows.specs.RowLead.{coefficient_at, row_lead}
 use Rattle.ore_rows.specs.Arithmetic.{Arithmetic, exact, IsSound}
 use Rattle.ore_rows.specs.Reduction.{Monic, Work}
-use Rattle.ore_rows.specs.Run.{Treated, Skipped, State, Refusal, Unlawful, Stopped, constant, open_pair, may_skip, common, multiplier, listing, stopping, inverse_of, s_row, with_syzygy, made_monic, with_row, settle, treat, step, run, begin_row, begin_rows, begin}
+use Rattle.ore_pairs.specs.Run.{State, Refusal, Unlawful, Stopped, constant, open_pair, may_skip, common, multiplier, listing, stopping, inverse_of, s_row, with_syzygy, made_monic, with_row, settle, treat, step, run, begin_row, begin_rows, begin}
 use Rattle.ore_rows.specs.declared.choices.Choice.{Choice}
+use Rattle.ore_pairs.specs.PairList as pair
 use Rattle.ore_rows.specs.declared.choices.Choice.TheVariants.{Treat, Skip}
+use Rattle.ore_rows.specs.declared.choices.Origin.TheVariants.{ZeroRow}
 use Rattle.ore_rows.proofs.SoundArithmetic.{scaled_exact, less_exact, scaled_most, less_most}
 use Rattle.ore_division.proofs.Reductions.{reduce_most, reduce_comes}
 
@@ -103,8 +105,8 @@ module _ (K : Domain) (inverses : HasInverses K) (s : Signature) (o : Order) (A 
   unfolding begin_row
   begin_row_most q i r st = by (row_lead K o r)
     where
-      by : (x : Option Term) → IsAtMost (elim x [ None ↦ Ok (record st { syzygies = st.syzygies ++ unit_row K q i ∷ [] }) | Some t ↦ made_monic K inverses A r (unit_row K q i) t >>= (λ b. Ok (record st { basis = st.basis ++ b ∷ [] })) ])
-          (elim x [ None ↦ Ok (record st { syzygies = st.syzygies ++ unit_row K q i ∷ [] }) | Some t ↦ made_monic K inverses E r (unit_row K q i) t >>= (λ b. Ok (record st { basis = st.basis ++ b ∷ [] })) ])
+      by : (x : Option Term) → IsAtMost (elim x [ None ↦ Ok (record st { syzygies = st.syzygies ++ unit_row K q i ∷ []; origins = st.origins ++ ZeroRow i ∷ [] }) | Some t ↦ made_monic K inverses A r (unit_row K q i) t >>= (λ b. Ok (record st { basis = st.basis ++ b ∷ [] })) ])
+          (elim x [ None ↦ Ok (record st { syzygies = st.syzygies ++ unit_row K q i ∷ []; origins = st.origins ++ ZeroRow i ∷ [] }) | Some t ↦ made_monic K inverses E r (unit_row K q i) t >>= (λ b. Ok (record st { basis = st.basis ++ b ∷ [] })) ])
       by None = refl
       by (Some t) = most_bind _ _ _ _ (monic_most r (unit_row K q i) t) (λ b. refl)
 
@@ -115,7 +117,7 @@ module _ (K : Domain) (inverses : HasInverses K) (s : Signature) (o : Order) (A 
 
   pub begin_most : (a : List (Row K)) → IsAtMost (begin K inverses o A a) (begin K inverses o E a)
   unfolding begin
-  begin_most a = begin_rows_most (length a) 0 a (record { basis = []; listed = []; syzygies = [] })
+  begin_most a = begin_rows_most (length a) 0 a (record { basis = []; listed = []; syzygies = []; origins = [] })
 
 -- ---- without limits
 
@@ -168,16 +170,18 @@ module _ (K : Domain) (inverses : HasInverses K) (s : Signature) (o : Order) whe
   abbrev pub state_with : State K → ℕ → ℕ → Work K → Term → State K
   state_with st i j w t = record {
     basis = st.basis ++ monic_of w.row w.cofactor t ∷ [];
-    listed = listing K st i j (Treated (w.steps ++ record { index = length st.basis; monomial = unit; number = coefficient_at K w.row t } ∷ []));
+    listed = listing K st (pair.Pair i j (w.steps ++ record { index = length st.basis; monomial = unit; number = coefficient_at K w.row t } ∷ []));
     syzygies = st.syzygies;
+    origins = st.origins;
   }
 
   pub with_row_exact : (st : State K) (i j : ℕ) (w : Work K) (t : Term) → with_row K inverses exactly st i j w t ≡ Ok (state_with st i j w t)
   unfolding with_row
   with_row_exact st i j w t = ap (λ (x : Result (Monic (Row K)) Cause). x >>= λ b. Ok (record {
     basis = st.basis ++ b ∷ [];
-    listed = listing K st i j (Treated (w.steps ++ record { index = length st.basis; monomial = unit; number = coefficient_at K w.row t } ∷ []));
+    listed = listing K st (pair.Pair i j (w.steps ++ record { index = length st.basis; monomial = unit; number = coefficient_at K w.row t } ∷ []));
     syzygies = st.syzygies;
+    origins = st.origins;
   })) (monic_exact w.row w.cofactor t)
 
   comes_bind : {X Y : Type 0} (r : Result X Cause) (f : X → Result Y Cause) → Comes r → ((x : X) → Comes (f x)) → Comes (r >>= f)
@@ -199,8 +203,8 @@ module _ (K : Domain) (inverses : HasInverses K) (s : Signature) (o : Order) whe
   unfolding begin_row
   begin_row_comes q i r st = by (row_lead K o r)
     where
-      by : (x : Option Term) → Comes {X = State K} {E = Cause} (elim x [ None ↦ Ok (record st { syzygies = st.syzygies ++ unit_row K q i ∷ [] }) | Some t ↦ made_monic K inverses exactly r (unit_row K q i) t >>= (λ b. Ok (record st { basis = st.basis ++ b ∷ [] })) ])
-      by None = (record st { syzygies = st.syzygies ++ unit_row K q i ∷ [] }, refl)
+      by : (x : Option Term) → Comes {X = State K} {E = Cause} (elim x [ None ↦ Ok (record st { syzygies = st.syzygies ++ unit_row K q i ∷ []; origins = st.origins ++ ZeroRow i ∷ [] }) | Some t ↦ made_monic K inverses exactly r (unit_row K q i) t >>= (λ b. Ok (record st { basis = st.basis ++ b ∷ [] })) ])
+      by None = (record st { syzygies = st.syzygies ++ unit_row K q i ∷ []; origins = st.origins ++ ZeroRow i ∷ [] }, refl)
       by (Some t) = comes_bind _ _ (monic_of r (unit_row K q i) t, monic_exact r (unit_row K q i) t) (λ b. (record st { basis = st.basis ++ b ∷ [] }, refl))
 
   begin_rows_comes : (q i : ℕ) (rs : List (Row K)) (st : State K) → Comes (begin_rows K inverses o exactly q i rs st)
@@ -210,7 +214,7 @@ module _ (K : Domain) (inverses : HasInverses K) (s : Signature) (o : Order) whe
 
   pub begin_comes : (a : List (Row K)) → Comes (begin K inverses o exactly a)
   unfolding begin
-  begin_comes a = begin_rows_comes (length a) 0 a (record { basis = []; listed = []; syzygies = [] })
+  begin_comes a = begin_rows_comes (length a) 0 a (record { basis = []; listed = []; syzygies = []; origins = [] })
 
   ok_not_stopped : {x : State K} {cause : Cause} → ◌≡◌ {A = Result (State K) Refusal} (Ok x) (Err (Stopped cause)) → ⊥
   ok_not_stopped e = cc
@@ -232,7 +236,7 @@ module _ (K : Domain) (inverses : HasInverses K) (s : Signature) (o : Order) whe
   step_unlawful st (Skip i j via) cause = by (open_pair K st i j)
     where
       lined : State K
-      lined = record st { listed = listing K st i j (Skipped via) }
+      lined = record st { listed = listing K st (pair.Skip i j via) }
 
       chosen : (b : Bool) → ◌≢◌ {A = Result (State K) Refusal} (cond b (Ok lined) (Err Unlawful)) (Err (Stopped cause))
       chosen true = ok_not_stopped

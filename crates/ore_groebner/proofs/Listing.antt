@@ -1,10 +1,9 @@
--- The lines of a state as a list of pairs.
+-- The listed pairs of a state.
 --     same_numbers, both_true  what tests that pass say
 --     latest                   the entries before and some more, the latest first
 --     listed_latest, latest_listed    a pair stands among those where it stands among the some or before
---     first-entry, second-entry    the pair of an entry
 --     is_listed_from, is_listed_to, not_listed, unlisted, listed_either    what the test for a listed pair says
---     entries_push, entries_of_push, lawful_push    one more entry that is lawful by those before it
+--     entries_of_push, lawful_push    one more entry that is lawful by those before it
 --     is_once                  no pair of a lawful list is listed twice
 use Rattle.std.proofs.Common.{◌≡◌, ◌⊎◌, inl, inr, ⊎_elim, ℕ, Bool, true, false, ◌&&◌, ◌||◌, nat_eq, List, [], ◌∷◌, ◌++◌, refl, sym, ◌∙◌, true≢false, arith}
 use Rattle.std.proofs.lemmas.Bool.Decides.{nat_tests}
@@ -13,9 +12,9 @@ use Rattle.ore_monomial.specs.Signature.{Signature}
 use Rattle.ore_monomial.specs.Term.{Term}
 use Rattle.ore_monomial.specs.declared.order.Order.{Order}
 use Rattle.ore_rows.specs.Rows.{Row}
-use Rattle.ore_rows.specs.Run.{Account, Treated, Skipped, Line, is_listed, either_listed}
+use Rattle.ore_pairs.specs.Run.{is_listed, either_listed}
 use Rattle.ore_pairs.specs.PairList.{Entry, Pair, Skip, first, second, IsListed, IsListedFor, IsNewPair, IsLawfulEntry, AreLawful, AreEntriesOf}
-use Rattle.ore_groebner.specs.RunLaws.{AreListedOnce, entry, entry_of, entries_of}
+use Rattle.ore_groebner.specs.RunLaws.{AreListedOnce}
 
 pub same_numbers : (i j : ℕ) → nat_eq i j ≡ true → i ≡ j
 same_numbers i j h = grind (arith, nat_tests)
@@ -58,55 +57,43 @@ module _ {K : Domain} where
   latest_listed i j before (e ∷ es) (inl h) = before_listed i j (e ∷ before) es (inl h)
   latest_listed i j before (e ∷ es) (inr h) = latest_listed i j (e ∷ before) es h
 
-  pub first-entry : (i j : ℕ) (account : Account K) → first (entry i j account) ≡ i
-  first-entry i j (Treated steps) = refl
-  first-entry i j (Skipped via) = refl
-
-  pub second-entry : (i j : ℕ) (account : Account K) → second (entry i j account) ≡ j
-  second-entry i j (Treated steps) = refl
-  second-entry i j (Skipped via) = refl
-
-  pub entries_push : (ls : List (Line K)) (l : Line K) → entries_of (ls ++ l ∷ []) ≡ entries_of ls ++ entry_of l ∷ []
-  entries_push [] l = refl
-  entries_push (x ∷ ls) l = λ i. entry_of x ∷ entries_push ls l i
-
 module _ (K : Domain) where
-  pub is_listed_from : (i j : ℕ) (ls : List (Line K)) → IsListed i j (entries_of ls) → is_listed K i j ls ≡ true
+  pub is_listed_from : (i j : ℕ) (ls : List (Entry K)) → IsListed i j ls → is_listed K i j ls ≡ true
   unfolding is_listed
   is_listed_from i j [] h = absurd h
   is_listed_from i j (l ∷ ls) (inl h) =
-      let e = numbers_same i l.first (sym (first-entry l.first l.second l.account) ∙ h.0) in
-      let f = numbers_same j l.second (sym (second-entry l.first l.second l.account) ∙ h.1) in
+      let e = numbers_same i (first l) h.0 in
+      let f = numbers_same j (second l) h.1 in
       λ k. (e k && f k) || is_listed K i j ls
-  is_listed_from i j (l ∷ ls) (inr h) = or_right (nat_eq i l.first && nat_eq j l.second) _ (is_listed_from i j ls h)
+  is_listed_from i j (l ∷ ls) (inr h) = or_right (nat_eq i (first l) && nat_eq j (second l)) _ (is_listed_from i j ls h)
 
-  pub is_listed_to : (i j : ℕ) (ls : List (Line K)) → is_listed K i j ls ≡ true → IsListed i j (entries_of ls)
+  pub is_listed_to : (i j : ℕ) (ls : List (Entry K)) → is_listed K i j ls ≡ true → IsListed i j ls
   unfolding is_listed
   is_listed_to i j [] h = absurd (true≢false (sym h))
-  is_listed_to i j (l ∷ ls) h = by (either_true (nat_eq i l.first && nat_eq j l.second) (is_listed K i j ls) h) (is_listed_to i j ls)
+  is_listed_to i j (l ∷ ls) h = by (either_true (nat_eq i (first l) && nat_eq j (second l)) (is_listed K i j ls) h) (is_listed_to i j ls)
     where
-      by : ((nat_eq i l.first && nat_eq j l.second) ≡ true) ⊎ (is_listed K i j ls ≡ true) → (is_listed K i j ls ≡ true → IsListed i j (entries_of ls)) → IsListed i j (entries_of (l ∷ ls))
+      by : ((nat_eq i (first l) && nat_eq j (second l)) ≡ true) ⊎ (is_listed K i j ls ≡ true) → (is_listed K i j ls ≡ true → IsListed i j ls) → IsListed i j (l ∷ ls)
       by (inl e) more =
-          let b = both_true (nat_eq i l.first) (nat_eq j l.second) e in
-          inl (first-entry l.first l.second l.account ∙ sym (same_numbers i l.first b.0), second-entry l.first l.second l.account ∙ sym (same_numbers j l.second b.1))
+          let b = both_true (nat_eq i (first l)) (nat_eq j (second l)) e in
+          inl (sym (same_numbers i (first l) b.0), sym (same_numbers j (second l) b.1))
       by (inr e) more = inr (more e)
 
-  pub not_listed : (i j : ℕ) (ls : List (Line K)) → ¬ IsListed i j (entries_of ls) → is_listed K i j ls ≡ false
+  pub not_listed : (i j : ℕ) (ls : List (Entry K)) → ¬ IsListed i j ls → is_listed K i j ls ≡ false
   not_listed i j ls h = by (is_listed K i j ls) refl
     where
       by : (b : Bool) → is_listed K i j ls ≡ b → is_listed K i j ls ≡ false
       by true e = absurd (h (is_listed_to i j ls e))
       by false e = e
 
-  pub unlisted : (i j : ℕ) (ls : List (Line K)) → is_listed K i j ls ≡ false → ¬ IsListed i j (latest [] (entries_of ls))
-  unlisted i j ls e h = ⊎_elim (λ l. true≢false (sym (is_listed_from i j ls l) ∙ e)) (λ n. n) (listed_latest i j [] (entries_of ls) h)
+  pub unlisted : (i j : ℕ) (ls : List (Entry K)) → is_listed K i j ls ≡ false → ¬ IsListed i j (latest [] ls)
+  unlisted i j ls e h = ⊎_elim (λ l. true≢false (sym (is_listed_from i j ls l) ∙ e)) (λ n. n) (listed_latest i j [] ls h)
 
-  pub listed_either : (i j : ℕ) (ls : List (Line K)) → either_listed K i j ls ≡ true → IsListedFor i j (latest [] (entries_of ls))
+  pub listed_either : (i j : ℕ) (ls : List (Entry K)) → either_listed K i j ls ≡ true → IsListedFor i j (latest [] ls)
   listed_either i j ls h = by (either_true (is_listed K i j ls) (is_listed K j i ls) h)
     where
-      by : (is_listed K i j ls ≡ true) ⊎ (is_listed K j i ls ≡ true) → IsListedFor i j (latest [] (entries_of ls))
-      by (inl e) = inl (latest_listed i j [] (entries_of ls) (is_listed_to i j ls e))
-      by (inr e) = inr (latest_listed j i [] (entries_of ls) (is_listed_to j i ls e))
+      by : (is_listed K i j ls ≡ true) ⊎ (is_listed K j i ls ≡ true) → IsListedFor i j (latest [] ls)
+      by (inl e) = inl (latest_listed i j [] ls (is_listed_to i j ls e))
+      by (inr e) = inr (latest_listed j i [] ls (is_listed_to j i ls e))
 
   pub entries_of_push : (s : Signature) (es : List (Entry K)) (e : Entry K) → AreEntriesOf K s es → AreEntriesOf K s (e ∷ []) → AreEntriesOf K s (es ++ e ∷ [])
   entries_of_push s [] e h k = k
@@ -118,10 +105,10 @@ module _ (K : Domain) (s : Signature) (o : Order) (n : ℕ) (rows : List (Row K)
   lawful_push before [] e h k = (k, tt)
   lawful_push before (x ∷ es) e h k = (h.0, lawful_push (x ∷ before) es e h.1 k)
 
-  new_line : (before : List (Entry K)) (i j : ℕ) (account : Account K) → IsLawfulEntry K s o n rows leads before (entry i j account) → IsNewPair K leads before i j
-  new_line before i j (Treated steps) h = h.0
-  new_line before i j (Skipped via) h = h.0
+  new_entry : (before : List (Entry K)) (e : Entry K) → IsLawfulEntry K s o n rows leads before e → IsNewPair K leads before (first e) (second e)
+  new_entry before (Pair i j steps) h = h.0
+  new_entry before (Skip i j via) h = h.0
 
-  pub is_once : (before ls : List (Line K)) → AreLawful K s o n rows leads (entries_of before) (entries_of ls) → AreListedOnce before ls
+  pub is_once : (before ls : List (Entry K)) → AreLawful K s o n rows leads before ls → AreListedOnce before ls
   is_once before [] h = tt
-  is_once before (l ∷ ls) h = (not_listed K l.first l.second before (new_line (entries_of before) l.first l.second l.account h.0).unlisted, is_once (l ∷ before) ls h.1)
+  is_once before (l ∷ ls) h = (not_listed K (first l) (second l) before (new_entry before l h.0).unlisted, is_once (l ∷ before) ls h.1)

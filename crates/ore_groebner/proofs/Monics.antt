@@ -22,7 +22,7 @@ use Rattle.ore_ring.specs.Belongs.{OperatorOf}
 use Rattle.ore_ring.proofs.Belonging.{of_single}
 use Rattle.ore_rows.specs.Rows.{Row, RowOf, row_scale, combine}
 use Rattle.ore_rows.specs.RowLead.{coefficient_at, IsRowLead, row_lead}
-use Rattle.ore_rows.specs.Run.{constant, inverse_of}
+use Rattle.ore_pairs.specs.Run.{constant, inverse_of}
 use Rattle.ore_rows.proofs.Differences.{number-times}
 use Rattle.ore_rows.proofs.GreatestTerms.{row_lead-Some}
 use Rattle.ore_rows.proofs.RowLeads.{lead-row_scale_term}

@@ -17,7 +17,7 @@ use Rattle.ore_monomial.specs.declared.order.Order.{Order}
 use Rattle.ore_monomial.proofs.Operators.{single_none}
 use Rattle.ore_rows.specs.RowLead.{IsRowLead, coefficient_at, row_lead}
 use Rattle.ore_rows.specs.Rows.{Row, zero_row}
-use Rattle.ore_rows.specs.Run.{constant, entry_row, from_rows}
+use Rattle.ore_pairs.specs.Run.{constant, entry_row, from_rows}
 use Rattle.ore_rows.proofs.GreatestTerms.{row_lead_from}
 use Rattle.ore_groebner.proofs.Begins.{drop_at, drop_end}
 

@@ -22,8 +22,8 @@ use Rattle.ore_monomial.specs.declared.stop.RingStop.TheVariants as stop
 use Rattle.ore_rows.specs.Arithmetic.{within}
 use Rattle.ore_rows.specs.Reduction.{Monic, lead_at, origin}
 use Rattle.ore_rows.specs.Rows.{Row}
-use Rattle.ore_rows.specs.Run.{State, Refusal, Unlawful, Stopped, is_listed, is_open, open_pair, may_skip, listing, stopping, treat, step}
-use Rattle.ore_rows.specs.Run as run
+use Rattle.ore_pairs.specs.Run.{State, Unlawful, Stopped, is_listed, is_open, open_pair, may_skip, listing, stopping, treat, step}
+use Rattle.ore_pairs.specs.PairList as pair
 use Rattle.ore_rows.specs.StoredBasis.{StoredBasis, monic_of, monics}
 use Rattle.ore_rows.specs.declared.choices.Choice.TheVariants.{Treat, Skip}
 use Rattle.ore_rows.proofs.BasisParts.{leads_monics}
@@ -87,11 +87,11 @@ module _ (s : Signature) (st : State rationals) (i j : ℕ) (a b : Monic (Row ra
   unfolding step
   step-treat = ap (λ (x : Option (Monic (Row rationals) × Monic (Row rationals))). elim x [ None ↦ Err Unlawful | Some p ↦ stopping (treat rationals rational_inverses s.order (within program s) st i j p.0 p.1) ]) open_now
 
-  pub step-skip : (via : ℕ) → may_skip rationals st i j a b via ≡ true → step_of s st (Skip i j via) ≡ Ok (record st { listed = listing rationals st i j (run.Skipped via) })
+  pub step-skip : (via : ℕ) → may_skip rationals st i j a b via ≡ true → step_of s st (Skip i j via) ≡ Ok (record st { listed = listing rationals st (pair.Skip i j via) })
   unfolding step
   step-skip via h =
-      ap (λ (x : Option (Monic (Row rationals) × Monic (Row rationals))). elim x [ None ↦ Err Unlawful | Some p ↦ cond (may_skip rationals st i j p.0 p.1 via) (Ok (record st { listed = listing rationals st i j (run.Skipped via) })) (Err Unlawful) ]) open_now
-      ∙ ap (λ (x : Bool). cond x (Ok (record st { listed = listing rationals st i j (run.Skipped via) })) (Err Unlawful)) h
+      ap (λ (x : Option (Monic (Row rationals) × Monic (Row rationals))). elim x [ None ↦ Err Unlawful | Some p ↦ cond (may_skip rationals st i j p.0 p.1 via) (Ok (record st { listed = listing rationals st (pair.Skip i j via) })) (Err Unlawful) ]) open_now
+      ∙ ap (λ (x : Bool). cond x (Ok (record st { listed = listing rationals st (pair.Skip i j via) })) (Err Unlawful)) h
 
   pub treat_made : (next : State rationals) → treated ≡ Ok next → step_of s st (Treat i j) ≡ Ok next
   unfolding stopping

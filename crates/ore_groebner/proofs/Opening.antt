@@ -28,13 +28,13 @@ use Rattle.ore_leads.proofs.Dividing.{divides_term_true}
 use Rattle.ore_rows.specs.Rows.{Row, RowOf, row_scale}
 use Rattle.ore_rows.specs.RowLead.{IsRowLead, IsRowBelow}
 use Rattle.ore_rows.specs.Reduction.{Monic, rows_of, cofactors_of, leads_of, origin}
-use Rattle.ore_rows.specs.Run.{State, is_listed, either_listed, is_open, open_pair, may_skip, common, multiplier}
+use Rattle.ore_pairs.specs.Run.{State, is_listed, either_listed, is_open, open_pair, may_skip, common, multiplier}
 use Rattle.ore_rows.proofs.Differences.{of_row_minus, length-row_minus}
 use Rattle.ore_rows.proofs.RowLaws as Rows
 use Rattle.ore_rows.proofs.RowLeads.{lead-row_scale_term, below-row_minus}
 use Rattle.ore_pairs.specs.Steps.{lead_at, pair_term, s_row}
 use Rattle.ore_pairs.specs.PairList.{IsNewPair, IsSkipped}
-use Rattle.ore_groebner.specs.RunLaws.{IsBasisRow, entries_of}
+use Rattle.ore_groebner.specs.RunLaws.{IsBasisRow}
 use Rattle.ore_groebner.proofs.Growing.{combined, s_row_is, inside_map}
 use Rattle.ore_groebner.proofs.Listing.{latest, unlisted, listed_either, same_numbers, both_true}
 use Rattle.ore_groebner.proofs.Parts.{lead_of_signature}
@@ -115,7 +115,7 @@ module _ (K : Domain) (st : State K) (i j : ℕ) where
     pub second_inside : j < length st.basis
     second_inside = (at_slice (λ (b : Monic (Row K)). b.lead) origin st.basis j y h.second).0
 
-    pub new_pair : IsNewPair K leads (latest [] (entries_of st.listed)) i j
+    pub new_pair : IsNewPair K leads (latest [] st.listed) i j
     new_pair = record {
       ordered = h.ordered;
       within = inside_map (λ (b : Monic (Row K)). b.lead) st.basis j second_inside;
@@ -134,7 +134,7 @@ module _ (K : Domain) (st : State K) (i j : ℕ) where
     cofactor_is s = s_row_is K s (cofactors_of st.basis) leads i j
         ∙ (λ k. combined K s (first_lead k) (second_lead k) ((at_slice (λ (b : Monic (Row K)). b.cofactor) [] st.basis i x h.first).1 k) ((at_slice (λ (b : Monic (Row K)). b.cofactor) [] st.basis j y h.second).1 k))
 
-    pub skipped_is : (via : ℕ) → may_skip K st i j x y via ≡ true → IsSkipped K leads (latest [] (entries_of st.listed)) i j via
+    pub skipped_is : (via : ℕ) → may_skip K st i j x y via ≡ true → IsSkipped K leads (latest [] st.listed) i j via
     unfolding may_skip
     skipped_is via e = by (slice_get st.basis via) refl e
       where
@@ -142,7 +142,7 @@ module _ (K : Domain) (st : State K) (i j : ℕ) where
             → ◌≡◌ {A = Bool} (elim c [
               | None ↦ false
               | Some c ↦ not (nat_eq via i) && (not (nat_eq via j) && (divides_term c.lead (common K x y) && (either_listed K i via st.listed && either_listed K j via st.listed)))
-            ]) true → IsSkipped K leads (latest [] (entries_of st.listed)) i j via
+            ]) true → IsSkipped K leads (latest [] st.listed) i j via
         by None f e = absurd (true≢false (sym e))
         by (Some c) f e =
             let b1 = both_true _ _ e in

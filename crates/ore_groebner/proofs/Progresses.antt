@@ -1,7 +1,8 @@
 -- What is kept of a run, with one more event.
 --     unless_zero-zero, unless_zero-row    a cofactor row that is zero, and one that isn't
 --     is_listed-push             one more line
---     new_rows-push, lines_from-push     one more event
+--     new_rows-push, entries_from-push, choices_push     one more event
+--     length-entries_from, lines_pairs     there is a line for each event, with the pair of its choice
 --     line_zero, line_row, line_skip     its line
 --     kept_more                  what is kept still fits together
 use Rattle.std.proofs.Common.{◌≡◌, ℕ, suc, ◌+◌, Bool, true, false, List, [], ◌∷◌, ◌++◌, length, map, refl, sym, ap, ◌∙◌, subst, arith}
@@ -26,14 +27,18 @@ use Rattle.ore_rows.specs.Arithmetic.{within}
 use Rattle.ore_rows.specs.Reduction.{Monic, AreMonic, Step, Work, reduce}
 use Rattle.ore_rows.specs.RowLead.{coefficient_at, row_lead}
 use Rattle.ore_rows.specs.Rows.{Row, zero_row}
-use Rattle.ore_rows.specs.Run.{Account, Line, State, is_listed, unless_zero, made_monic}
-use Rattle.ore_rows.specs.Run as run
+use Rattle.ore_pairs.specs.Run.{State, is_listed, unless_zero, made_monic}
+use Rattle.ore_pairs.specs.PairList.{Entry}
+use Rattle.ore_pairs.specs.PairList as pair
+use Rattle.ore_pairs.specs.Run as run
 use Rattle.ore_rows.specs.Stored.{IsZeroRow, sums_of}
 use Rattle.ore_rows.specs.StoredBasis.{AllBelong, monics}
+use Rattle.ore_rows.specs.declared.choices.Origin.TheVariants as origin
 use Rattle.ore_rows.proofs.GreatestTerms.{row_lead-Some, zero_from}
 use Rattle.ore_rows.proofs.StoredBases.{no_lead_of_zeros}
 use Rattle.ore_pairs.specs.Listed.{is_in}
-use Rattle.ore_groebner.specs.Progressing.{lines_from, new_rows, pushed, state_of, Adds, IsKept}
+use Rattle.ore_groebner.specs.Choosing.{pairs_of}
+use Rattle.ore_groebner.specs.Progressing.{entries_from, new_rows, pushed, state_of, choice_of, choices_of, Adds, IsKept}
 use Rattle.ore_groebner.specs.declared.outcome.Event.{Event}
 use Rattle.ore_groebner.specs.declared.outcome.Event.TheVariants.{Treated, Skipped}
 use Rattle.ore_groebner.specs.declared.outcome.Outcome.TheVariants.{Zero, NewRow}
@@ -71,10 +76,10 @@ unless_zero-row o r n = by (row_lead rationals o (sums_of r)) refl
 
 -- ---- one more line
 
-pub is_listed-push : (x y : ℕ) (ls : List (Line rationals)) (l : Line rationals) → is_listed rationals x y (ls ++ l ∷ []) ≡ ((nat_eq x l.first && nat_eq y l.second) || is_listed rationals x y ls)
+pub is_listed-push : (x y : ℕ) (ls : List (Entry rationals)) (l : Entry rationals) → is_listed rationals x y (ls ++ l ∷ []) ≡ ((nat_eq x (pair.first l) && nat_eq y (pair.second l)) || is_listed rationals x y ls)
 unfolding is_listed
 is_listed-push x y [] l = refl
-is_listed-push x y (m ∷ ls) l = ap (λ b. (nat_eq x m.first && nat_eq y m.second) || b) (is_listed-push x y ls l) ∙ or_turned (nat_eq x m.first && nat_eq y m.second) (nat_eq x l.first && nat_eq y l.second) _
+is_listed-push x y (m ∷ ls) l = ap (λ b. (nat_eq x (pair.first m) && nat_eq y (pair.second m)) || b) (is_listed-push x y ls l) ∙ or_turned (nat_eq x (pair.first m) && nat_eq y (pair.second m)) (nat_eq x (pair.first l) && nat_eq y (pair.second l)) _
   where
     or_turned : (a b c : Bool) → (a || (b || c)) ≡ (b || (a || c))
     or_turned true true c = refl
@@ -94,26 +99,26 @@ new_rows-push (Treated i j steps Zero ∷ es) e = new_rows-push es e
 new_rows-push (Treated i j steps (NewRow k) ∷ es) e = one_more _ (new_rows es) (new_rows (e ∷ [])) (new_rows-push es e)
 new_rows-push (Skipped i j via ∷ es) e = new_rows-push es e
 
-pub lines_from-push : (n : ℕ) (es : List Event) (e : Event) → lines_from n (es ++ e ∷ []) ≡ lines_from n es ++ lines_from (n + new_rows es) (e ∷ [])
-unfolding lines_from new_rows
-lines_from-push n [] e = let z : n + 0 ≡ n = omega arith in ap (λ m. lines_from m (e ∷ [])) (sym z)
-lines_from-push n (Treated i j steps Zero ∷ es) e = λ k. record { first = i; second = j; account = run.Treated steps } ∷ lines_from-push n es e k
-lines_from-push n (Treated i j steps (NewRow c) ∷ es) e =
+pub entries_from-push : (n : ℕ) (es : List Event) (e : Event) → entries_from n (es ++ e ∷ []) ≡ entries_from n es ++ entries_from (n + new_rows es) (e ∷ [])
+unfolding entries_from new_rows
+entries_from-push n [] e = let z : n + 0 ≡ n = omega arith in ap (λ m. entries_from m (e ∷ [])) (sym z)
+entries_from-push n (Treated i j steps Zero ∷ es) e = λ k. pair.Pair i j steps ∷ entries_from-push n es e k
+entries_from-push n (Treated i j steps (NewRow c) ∷ es) e =
     let z : suc n + new_rows es ≡ n + suc (new_rows es) = omega arith in
-    λ k. record { first = i; second = j; account = run.Treated (steps ++ record { index = n; monomial = unit; number = c } ∷ []) } ∷ (lines_from-push (suc n) es e ∙ ap (λ m. lines_from (suc n) es ++ lines_from m (e ∷ [])) z) k
-lines_from-push n (Skipped i j via ∷ es) e = λ k. record { first = i; second = j; account = run.Skipped via } ∷ lines_from-push n es e k
+    λ k. pair.Pair i j (steps ++ record { index = n; monomial = unit; number = c } ∷ []) ∷ (entries_from-push (suc n) es e ∙ ap (λ m. entries_from (suc n) es ++ entries_from m (e ∷ [])) z) k
+entries_from-push n (Skipped i j via ∷ es) e = λ k. pair.Skip i j via ∷ entries_from-push n es e k
 
 module _ (m : ℕ) (i j : ℕ) where
-  pub line_zero : (steps : List (Step rationals)) → lines_from m (Treated i j steps Zero ∷ []) ≡ record { first = i; second = j; account = run.Treated steps } ∷ []
-  unfolding lines_from
+  pub line_zero : (steps : List (Step rationals)) → entries_from m (Treated i j steps Zero ∷ []) ≡ pair.Pair i j steps ∷ []
+  unfolding entries_from
   line_zero steps = refl
 
-  pub line_row : (steps : List (Step rationals)) (k : Fraction) → lines_from m (Treated i j steps (NewRow k) ∷ []) ≡ record { first = i; second = j; account = run.Treated (steps ++ record { index = m; monomial = unit; number = k } ∷ []) } ∷ []
-  unfolding lines_from
+  pub line_row : (steps : List (Step rationals)) (k : Fraction) → entries_from m (Treated i j steps (NewRow k) ∷ []) ≡ pair.Pair i j (steps ++ record { index = m; monomial = unit; number = k } ∷ []) ∷ []
+  unfolding entries_from
   line_row steps k = refl
 
-  pub line_skip : (via : ℕ) → lines_from m (Skipped i j via ∷ []) ≡ record { first = i; second = j; account = run.Skipped via } ∷ []
-  unfolding lines_from
+  pub line_skip : (via : ℕ) → entries_from m (Skipped i j via ∷ []) ≡ pair.Skip i j via ∷ []
+  unfolding entries_from
   line_skip via = refl
 
 pub new_rows-zero : (i j : ℕ) (steps : List (Step rationals)) → new_rows (Treated i j steps Zero ∷ []) ≡ 0
@@ -134,17 +139,35 @@ no_new_rows a n h = omega arith
 pub one_new_row : (a b n : ℕ) → a ≡ b + 1 → n ≡ 1 → a ≡ b + n
 one_new_row a b n h k = omega arith
 
+pub length-entries_from : (n : ℕ) (es : List Event) → length (entries_from n es) ≡ length es
+unfolding entries_from
+length-entries_from n [] = refl
+length-entries_from n (Treated i j steps Zero ∷ es) = ap suc (length-entries_from n es)
+length-entries_from n (Treated i j steps (NewRow k) ∷ es) = ap suc (length-entries_from (suc n) es)
+length-entries_from n (Skipped i j via ∷ es) = ap suc (length-entries_from n es)
+
+pub lines_pairs : (n : ℕ) (es : List Event) → map (λ (l : Entry rationals). (pair.first l, pair.second l)) (entries_from n es) ≡ pairs_of (choices_of es)
+unfolding entries_from
+lines_pairs n [] = refl
+lines_pairs n (Treated i j steps Zero ∷ es) = ap (λ ps. (i, j) ∷ ps) (lines_pairs n es)
+lines_pairs n (Treated i j steps (NewRow k) ∷ es) = ap (λ ps. (i, j) ∷ ps) (lines_pairs (suc n) es)
+lines_pairs n (Skipped i j via ∷ es) = ap (λ ps. (i, j) ∷ ps) (lines_pairs n es)
+
+pub choices_push : (es : List Event) (e : Event) → choices_of (es ++ e ∷ []) ≡ choices_of es ++ choice_of e ∷ []
+choices_push [] e = refl
+choices_push (x ∷ es) e = ap (λ cs. choice_of x ∷ cs) (choices_push es e)
+
 -- ---- what is kept
 
-module _ (p q : Progress) (e : Event) (i j : ℕ) (account : Account rationals) (first : q.first ≡ p.first) (events : q.events.items ≡ p.events.items ++ e ∷ []) (line : lines_from (p.first + new_rows p.events.items) (e ∷ []) ≡ record { first = i; second = j; account = account } ∷ []) where
-  pub lines_more : lines_from q.first q.events.items ≡ lines_from p.first p.events.items ++ record { first = i; second = j; account = account } ∷ []
-  lines_more = (λ k. lines_from (first k) (events k)) ∙ lines_from-push p.first p.events.items e ∙ ap (λ ls. lines_from p.first p.events.items ++ ls) line
+module _ (p q : Progress) (e : Event) (i j : ℕ) (entry : Entry rationals) (one : pair.first entry ≡ i) (other : pair.second entry ≡ j) (first : q.first ≡ p.first) (events : q.events.items ≡ p.events.items ++ e ∷ []) (line : entries_from (p.first + new_rows p.events.items) (e ∷ []) ≡ entry ∷ []) where
+  pub lines_more : entries_from q.first q.events.items ≡ entries_from p.first p.events.items ++ entry ∷ []
+  lines_more = (λ k. entries_from (first k) (events k)) ∙ entries_from-push p.first p.events.items e ∙ ap (λ ls. entries_from p.first p.events.items ++ ls) line
 
   pub kept_more : (s : Signature) → IsKept s p → Adds i j p.listed q.listed → AllBelong s q.basis.items → AreMonic rationals s.order (monics q.basis) → length q.basis.items ≡ length p.basis.items + new_rows (e ∷ []) → q.basis.width ≡ p.basis.width → q.syzygies.items ≡ p.syzygies.items → IsKept s q
   kept_more s kept adds belongs monic count width syzygies = record {
     belongs = belongs;
     monic = monic;
-    listed = λ x y. adds x y ∙ ap (λ b. (nat_eq x i && nat_eq y j) || b) (kept.listed x y) ∙ sym (ap (is_listed rationals x y) lines_more ∙ is_listed-push x y (lines_from p.first p.events.items) (record { first = i; second = j; account = account }));
+    listed = λ x y. adds x y ∙ ap (λ b. (nat_eq x i && nat_eq y j) || b) (kept.listed x y) ∙ sym (ap (is_listed rationals x y) lines_more ∙ is_listed-push x y (entries_from p.first p.events.items) entry ∙ (λ k. (nat_eq x (one k) && nat_eq y (other k)) || is_listed rationals x y (entries_from p.first p.events.items)));
     counted = counts (length q.basis.items) (length p.basis.items) p.first (new_rows p.events.items) (new_rows (e ∷ [])) (new_rows q.events.items) count kept.counted (ap new_rows events ∙ new_rows-push p.events.items e) ∙ ap (λ n. n + new_rows q.events.items) (sym first);
     wide = subst (λ n. All (λ (r : List Ordered). length r ≡ n) q.syzygies.items) (sym width) (subst (λ rs. All (λ (r : List Ordered). length r ≡ p.basis.width) rs) (sym syzygies) kept.wide);
     of = subst (All (All (Belongs s))) (sym syzygies) kept.of;
@@ -161,7 +184,7 @@ pub more_syzygies : (s : Signature) (p q : Progress) (r : List Ordered) → IsKe
 more_syzygies s p q r kept first basis listed events syzygies wide of = record {
   belongs = subst (λ b. AllBelong s b.items) (sym basis) kept.belongs;
   monic = subst (λ b. AreMonic rationals s.order (monics b)) (sym basis) kept.monic;
-  listed = λ x y. ap (is_in x y) listed ∙ kept.listed x y ∙ (λ k. is_listed rationals x y (lines_from (sym first k) (sym events k)));
+  listed = λ x y. ap (is_in x y) listed ∙ kept.listed x y ∙ (λ k. is_listed rationals x y (entries_from (sym first k) (sym events k)));
   counted = (λ k. length (basis k).items) ∙ kept.counted ∙ (λ k. sym first k + new_rows (sym events k));
   wide = subst (λ n. All (λ (r : List Ordered). length r ≡ n) q.syzygies.items) (λ k. (sym basis k).width) (subst (λ rs. All (λ (r : List Ordered). length r ≡ p.basis.width) rs) (sym syzygies) (All-push (λ (r : List Ordered). length r ≡ p.basis.width) p.syzygies.items r kept.wide wide));
   of = subst (All (All (Belongs s))) (sym syzygies) (All-push (All (Belongs s)) p.syzygies.items r kept.of of);
@@ -169,16 +192,16 @@ more_syzygies s p q r kept first basis listed events syzygies wide of = record {
 
 -- ---- the states of a run
 
-pub zero_state : (o : Order) (p q : Progress) (i j : ℕ) (w : Work rationals) → lines_from q.first q.events.items ≡ lines_from p.first p.events.items ++ record { first = i; second = j; account = run.Treated w.steps } ∷ [] → q.basis ≡ p.basis → map sums_of q.syzygies.items ≡ map sums_of p.syzygies.items ++ unless_zero rationals o w.cofactor → state_of q ≡ run.with_syzygy rationals o (state_of p) i j w
+pub zero_state : (o : Order) (p q : Progress) (i j n : ℕ) (w : Work rationals) → n ≡ length p.events.items → entries_from q.first q.events.items ≡ entries_from p.first p.events.items ++ pair.Pair i j w.steps ∷ [] → q.basis ≡ p.basis → map sums_of q.syzygies.items ≡ map sums_of p.syzygies.items ++ unless_zero rationals o w.cofactor → q.origins.items ≡ p.origins.items ++ map (λ _. origin.Event n) (unless_zero rationals o w.cofactor) → state_of q ≡ run.with_syzygy rationals o (state_of p) i j w
 unfolding run.with_syzygy
-zero_state o p q i j w lines basis syzygies = λ k. record { basis = monics (basis k); listed = lines k; syzygies = syzygies k }
+zero_state o p q i j n w place lines basis syzygies origins = λ k. record { basis = monics (basis k); listed = lines k; syzygies = syzygies k; origins = (origins ∙ ap (λ m. p.origins.items ++ map (λ _. origin.Event m) (unless_zero rationals o w.cofactor)) (place ∙ sym (length-entries_from p.first p.events.items))) k }
 
 module _ (s : Signature) (p : Progress) (i j : ℕ) (w : Work rationals) (t : Term) where
   abbrev made : Result (Monic (Row rationals)) Cause
   made = made_monic rationals rational_inverses (within program s) w.row w.cofactor t
 
   abbrev finish : Monic (Row rationals) → Result (State rationals) Cause
-  finish b = Ok (record { basis = monics p.basis ++ b ∷ []; listed = run.listing rationals (state_of p) i j (run.Treated (w.steps ++ record { index = length (monics p.basis); monomial = unit; number = coefficient_at rationals w.row t } ∷ [])); syzygies = map sums_of p.syzygies.items })
+  finish b = Ok (record { basis = monics p.basis ++ b ∷ []; listed = run.listing rationals (state_of p) (pair.Pair i j (w.steps ++ record { index = length (monics p.basis); monomial = unit; number = coefficient_at rationals w.row t } ∷ [])); syzygies = map sums_of p.syzygies.items; origins = p.origins.items })
 
   pub row_stops : (c : Cause) → pushed (monics p.basis) made ≡ Err c → run.with_row rationals rational_inverses (within program s) (state_of p) i j w t ≡ Err c
   unfolding run.with_row
@@ -194,9 +217,9 @@ module _ (s : Signature) (p : Progress) (i j : ℕ) (w : Work rationals) (t : Te
           same_err : {A : Type 0} (x y : Cause) → ◌≡◌ {A = Result A Cause} (Err x) (Err y) → x ≡ y
           same_err x y e = cc
 
-  pub row_state : (q : Progress) (k : Fraction) → coefficient_at rationals w.row t ≡ k → length (monics p.basis) ≡ p.first + new_rows p.events.items → lines_from q.first q.events.items ≡ lines_from p.first p.events.items ++ record { first = i; second = j; account = run.Treated (w.steps ++ record { index = p.first + new_rows p.events.items; monomial = unit; number = k } ∷ []) } ∷ [] → q.syzygies.items ≡ p.syzygies.items → pushed (monics p.basis) made ≡ Ok (monics q.basis) → run.with_row rationals rational_inverses (within program s) (state_of p) i j w t ≡ Ok (state_of q)
+  pub row_state : (q : Progress) (k : Fraction) → coefficient_at rationals w.row t ≡ k → length (monics p.basis) ≡ p.first + new_rows p.events.items → entries_from q.first q.events.items ≡ entries_from p.first p.events.items ++ pair.Pair i j (w.steps ++ record { index = p.first + new_rows p.events.items; monomial = unit; number = k } ∷ []) ∷ [] → q.syzygies.items ≡ p.syzygies.items → q.origins.items ≡ p.origins.items → pushed (monics p.basis) made ≡ Ok (monics q.basis) → run.with_row rationals rational_inverses (within program s) (state_of p) i j w t ≡ Ok (state_of q)
   unfolding run.with_row
-  row_state q k stands place lines syzygies e = by made refl e
+  row_state q k stands place lines syzygies origins e = by made refl e
     where
       by : (x : Result (Monic (Row rationals)) Cause) → made ≡ x → pushed (monics p.basis) x ≡ Ok (monics q.basis) → (made >>= finish) ≡ Ok (state_of q)
       by (Err d) f e = absurd (err_is_ok e)
@@ -205,13 +228,13 @@ module _ (s : Signature) (p : Progress) (i j : ℕ) (w : Work rationals) (t : Te
           err_is_ok e = cc
       by (Ok b) f e =
           ap (λ (x : Result (Monic (Row rationals)) Cause). x >>= finish) f
-          ∙ (λ n. Ok (record { basis = same_ok _ _ e n; listed = (as_lines ∙ sym lines) n; syzygies = map sums_of (sym syzygies n) }))
+          ∙ (λ n. Ok (record { basis = same_ok _ _ e n; listed = (as_lines ∙ sym lines) n; syzygies = map sums_of (sym syzygies n); origins = sym origins n }))
         where
           same_ok : (x y : List (Monic (Row rationals))) → ◌≡◌ {A = Result (List (Monic (Row rationals))) Cause} (Ok x) (Ok y) → x ≡ y
           same_ok x y e = cc
 
-          as_lines : run.listing rationals (state_of p) i j (run.Treated (w.steps ++ record { index = length (monics p.basis); monomial = unit; number = coefficient_at rationals w.row t } ∷ [])) ≡ lines_from p.first p.events.items ++ record { first = i; second = j; account = run.Treated (w.steps ++ record { index = p.first + new_rows p.events.items; monomial = unit; number = k } ∷ []) } ∷ []
-          as_lines = λ n. lines_from p.first p.events.items ++ record { first = i; second = j; account = run.Treated (w.steps ++ record { index = place n; monomial = unit; number = stands n } ∷ []) } ∷ []
+          as_lines : run.listing rationals (state_of p) (pair.Pair i j (w.steps ++ record { index = length (monics p.basis); monomial = unit; number = coefficient_at rationals w.row t } ∷ [])) ≡ entries_from p.first p.events.items ++ pair.Pair i j (w.steps ++ record { index = p.first + new_rows p.events.items; monomial = unit; number = k } ∷ []) ∷ []
+          as_lines = λ n. entries_from p.first p.events.items ++ pair.Pair i j (w.steps ++ record { index = place n; monomial = unit; number = stands n } ∷ []) ∷ []
 
 module _ (s : Signature) (st : State rationals) (i j : ℕ) (w : Work rationals) where
   abbrev settled : Result (State rationals) Cause

@@ -4,14 +4,15 @@
 --     length-from_rows, long_from_rows, of_from_rows    how many there are, how long, and of what signature
 --     combine-from             such a row times the basis rows is a multiple of one of them
 --     from_right               they times the basis are the matrix
+--     row_minus_none, left_from    what is left of a unit row by way of them and back
 --     keeps                    so each state that holds keeps the matrix
-use Rattle.std.proofs.Common.{◌≡◌, inl, inr, ℕ, suc, ◌<◌, Bool, true, false, cond, nat_eq, List, [], ◌∷◌, length, map, refl, sym, ap, ◌∙◌, subst}
+use Rattle.std.proofs.Common.{◌≡◌, inl, inr, ℕ, zero, suc, ◌+◌, ◌<◌, Bool, true, false, cond, nat_eq, List, [], ◌∷◌, length, map, refl, sym, ap, ◌∙◌, subst, arith}
 use Rattle.std.specs.List.{AllByRecursion, range_with_len}
 use Rattle.std.specs.declared.option.Option.{Option}
 use Rattle.std.specs.declared.option.Option.TheVariants.{None, Some}
 use Rattle.std.proofs.lemmas.List.{length-map}
 use Rattle.ore_algebra.specs.Domain.{Domain}
-use Rattle.ore_algebra.specs.Free.{none, single}
+use Rattle.ore_algebra.specs.Free.{none, single, plus}
 use Rattle.ore_monomial.specs.Monomial.{unit, plain_cmp}
 use Rattle.ore_monomial.specs.Signature.{Signature, IsLawful}
 use Rattle.ore_monomial.specs.Term.{Term}
@@ -22,16 +23,28 @@ use Rattle.ore_monomial.proofs.Operators
 use Rattle.ore_ring.specs.Product.{times}
 use Rattle.ore_ring.proofs.Belonging.{of_single}
 use Rattle.ore_ring.proofs.Product.{times-linear_right, times-one}
-use Rattle.ore_rows.specs.Rows.{Row, RowOf, AreLong, zero_row, unit_entry, unit_row, row_scale, combine, matrix_times}
+use Rattle.ore_rows.specs.Rows.{Row, RowOf, AreLong, zero_row, unit_entry, unit_row, row_plus, row_minus, row_scale, combine, matrix_times}
 use Rattle.ore_rows.specs.RowLead.{coefficient_at, row_lead}
-use Rattle.ore_rows.specs.Reduction.{Monic, rows_of, row_at}
-use Rattle.ore_rows.specs.Run.{State, constant, entry_row, from_rows}
+use Rattle.ore_rows.specs.Reduction.{Monic, rows_of, cofactors_of, row_at}
+use Rattle.ore_pairs.specs.Run.{State, constant, entry_row, from_rows}
+use Rattle.ore_rows.specs.declared.choices.Origin.{Origin}
+use Rattle.ore_rows.specs.declared.choices.Origin.TheVariants.{ZeroRow}
+use Rattle.ore_rows.proofs.Differences.{row_minus_self}
 use Rattle.ore_rows.proofs.GreatestTerms.{zero_from}
 use Rattle.ore_rows.proofs.RowLaws as Rows
+use Rattle.ore_rows.proofs.UnitRows.{length-unit_row}
 use Rattle.ore_pairs.proofs.Places.{place, length-place, of_place, combine-place}
-use Rattle.ore_groebner.specs.RunLaws.{IsBasisRow, IsKept}
-use Rattle.ore_groebner.proofs.Holding.{AreBack, Holds, long_rows, to_right}
+use Rattle.ore_groebner.specs.RunLaws.{IsBasisRow, IsFrom, IsKept}
+use Rattle.ore_groebner.proofs.Holding.{AreBack, Holds, long_rows, wide_cofactors, to_right}
 use Rattle.ore_groebner.proofs.Listing.{is_once}
+use Rattle.ore_groebner.proofs.Sources.{from_zeros}
+
+row_minus_none : (K : Domain) (n : ℕ) (r : Row K) → length r ≡ n → row_minus K r (zero_row K n) ≡ r
+unfolding row_minus row_plus zero_row
+row_minus_none K zero [] e = refl
+row_minus_none K zero (f ∷ r) e = absurd (omega arith)
+row_minus_none K (suc n) [] e = absurd (omega arith)
+row_minus_none K (suc n) (f ∷ r) e = λ i. (ap (plus K plain_cmp f) (Operators.scale_none K (K.minus K.one)) ∙ Operators.plus_none K f) i ∷ row_minus_none K n r (omega arith) i
 
 module _ (K : Domain) (s : Signature) (lawful : IsLawful s) where
   entry_row-place : (n i : ℕ) (f : Operator K) → entry_row K n i f ≡ place K s n i f
@@ -89,22 +102,55 @@ module _ (K : Domain) (s : Signature) (lawful : IsLawful s) where
       subst (λ m. combine K s p (place K s m i g) (map f basis) ≡ row_scale K s g (row_at (map f basis) i)) e (combine-place K s lawful p i g (map f basis) (subst (λ m. i < m) (sym e) h) long)
 
   module _ (o : Order) (n : ℕ) (a : List (Row K)) where
-    from_right : (basis : List (Monic (Row K))) → AllByRecursion (IsBasisRow K s o n a) basis → (syzygies : List (Row K)) (i k : ℕ) (rs : List (Row K)) → AreLong K n rs → AreBack K s o (length a) i k rs basis syzygies
+    from_right : (basis : List (Monic (Row K))) → AllByRecursion (IsBasisRow K s o n a) basis → (origins : List Origin) (syzygies : List (Row K)) (i k : ℕ) (rs : List (Row K)) → AreLong K n rs → AreBack K s o (length a) i k rs basis origins syzygies
         → matrix_times K s n (from_rows K o (length basis) i rs) (rows_of basis) ≡ rs
     unfolding matrix_times from_rows
-    from_right basis good syzygies i k [] long h = refl
-    from_right basis good syzygies i k (r ∷ rs) long (inl (e, m, h)) =
+    from_right basis good origins syzygies i k [] long h = refl
+    from_right basis good origins syzygies i k (r ∷ rs) long (inl (e, m, h)) =
         ap (λ rows. matrix_times K s n rows (rows_of basis)) (from_rows-none o (length basis) i r rs e)
-        ∙ (λ j. (Rows.combine-zero K s (length basis) n (rows_of basis) (long_rows K s o n a basis good) ∙ ap (zero_row K) (sym long.0) ∙ sym (zero_from K o r e)) j ∷ from_right basis good syzygies i (suc k) rs long.1 h j)
-    from_right basis good syzygies i k (r ∷ rs) long (inr (t, e, b, h)) =
+        ∙ (λ j. (Rows.combine-zero K s (length basis) n (rows_of basis) (long_rows K s o n a basis good) ∙ ap (zero_row K) (sym long.0) ∙ sym (zero_from K o r e)) j ∷ from_right basis good origins syzygies i (suc k) rs long.1 h j)
+    from_right basis good origins syzygies i k (r ∷ rs) long (inr (t, e, b, m, h)) =
         ap (λ rows. matrix_times K s n rows (rows_of basis)) (from_rows-some o (length basis) i r rs t e)
-        ∙ (λ j. (combine-from (λ b. b.row) n basis (long_rows K s o n a basis good) i (constant K (coefficient_at K r t)) b.0 ∙ b.1) j ∷ from_right basis good syzygies (suc i) (suc k) rs long.1 h j)
+        ∙ (λ j. (combine-from (λ b. b.row) n basis (long_rows K s o n a basis good) i (constant K (coefficient_at K r t)) b.0 ∙ b.1) j ∷ from_right basis good origins syzygies (suc i) (suc k) rs long.1 h j)
+
+    module _ (basis : List (Monic (Row K))) (good : AllByRecursion (IsBasisRow K s o n a) basis) (origins : List Origin) (syzygies : List (Row K)) where
+      abbrev wide : ℕ
+      wide = length a
+
+      -- the unit row at place m, less a row of multiples by way of the cofactors
+      abbrev unit_less : ℕ → Row K → Row K
+      unit_less m r = row_minus K (unit_row K wide m) (combine K s wide r (cofactors_of basis))
+
+      abbrev Left : ℕ → Row K → Type 0
+      Left m r = IsFrom K wide origins syzygies (ZeroRow m) (unit_less m r)
+
+      zero_less : (m : ℕ) → unit_less m (zero_row K (length basis)) ≡ unit_row K wide m
+      zero_less m = ap (row_minus K (unit_row K wide m)) (Rows.combine-zero K s (length basis) wide (cofactors_of basis) (wide_cofactors K s o n a basis good)) ∙ row_minus_none K wide (unit_row K wide m) (length-unit_row K wide m)
+
+      pub left_from : (i k : ℕ) (rs : List (Row K)) → AreBack K s o (length a) i k rs basis origins syzygies → (j m : ℕ) → m ≡ k + j → j < length rs → Left m (row_at (from_rows K o (length basis) i rs) j)
+      left_from i k [] h j m e lt = absurd (omega arith)
+      left_from i k (r ∷ rs) (inl (none, from, h)) zero m e lt =
+          let same : k ≡ m = omega arith in
+          subst (λ m. Left m (row_at (from_rows K o (length basis) i (r ∷ rs)) 0)) same (subst (λ rows. Left k (row_at rows 0)) (sym (from_rows-none o (length basis) i r rs none))
+          (subst (IsFrom K wide origins syzygies (ZeroRow k)) (sym (zero_less k)) from))
+      left_from i k (r ∷ rs) (inl (none, from, h)) (suc j) m e lt =
+          subst (λ rows. Left m (row_at rows (suc j))) (sym (from_rows-none o (length basis) i r rs none)) (left_from i (suc k) rs h j m (omega arith) (omega arith))
+      left_from i k (r ∷ rs) (inr (t, some, b, none, h)) zero m e lt =
+          let same : k ≡ m = omega arith in
+          subst (λ m. Left m (row_at (from_rows K o (length basis) i (r ∷ rs)) 0)) same (subst (λ rows. Left k (row_at rows 0)) (sym (from_rows-some o (length basis) i r rs t some))
+          (from_zeros K wide (ZeroRow k) origins syzygies _ none
+          (ap (row_minus K (unit_row K wide k)) (combine-from (λ b. b.cofactor) wide basis (wide_cofactors K s o n a basis good) i (constant K (coefficient_at K r t)) b.0 ∙ b.2) ∙ row_minus_self K (unit_row K wide k) ∙ ap (zero_row K) (length-unit_row K wide k))))
+      left_from i k (r ∷ rs) (inr (t, some, b, none, h)) (suc j) m e lt =
+          subst (λ rows. Left m (row_at rows (suc j))) (sym (from_rows-some o (length basis) i r rs t some)) (left_from (suc i) (suc k) rs h j m (omega arith) (omega arith))
 
     pub keeps : AreLong K n a → (st : State K) → Holds K s o n a st → IsKept K s o n a st
     keeps long st h = record {
       basis = h.basis;
       syzygies = h.syzygies;
       to_is = to_right K s o n a st.basis h.basis;
-      from_is = from_right st.basis h.basis st.syzygies 0 0 a long h.back;
+      from_is = from_right st.basis h.basis st.origins st.syzygies 0 0 a long h.back;
+      left = λ k l. left_from st.basis h.basis st.origins st.syzygies 0 0 a h.back k k (let z : k ≡ 0 + k = omega arith in z) l;
+      many = h.many;
+      places = h.places;
       once = is_once K s o n (rows_of st.basis) (map (λ b. b.lead) st.basis) [] st.listed h.lines.lawful;
     }

@@ -15,10 +15,11 @@ use Rattle.ore_rows.specs.Rows.{Row, AreLong}
 use Rattle.ore_rows.specs.RowLead.{row_lead}
 use Rattle.ore_rows.specs.Arithmetic.{Arithmetic, exact, IsSound}
 use Rattle.ore_rows.specs.Reduction.{Monic, Work, reduce}
-use Rattle.ore_rows.specs.Run.{Skipped, State, Refusal, Unlawful, open_pair, may_skip, listing, stopping, with_syzygy, with_row, settle, treat, step, run}
+use Rattle.ore_pairs.specs.Run.{State, Refusal, Unlawful, open_pair, may_skip, listing, stopping, with_syzygy, with_row, settle, treat, step, run}
 use Rattle.ore_rows.specs.declared.choices.Choice.{Choice}
+use Rattle.ore_pairs.specs.PairList as pair
 use Rattle.ore_rows.specs.declared.choices.Choice.TheVariants.{Treat, Skip}
-use Rattle.ore_groebner.specs.RunLaws.{IsReached}
+use Rattle.ore_pairs.specs.Reached.{IsReachable}
 use Rattle.ore_groebner.proofs.Limited.{refused, given, follows_most, begin_most, run_follows, start_of, s_row_exact, with_row_exact}
 use Rattle.ore_groebner.proofs.Beginning.{begin_holds}
 use Rattle.ore_groebner.proofs.Holding.{Holds}
@@ -66,12 +67,12 @@ module _ (K : Domain) (inverses : HasInverses K) (s : Signature) (lawful : IsLaw
   step_holds st next (Skip i j via) holds e = by (open_pair K st i j) refl e
     where
       chosen : (x y : Monic (Row K)) → IsOpen K st i j x y → (c : Bool) → may_skip K st i j x y via ≡ c
-          → ◌≡◌ {A = Result (State K) Refusal} (cond c (Ok (record st { listed = listing K st i j (Skipped via) })) (Err Unlawful)) (Ok next) → Good next
+          → ◌≡◌ {A = Result (State K) Refusal} (cond c (Ok (record st { listed = listing K st (pair.Skip i j via) })) (Err Unlawful)) (Ok next) → Good next
       chosen x y h false m e = absurd (refused e)
       chosen x y h true m e = subst Good (given _ next e) (skip_holds K s o n a st holds i j x y via h (skipped_is K st i j x y h via m))
 
       by : (x : Option (Monic (Row K) × Monic (Row K))) → open_pair K st i j ≡ x
-          → ◌≡◌ {A = Result (State K) Refusal} (elim x [ None ↦ Err Unlawful | Some p ↦ cond (may_skip K st i j p.0 p.1 via) (Ok (record st { listed = listing K st i j (Skipped via) })) (Err Unlawful) ]) (Ok next) → Good next
+          → ◌≡◌ {A = Result (State K) Refusal} (elim x [ None ↦ Err Unlawful | Some p ↦ cond (may_skip K st i j p.0 p.1 via) (Ok (record st { listed = listing K st (pair.Skip i j via) })) (Err Unlawful) ]) (Ok next) → Good next
       by None h e = absurd (refused e)
       by (Some p) h e = chosen p.0 p.1 (open_is K st i j p h) (may_skip K st i j p.0 p.1 via) refl e
 
@@ -85,8 +86,8 @@ module _ (K : Domain) (inverses : HasInverses K) (s : Signature) (lawful : IsLaw
       by (Ok between) f more e = more between (step_holds st between c holds f) e
       by (Err refusal) f more e = absurd (refused e)
 
-  pub reached_holds : AreLong K n a → (A : Arithmetic K) → IsSound K s A → (st : State K) → IsReached K inverses o A a st → Good st
-  reached_holds long A sound st (first, choices, b, e) =
-      run_holds first st choices
-      (begin_holds K inverses s lawful o n a long first (follows_most _ _ (begin_most K inverses s o A sound a) first b))
-      (run_follows K inverses s o A sound first choices st e)
+  pub reached_holds : AreLong K n a → (A : Arithmetic K) → IsSound K s A → (st : State K) → IsReachable K inverses o A a st → Good st
+  reached_holds long A sound st (choices, h) =
+      run_holds h.start st choices
+      (begin_holds K inverses s lawful o n a long h.start (follows_most _ _ (begin_most K inverses s o A sound a) h.start h.begun))
+      (run_follows K inverses s o A sound h.start choices st h.led)

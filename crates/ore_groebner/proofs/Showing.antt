@@ -61,5 +61,5 @@ module _ (s : Signature) where
       cons_nil : {X : Type 0} {x : X} {xs : List X} → x ∷ xs ≡ [] → ⊥
       cons_nil e = cc
 
-  pub shown_in-state : (a : OperatorMatrix) (p : Progress) → IsKept s p → shown_in s a (state_of p) ≡ shown_of p.basis
+  pub shown_in-state : (a : OperatorMatrix) (p : Progress) → IsKept s p → shown_in s (state_of p) ≡ shown_of p.basis
   shown_in-state a p kept = λ n. record { order = order_of_state p.basis.items kept.belongs kept.monic n; leads = leads_monics p.basis.items n }

@@ -18,8 +18,9 @@ use Rattle.ore_rows.specs.Arithmetic.{Arithmetic, within}
 use Rattle.ore_rows.specs.Reduction.{Monic, Work, reduce}
 use Rattle.ore_rows.specs.RowLead.{coefficient_at, row_lead}
 use Rattle.ore_rows.specs.Rows.{Row}
-use Rattle.ore_rows.specs.Run.{State, Refusal, Unlawful, Treated, Skipped, open_pair, may_skip, listing, stopping, s_row, made_monic, with_syzygy, with_row, settle, treat, step}
+use Rattle.ore_pairs.specs.Run.{State, Refusal, Unlawful, open_pair, may_skip, listing, stopping, s_row, made_monic, with_syzygy, with_row, settle, treat, step}
 use Rattle.ore_rows.specs.declared.choices.Choice.{Choice}
+use Rattle.ore_pairs.specs.PairList as pair
 use Rattle.ore_rows.specs.declared.choices.Choice.TheVariants.{Treat, Skip}
 use Rattle.ore_groebner.specs.Choosing.{treats}
 use Rattle.ore_groebner.specs.Following.{step_of}
@@ -47,7 +48,7 @@ module _ (s : Signature) (st next : State rationals) where
   with_row_longer : (i j : ℕ) (w : Work rationals) (t : Term) → with_row rationals rational_inverses arithmetic st i j w t ≡ Ok next → IsLonger st next 1
   unfolding with_row
   with_row_longer i j w t e =
-      let x = bound (made_monic rationals rational_inverses arithmetic w.row w.cofactor t) (λ b. Ok (record { basis = st.basis ++ b ∷ []; listed = listing rationals st i j (Treated (w.steps ++ record { index = length st.basis; monomial = unit; number = coefficient_at rationals w.row t } ∷ [])); syzygies = st.syzygies })) next e in
+      let x = bound (made_monic rationals rational_inverses arithmetic w.row w.cofactor t) (λ b. Ok (record { basis = st.basis ++ b ∷ []; listed = listing rationals st (pair.Pair i j (w.steps ++ record { index = length st.basis; monomial = unit; number = coefficient_at rationals w.row t } ∷ [])); syzygies = st.syzygies; origins = st.origins })) next e in
       (x.0 ∷ [], ap (λ (q : State rationals). q.basis) (sym (given _ next x.2)), omega arith)
 
   settle_longer : (i j : ℕ) (w : Work rationals) → settle rationals rational_inverses s.order arithmetic st i j w ≡ Ok next → IsLonger st next 1
@@ -74,10 +75,10 @@ module _ (s : Signature) (st next : State rationals) where
       by (Some p) e = treat_longer i j p.0 p.1 (stopping_ok _ next e)
   step_longer (Skip i j via) e = by (open_pair rationals st i j) e
     where
-      chosen : (c : Bool) → ◌≡◌ {A = Result (State rationals) Refusal} (cond c (Ok (record st { listed = listing rationals st i j (Skipped via) })) (Err Unlawful)) (Ok next) → IsLonger st next 0
+      chosen : (c : Bool) → ◌≡◌ {A = Result (State rationals) Refusal} (cond c (Ok (record st { listed = listing rationals st (pair.Skip i j via) })) (Err Unlawful)) (Ok next) → IsLonger st next 0
       chosen false e = absurd (refused e)
       chosen true e = no_longer 0 (ap (λ (q : State rationals). q.basis) (sym (given _ next e)))
 
-      by : (x : Option (Monic (Row rationals) × Monic (Row rationals))) → ◌≡◌ {A = Result (State rationals) Refusal} (elim x [ None ↦ Err Unlawful | Some p ↦ cond (may_skip rationals st i j p.0 p.1 via) (Ok (record st { listed = listing rationals st i j (Skipped via) })) (Err Unlawful) ]) (Ok next) → IsLonger st next 0
+      by : (x : Option (Monic (Row rationals) × Monic (Row rationals))) → ◌≡◌ {A = Result (State rationals) Refusal} (elim x [ None ↦ Err Unlawful | Some p ↦ cond (may_skip rationals st i j p.0 p.1 via) (Ok (record st { listed = listing rationals st (pair.Skip i j via) })) (Err Unlawful) ]) (Ok next) → IsLonger st next 0
       by None e = absurd (refused e)
       by (Some p) e = chosen (may_skip rationals st i j p.0 p.1 via) e

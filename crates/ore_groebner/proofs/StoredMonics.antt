@@ -33,7 +33,7 @@ use Rattle.ore_rows.specs.Arithmetic.{within, scaled}
 use Rattle.ore_rows.specs.Reduction.{Monic, IsMonic, AreMonic}
 use Rattle.ore_rows.specs.RowLead.{IsRowLead, coefficient_at}
 use Rattle.ore_rows.specs.Rows.{Row, row_scale}
-use Rattle.ore_rows.specs.Run.{constant, inverse_of, made_monic}
+use Rattle.ore_pairs.specs.Run.{constant, inverse_of, made_monic}
 use Rattle.ore_rows.specs.Stored.{sums_of}
 use Rattle.ore_rows.specs.StoredBasis.{StoredBasis, AllBelong, monic_of, monics}
 use Rattle.ore_rows.proofs.RowLeads.{one_row_lead, lead-row_scale_term}

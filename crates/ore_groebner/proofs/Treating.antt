@@ -6,7 +6,7 @@
 --     good_x, good_y           the two rows of the pair are rows of the basis
 --     syzygy_holds             where nothing is left, the next state holds
 --     row_holds                where something is left, it does too
-use Rattle.std.proofs.Common.{◌≡◌, ◌⊎◌, inl, inr, ⊎_elim, ℕ, ◌<◌, ◌≤◌, List, [], ◌∷◌, ◌++◌, length, map, get_or, refl, sym, ap, ◌∙◌, subst, append-nil, arith}
+use Rattle.std.proofs.Common.{◌≡◌, ◌⊎◌, inl, inr, ⊎_elim, ℕ, suc, ◌+◌, ◌<◌, ◌≤◌, List, [], ◌∷◌, ◌++◌, length, map, get_or, refl, sym, ap, ◌∙◌, subst, append-nil, arith}
 use Rattle.std.specs.declared.option.Option.{Option}
 use Rattle.std.specs.declared.option.Option.TheVariants.{None, Some}
 use Rattle.std.specs.declared.result.Result.TheVariants.{Ok}
@@ -19,23 +19,26 @@ use Rattle.ore_monomial.specs.Signature.{Signature, MonomialOf, IsLawful}
 use Rattle.ore_monomial.specs.Term.{Term, term_cmp, shift}
 use Rattle.ore_monomial.specs.declared.order.Order.{Order}
 use Rattle.ore_monomial.proofs.Declared.{MonomialOf-unit}
-use Rattle.ore_rows.specs.Rows.{Row, RowOf, AreLong, zero_row, row_minus, row_scale, combine, matrix_times, InRowModule}
+use Rattle.ore_rows.specs.Rows.{Row, RowOf, AreLong, zero_row, row_minus, row_scale, combine, matrix_times}
 use Rattle.ore_rows.specs.RowLead.{coefficient_at, row_lead}
 use Rattle.ore_rows.specs.Arithmetic.{exact}
 use Rattle.ore_rows.specs.Reduction.{Monic, Step, Work, rows_of, cofactors_of, leads_of, origin, after, reduce}
-use Rattle.ore_rows.specs.Run.{Treated, Skipped, Line, State, constant, common, listing, unless_zero, with_syzygy}
+use Rattle.ore_pairs.specs.Run.{State, constant, common, listing, unless_zero, with_syzygy}
+use Rattle.ore_rows.specs.declared.choices.Origin.{Origin}
+use Rattle.ore_rows.specs.declared.choices.Origin.TheVariants.{Event}
 use Rattle.ore_rows.proofs.Differences.{row_minus_self}
 use Rattle.ore_rows.proofs.GreatestTerms.{row_lead-Some, zero_from}
-use Rattle.ore_rows.proofs.RowModules.{module_zero}
 use Rattle.ore_division.proofs.Reductions.{after-push}
 use Rattle.ore_pairs.specs.Steps.{pair_term, s_row}
-use Rattle.ore_pairs.specs.PairList.{IsBelowStep, IsTreated, IsSkipped, IsLawfulEntry, AreLawful, AreEntriesOf}
+use Rattle.ore_pairs.specs.PairList.{Entry, IsBelowStep, IsTreated, IsSkipped, IsLawfulEntry, AreLawful, AreEntriesOf}
+use Rattle.ore_pairs.specs.PairList as pair
 use Rattle.ore_pairs.proofs.Syzygies.{AreStepsWithin, within_lawful, length-after, combine-after, combine-s_row}
-use Rattle.ore_groebner.specs.RunLaws.{IsBasisRow, IsSyzygy, entry, entry_of, entries_of, IsShown}
+use Rattle.ore_groebner.specs.RunLaws.{IsBasisRow, IsSyzygy, IsNone, IsFrom, IsPlaceIn, IsShown}
 use Rattle.ore_groebner.proofs.Limited.{monic_of, start_of, state_with}
-use Rattle.ore_groebner.proofs.Growing.{SameRows, SameLeads, within_steps, left_same, pair_same, new_same, below_same, lawful_same, shown_same, inside_map, map_inside, map_longer, map_grow, module_more, module_added}
-use Rattle.ore_groebner.proofs.Holding.{back_more, Holds, are_monic, are_wide, wide_cofactors, of_rows, of_cofactors, wide_syzygies, to_right, long_at}
-use Rattle.ore_groebner.proofs.Listing.{latest, entries_push, entries_of_push, lawful_push}
+use Rattle.ore_groebner.proofs.Growing.{SameRows, SameLeads, within_steps, left_same, pair_same, new_same, below_same, lawful_same, shown_same, shown_push, inside_map, map_inside, map_longer, map_grow}
+use Rattle.ore_groebner.proofs.Sources.{none_more, from_new, from_zeros, no_event, Grown, grown_none, grown_many, grown_places}
+use Rattle.ore_groebner.proofs.Holding.{back_more, Holds, are_monic, are_wide, wide_cofactors, of_rows, of_cofactors, to_right, long_at}
+use Rattle.ore_groebner.proofs.Listing.{latest, entries_of_push, lawful_push}
 use Rattle.ore_groebner.proofs.Monics.{shift-unit, monic_good, monic_row, monic_cofactor}
 use Rattle.ore_groebner.proofs.Opening.{IsOpen, all_slice, new_pair, first_inside, second_inside, common_is, row_is, cofactor_is, start_of_row, start_of_cofactor, start_long, start_wide, start_below}
 use Rattle.ore_groebner.proofs.Parts.{IsPart, part_reduced}
@@ -46,25 +49,26 @@ module _ (K : Domain) (s : Signature) (o : Order) (n : ℕ) (a : List (Row K)) (
   abbrev q : ℕ
   q = length a
 
-  pub advance : (more : List (Monic (Row K))) (syzygies : List (Row K)) (l : Line K) → ((z : Row K) → InRowModule K s q st.syzygies z → InRowModule K s q syzygies z)
+  pub advance : (more : List (Monic (Row K))) (syzygies : List (Row K)) (origins : List Origin) (l : Entry K) → Grown K (length st.listed) st.origins st.syzygies origins syzygies
       → AllByRecursion (IsBasisRow K s o n a) (st.basis ++ more) → AllByRecursion (IsSyzygy K s o n a) syzygies
-      → IsLawfulEntry K s o n (rows_of (st.basis ++ more)) (leads_of (st.basis ++ more)) (latest [] (entries_of st.listed)) (entry_of l)
-      → (AllByRecursion (RowOf K s) a → AreEntriesOf K s (entry_of l ∷ [])) → IsShown K s q (leads_of (st.basis ++ more)) (cofactors_of (st.basis ++ more)) syzygies (entry_of l)
-      → Holds K s o n a (record { basis = st.basis ++ more; listed = st.listed ++ l ∷ []; syzygies = syzygies })
-  advance more syzygies l wider good all entry of shows = record {
+      → IsLawfulEntry K s o n (rows_of (st.basis ++ more)) (leads_of (st.basis ++ more)) (latest [] st.listed) l
+      → (AllByRecursion (RowOf K s) a → AreEntriesOf K s (l ∷ [])) → IsShown K s q (leads_of (st.basis ++ more)) (cofactors_of (st.basis ++ more)) origins syzygies (length st.listed) l
+      → Holds K s o n a (record { basis = st.basis ++ more; listed = st.listed ++ l ∷ []; syzygies = syzygies; origins = origins })
+  advance more syzygies origins l grown good all entry of shows = record {
     basis = good;
     syzygies = all;
     lines = record {
-      lawful = subst (AreLawful K s o n (rows_of longer) (leads_of longer) []) (sym (entries_push st.listed l))
-          (lawful_push K s o n (rows_of longer) (leads_of longer) [] (entries_of st.listed) (entry_of l)
-          (lawful_same K s (leads_of st.basis) (leads_of longer) same_leads long o n (rows_of st.basis) (rows_of longer) (same (λ b. b.row)) [] (entries_of st.listed) holds.lines.lawful) entry);
-      entries = λ d. subst (AreEntriesOf K s) (sym (entries_push st.listed l)) (entries_of_push K s (entries_of st.listed) (entry_of l) (holds.lines.entries d) (of d));
-      shown = subst (AllByRecursion (IsShown K s q (leads_of longer) (cofactors_of longer) syzygies)) (sym (entries_push st.listed l))
-          (All-push (IsShown K s q (leads_of longer) (cofactors_of longer) syzygies) (entries_of st.listed) (entry_of l)
-          (shown_same K s (leads_of st.basis) (leads_of longer) same_leads long q (cofactors_of st.basis) (cofactors_of longer) st.syzygies syzygies (same (λ b. b.cofactor)) wider (entries_of st.listed)
-          (within_lawful K s o n (rows_of st.basis) (leads_of st.basis) [] (entries_of st.listed) holds.lines.lawful) holds.lines.shown) shows);
+      lawful = lawful_push K s o n (rows_of longer) (leads_of longer) [] st.listed l
+          (lawful_same K s (leads_of st.basis) (leads_of longer) same_leads long o n (rows_of st.basis) (rows_of longer) (same (λ b. b.row)) [] st.listed holds.lines.lawful) entry;
+      entries = λ d. entries_of_push K s st.listed l (holds.lines.entries d) (of d);
+      shown = shown_push K s q (leads_of longer) (cofactors_of longer) origins syzygies 0 st.listed l
+          (shown_same K s (leads_of st.basis) (leads_of longer) same_leads long q (length st.listed) st.origins st.syzygies origins syzygies grown (cofactors_of st.basis) (cofactors_of longer) (same (λ b. b.cofactor)) 0 st.listed (omega arith)
+          (within_lawful K s o n (rows_of st.basis) (leads_of st.basis) [] st.listed holds.lines.lawful) holds.lines.shown)
+          (subst (λ k. IsShown K s q (leads_of longer) (cofactors_of longer) origins syzygies k l) (let z : length st.listed ≡ 0 + length st.listed = omega arith in z) shows);
     };
-    back = back_more K s o q st.basis more st.syzygies syzygies wider 0 0 a holds.back;
+    back = back_more K s o q st.basis more (length st.listed) st.origins st.syzygies origins syzygies grown 0 0 a holds.back;
+    many = grown_many K q (length st.listed) st.origins st.syzygies origins syzygies grown holds.many;
+    places = subst (λ k. AllByRecursion (IsPlaceIn q k) origins) (let e = length-append st.listed (l ∷ []) in let z : suc (length st.listed) ≡ length (st.listed ++ l ∷ []) = omega arith in z) (grown_places K q (length st.listed) st.origins st.syzygies origins syzygies grown holds.places);
   }
     where
       longer : List (Monic (Row K))
@@ -80,21 +84,21 @@ module _ (K : Domain) (s : Signature) (o : Order) (n : ℕ) (a : List (Row K)) (
       same f i h = map_grow f [] st.basis more i (map_inside (λ (b : Monic (Row K)). b.lead) st.basis i h)
 
   -- with no more basis rows
-  pub advance_same : (syzygies : List (Row K)) (l : Line K) → ((z : Row K) → InRowModule K s q st.syzygies z → InRowModule K s q syzygies z) → AllByRecursion (IsSyzygy K s o n a) syzygies
-      → IsLawfulEntry K s o n (rows_of st.basis) (leads_of st.basis) (latest [] (entries_of st.listed)) (entry_of l)
-      → (AllByRecursion (RowOf K s) a → AreEntriesOf K s (entry_of l ∷ [])) → IsShown K s q (leads_of st.basis) (cofactors_of st.basis) syzygies (entry_of l)
-      → Holds K s o n a (record { basis = st.basis; listed = st.listed ++ l ∷ []; syzygies = syzygies })
-  advance_same syzygies l wider all entry of shows =
+  pub advance_same : (syzygies : List (Row K)) (origins : List Origin) (l : Entry K) → Grown K (length st.listed) st.origins st.syzygies origins syzygies → AllByRecursion (IsSyzygy K s o n a) syzygies
+      → IsLawfulEntry K s o n (rows_of st.basis) (leads_of st.basis) (latest [] st.listed) l
+      → (AllByRecursion (RowOf K s) a → AreEntriesOf K s (l ∷ [])) → IsShown K s q (leads_of st.basis) (cofactors_of st.basis) origins syzygies (length st.listed) l
+      → Holds K s o n a (record { basis = st.basis; listed = st.listed ++ l ∷ []; syzygies = syzygies; origins = origins })
+  advance_same syzygies origins l grown all entry of shows =
       let e = sym (append-nil st.basis) in
-      subst (λ basis. Holds K s o n a (record { basis = basis; listed = st.listed ++ l ∷ []; syzygies = syzygies })) (append-nil st.basis)
-      (advance [] syzygies l wider
+      subst (λ basis. Holds K s o n a (record { basis = basis; listed = st.listed ++ l ∷ []; syzygies = syzygies; origins = origins })) (append-nil st.basis)
+      (advance [] syzygies origins l grown
       (subst (AllByRecursion (IsBasisRow K s o n a)) e holds.basis) all
-      (subst (λ (basis : List (Monic (Row K))). IsLawfulEntry K s o n (rows_of basis) (leads_of basis) (latest [] (entries_of st.listed)) (entry_of l)) e entry) of
-      (subst (λ (basis : List (Monic (Row K))). IsShown K s q (leads_of basis) (cofactors_of basis) syzygies (entry_of l)) e shows))
+      (subst (λ (basis : List (Monic (Row K))). IsLawfulEntry K s o n (rows_of basis) (leads_of basis) (latest [] st.listed) l) e entry) of
+      (subst (λ (basis : List (Monic (Row K))). IsShown K s q (leads_of basis) (cofactors_of basis) origins syzygies (length st.listed) l) e shows))
 
-  pub skip_holds : (i j : ℕ) (x y : Monic (Row K)) (via : ℕ) → IsOpen K st i j x y → IsSkipped K (leads_of st.basis) (latest [] (entries_of st.listed)) i j via
-      → Holds K s o n a (record st { listed = listing K st i j (Skipped via) })
-  skip_holds i j x y via h skipped = advance_same st.syzygies (record { first = i; second = j; account = Skipped via }) (λ z h. h) holds.syzygies (new_pair K st i j x y h, skipped) (λ d. tt) tt
+  pub skip_holds : (i j : ℕ) (x y : Monic (Row K)) (via : ℕ) → IsOpen K st i j x y → IsSkipped K (leads_of st.basis) (latest [] st.listed) i j via
+      → Holds K s o n a (record st { listed = listing K st (pair.Skip i j via) })
+  skip_holds i j x y via h skipped = advance_same st.syzygies st.origins (pair.Skip i j via) (grown_none K (length st.listed) st.origins st.syzygies) holds.syzygies (new_pair K st i j x y h, skipped) (λ d. tt) (no_event q (length st.listed) st.origins holds.places)
 
 -- ---- a treated pair
 
@@ -180,31 +184,47 @@ module _ (K : Domain) (inverses : HasInverses K) (s : Signature) (lawful : IsLaw
       syzygy = record { wide = wide; vanishes = made ∙ zeros; of_row = p.of_cofactor }
 
       -- the cofactor row is among the others, or is zeros
-      kept_others : AllByRecursion (IsSyzygy K s o n a) (unless_zero K o w.cofactor) × ((unless_zero K o w.cofactor ≡ w.cofactor ∷ []) ⊎ (w.cofactor ≡ zero_row K width))
+      kept_others : AllByRecursion (IsSyzygy K s o n a) (unless_zero K o w.cofactor) × ((unless_zero K o w.cofactor ≡ w.cofactor ∷ []) ⊎ ((unless_zero K o w.cofactor ≡ []) × (w.cofactor ≡ zero_row K width)))
       unfolding unless_zero
       kept_others = by (row_lead K o w.cofactor) refl
         where
-          by : (t : Option Term) → row_lead K o w.cofactor ≡ t → AllByRecursion (IsSyzygy K s o n a) (elim t [ None ↦ [] | Some t ↦ w.cofactor ∷ [] ]) × ((elim t [ None ↦ [] | Some t ↦ w.cofactor ∷ [] ] ≡ w.cofactor ∷ []) ⊎ (w.cofactor ≡ zero_row K width))
-          by None e = (tt, inr (zero_from K o w.cofactor e ∙ ap (zero_row K) wide))
+          by : (t : Option Term) → row_lead K o w.cofactor ≡ t → AllByRecursion (IsSyzygy K s o n a) (elim t [ None ↦ [] | Some t ↦ w.cofactor ∷ [] ]) × ((elim t [ None ↦ [] | Some t ↦ w.cofactor ∷ [] ] ≡ w.cofactor ∷ []) ⊎ ((elim t [ None ↦ [] | Some t ↦ w.cofactor ∷ [] ] ≡ []) × (w.cofactor ≡ zero_row K width)))
+          by None e = (tt, inr (refl, zero_from K o w.cofactor e ∙ ap (zero_row K) wide))
           by (Some t) e = ((syzygy, tt), inl refl)
 
       all_syzygies : AllByRecursion (IsSyzygy K s o n a) (st.syzygies ++ unless_zero K o w.cofactor)
       all_syzygies = All-append (IsSyzygy K s o n a) st.syzygies (unless_zero K o w.cofactor) holds.syzygies kept_others.0
 
-      inside : InRowModule K s width (st.syzygies ++ unless_zero K o w.cofactor) w.cofactor
-      inside = ⊎_elim
-          (λ e. subst (λ rows. InRowModule K s width (st.syzygies ++ rows) w.cofactor) (sym e) (module_added K s lawful width st.syzygies (w.cofactor ∷ []) (wide_syzygies K s o n a st.syzygies holds.syzygies) (wide, tt) 0 (omega arith)))
-          (λ e. subst (InRowModule K s width (st.syzygies ++ unless_zero K o w.cofactor)) (sym e) (module_zero K s lawful width _ (wide_syzygies K s o n a _ all_syzygies)))
+      abbrev here : Origin
+      here = Event (length st.listed)
+
+      abbrev sources : List (Row K) → List Origin
+      sources rows = map (λ c. here) rows
+
+      all_here : (rows : List (Row K)) → AllByRecursion (λ x. x ≡ here) (sources rows)
+      all_here [] = tt
+      all_here (r ∷ rows) = (refl, all_here rows)
+
+      grown : Grown K (length st.listed) st.origins st.syzygies (st.origins ++ sources (unless_zero K o w.cofactor)) (st.syzygies ++ unless_zero K o w.cofactor)
+      grown = record { sources = sources (unless_zero K o w.cofactor); others = unless_zero K o w.cofactor; origins_are = refl; syzygies_are = refl; all = all_here (unless_zero K o w.cofactor); many = length-map (unless_zero K o w.cofactor) (λ c. here) }
+
+      -- none came from the pair before
+      fresh : IsNone st.origins here
+      fresh = no_event width (length st.listed) st.origins holds.places
+
+      from : IsFrom K width (st.origins ++ sources (unless_zero K o w.cofactor)) (st.syzygies ++ unless_zero K o w.cofactor) here w.cofactor
+      from = ⊎_elim
+          (λ e. subst (λ rows. IsFrom K width (st.origins ++ sources rows) (st.syzygies ++ rows) here w.cofactor) (sym e) (from_new K width here st.origins st.syzygies w.cofactor fresh holds.many))
+          (λ e. subst (λ rows. IsFrom K width (st.origins ++ sources rows) (st.syzygies ++ rows) here w.cofactor) (sym e.0) (from_zeros K width here (st.origins ++ []) (st.syzygies ++ []) w.cofactor (none_more K width here st.origins [] fresh tt) e.1))
           kept_others.1
 
       pub syzygy_holds : Holds K s o n a (with_syzygy K o st i j w)
       unfolding with_syzygy
-      syzygy_holds = advance_same K s o n a st holds (st.syzygies ++ unless_zero K o w.cofactor) (record { first = i; second = j; account = Treated w.steps })
-          (module_more K s lawful width st.syzygies (unless_zero K o w.cofactor) (wide_syzygies K s o n a st.syzygies holds.syzygies) (wide_syzygies K s o n a _ kept_others.0))
-          all_syzygies
+      syzygy_holds = advance_same K s o n a st holds (st.syzygies ++ unless_zero K o w.cofactor) (st.origins ++ map (λ c. Event (length st.listed)) (unless_zero K o w.cofactor)) (pair.Pair i j w.steps)
+          grown all_syzygies
           (new_pair K st i j x y open_xy, record { low = low; nothing = row_left ∙ zeros })
           (λ d. (p.steps_of d, tt))
-          (subst (InRowModule K s width (st.syzygies ++ unless_zero K o w.cofactor)) (sym cofactor_left) inside)
+          (subst (IsFrom K width (st.origins ++ sources (unless_zero K o w.cofactor)) (st.syzygies ++ unless_zero K o w.cofactor) here) (sym cofactor_left) from)
 
     -- ---- something is left
 
@@ -266,9 +286,9 @@ module _ (K : Domain) (inverses : HasInverses K) (s : Signature) (lawful : IsLaw
       }
 
       pub row_holds : Holds K s o n a (state_with K inverses s o st i j w t)
-      row_holds = advance K s o n a st holds (b ∷ []) st.syzygies (record { first = i; second = j; account = Treated (w.steps ++ last ∷ []) }) (λ z h. h)
+      row_holds = advance K s o n a st holds (b ∷ []) st.syzygies st.origins (pair.Pair i j (w.steps ++ last ∷ [])) (grown_none K (length st.listed) st.origins st.syzygies)
           (All-push (IsBasisRow K s o n a) st.basis b holds.basis good) holds.syzygies
-          (new_same K s leads (leads_of longer) same_leads longer_leads (latest [] (entries_of st.listed)) i j (new_pair K st i j x y open_xy), treated)
+          (new_same K s leads (leads_of longer) same_leads longer_leads (latest [] st.listed) i j (new_pair K st i j x y open_xy), treated)
           (λ d. (All-push (λ (t : Step K). MonomialOf s t.monomial) w.steps last (p.steps_of d) (MonomialOf-unit s), tt))
-          (subst (InRowModule K s width st.syzygies) (sym (leaves (λ b. b.cofactor) w.cofactor cofactor_left (monic_cofactor K inverses s lawful o w.row w.cofactor t something) ∙ ap (zero_row K) wide))
-          (module_zero K s lawful width st.syzygies (wide_syzygies K s o n a st.syzygies holds.syzygies)))
+          (from_zeros K width (Event (length st.listed)) st.origins st.syzygies _ (no_event width (length st.listed) st.origins holds.places)
+          (leaves (λ b. b.cofactor) w.cofactor cofactor_left (monic_cofactor K inverses s lawful o w.row w.cofactor t something) ∙ ap (zero_row K) wide))

@@ -1,5 +1,6 @@
 -- What a chooser answers, and the choices that it has given, run by run; the present run is the last.
 --     first_of, second_of       the pair of a choice
+--     pairs_of                  the pairs of some choices, in order
 --     is_chosen                 a pair is that of some choice
 --     treats, treats_in         how many pairs some choices, and some runs, treat
 --     present, with_choice      the choices of the present run; one more of them
@@ -12,8 +13,9 @@
 --     MaySkip                   the definition of a run allows to skip a pair by a third row
 --     IsLawful                  a choice that the definition of a run allows
 --     AreAllListed              each pair with equal lead columns is listed
+--     IsAfforded, AreAfforded   the budget allows a choice; it allowed all that were given
 --     IsAnswer                  what is known where an answer is given
-use Rattle.std.specs.Prelude.{◌≡◌, ℕ, suc, ◌+◌, ◌-◌, ◌<◌, Bool, true, false, ◌&&◌, ◌||◌, nat_eq, List, [], ◌∷◌, ◌++◌, length, get_or, IfSome}
+use Rattle.std.specs.Prelude.{◌≡◌, ℕ, suc, ◌+◌, ◌-◌, ◌<◌, ◌≤◌, Bool, true, false, ◌&&◌, ◌||◌, nat_eq, List, [], ◌∷◌, ◌++◌, length, map, get_or, IfSome}
 use Rattle.std.specs.List.{slice_get}
 use Rattle.std.specs.declared.option.Option.{Option}
 use Rattle.std.specs.declared.result.Result.{Result}
@@ -22,7 +24,7 @@ use Rattle.ore_rational.proofs.FractionLaws.{rationals}
 use Rattle.ore_monomial.specs.declared.stop.NoMemory.{NoMemory}
 use Rattle.ore_rows.specs.Reduction.{Monic, lead_at}
 use Rattle.ore_rows.specs.Rows.{Row}
-use Rattle.ore_rows.specs.Run.{State, may_skip}
+use Rattle.ore_pairs.specs.Run.{State, may_skip}
 use Rattle.ore_rows.specs.StoredBasis.{StoredBasis, monics}
 use Rattle.ore_rows.specs.declared.choices.Choice.{Choice}
 use Rattle.ore_rows.specs.declared.choices.Choice.TheVariants.{Treat, Skip}
@@ -40,6 +42,10 @@ first_of (Skip i j via) = i
 abbrev pub second_of : Choice → ℕ
 second_of (Treat i j) = j
 second_of (Skip i j via) = j
+
+-- in the order of the choices
+abbrev pub pairs_of : List Choice → List (ℕ × ℕ)
+pairs_of cs = map (λ c. (first_of c, second_of c)) cs
 
 unfoldable pub is_chosen : ℕ → ℕ → List Choice → Bool
 is_chosen i j [] = false
@@ -117,6 +123,10 @@ AreAllListed basis ps = (i j : ℕ) → i < j → j < length basis.items → (le
 abbrev pub IsAfforded : List (List Choice) → ℕ → Choice → Type 0
 IsAfforded given budget (Treat i j) = treats_in given < budget
 IsAfforded given budget (Skip i j via) = Unit {0}
+
+-- no more pairs are treated than the budget has
+abbrev pub AreAfforded : List (List Choice) → ℕ → Type 0
+AreAfforded given budget = treats_in given ≤ budget
 
 -- a lawful choice that the budget allows; nothing is left to choose; the budget is spent; the next kept choice is absent or not lawful
 abbrev pub IsAnswer : StoredBasis → List (ℕ × ℕ) → (given : List (List Choice)) → (budget : ℕ) → (replays : Bool) → (kept : List (List Choice)) → Next → Type 0

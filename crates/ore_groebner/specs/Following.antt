@@ -10,7 +10,6 @@
 --     IsStopIn, IsStopOf      why following a choice halts
 --     IsLed                   some choices lead to the progress
 use Rattle.std.specs.Prelude.{◌≡◌, ℕ, Bool, true, List, [], ◌∷◌, length}
-use Rattle.std.specs.List.{AllZip}
 use Rattle.std.specs.declared.option.Option.{Option}
 use Rattle.std.specs.declared.option.Option.TheVariants.{None, Some}
 use Rattle.std.specs.declared.result.Result.{Result}
@@ -20,15 +19,15 @@ use Rattle.ore_algebra.specs.Limits as cause
 use Rattle.ore_rational.proofs.FractionLaws.{rationals, rational_inverses}
 use Rattle.ore_monomial.specs.Signature.{Signature}
 use Rattle.ore_rows.specs.Arithmetic.{within}
-use Rattle.ore_rows.specs.Run.{State, Refusal, Stopped}
-use Rattle.ore_rows.specs.Run as run
+use Rattle.ore_pairs.specs.Run.{State, Refusal, Stopped}
+use Rattle.ore_pairs.specs.Run as run
 use Rattle.ore_rows.specs.Stored.{OperatorMatrix}
 use Rattle.ore_rows.specs.StoredBasis.{StoredBasis}
 use Rattle.ore_rows.specs.declared.choices.Choice.{Choice}
 use Rattle.ore_rows.specs.declared.choices.Choice.TheVariants as choice
 use Rattle.ore_groebner.specs.Choosing.{first_of, second_of, with_choice, ListsChoices, IsLawful, AreAllListed, IsAfforded, IsAnswer}
-use Rattle.ore_groebner.specs.Honest.{starts, leads, IsOrigin, AreAllowed}
-use Rattle.ore_groebner.specs.Progressing.{state_of, event_at, IsKept, IsGrown, HasShapeOf, Adds}
+use Rattle.ore_groebner.specs.Honest.{starts, leads, AreAllowed}
+use Rattle.ore_groebner.specs.Progressing.{state_of, choices_of, IsKept, HasShapeOf, Adds}
 use Rattle.ore_groebner.specs.Shown.{Shown}
 use Rattle.ore_groebner.specs.declared.chooser.Next.TheVariants as next
 use Rattle.ore_groebner.specs.declared.outcome.Halt.{Halt}
@@ -78,12 +77,11 @@ IsRefusalAllowed allows_spent shown ps (halt.Degree place) = Unit {0}
 abbrev pub step_of : Signature → State rationals → Choice → Result (State rationals) Refusal
 step_of s st c = run.step rationals rational_inverses s.order (within program s) st c
 
--- the state is the one that the choice makes, and what is kept fits it; one pair is added and at most one syzygy
+-- the state is the one that the choice makes, and what is kept fits it; one pair is added, in one more event
 pub record IsFollowed (s : Signature) (p : Progress) (c : Choice) (q : Progress) : Type 0 where
   pub made : step_of s (state_of p) c ≡ Ok (state_of q)
   pub kept : IsKept s q
-  pub grown : IsGrown p q (event_at (length p.events.items))
-  pub shape : HasShapeOf p q
+  pub shape : HasShapeOf p c q
   pub listed : Adds (first_of c) (second_of c) p.listed q.listed
 
 -- the choice treats the pair of the place, which stops
@@ -106,9 +104,8 @@ pub record IsLed (s : Signature) (a : OperatorMatrix) (allows : Shown → List (
   pub begun : starts s a ≡ Ok start
   pub led : leads s a start choices ≡ Ok (state_of p)
   pub kept : IsKept s p
-  pub origins : AllZip (IsOrigin s a choices) p.origins.items p.syzygies.items
   pub lists : ListsChoices p.listed choices
-  pub events : length p.events.items ≡ length choices
+  pub events : choices_of p.events.items ≡ choices
   pub first : p.first ≡ length start.basis
   pub cols : p.basis.cols ≡ a.cols
   pub width : p.basis.width ≡ length a.rows

@@ -2,22 +2,13 @@
 
 ghost use Rattle.std.specs.Prelude.{◌≡◌, ◌≢◌, ℕ, Bool, List, [], ◌∷◌, ◌++◌, IfOk, IfErr};
 ghost use Rattle.ore_rows.specs.declared.choices.Choice as rows;
-ghost use Rattle.ore_groebner.specs.Choosing.{present, given_after, ListsChoices, IsAnswer, IsPrefixOfKept};
+ghost use Rattle.ore_groebner.specs.Choosing.{present, pairs_of, given_after, ListsChoices, IsAnswer, IsPrefixOfKept};
 ghost use Rattle.ore_groebner.specs.Shown.{Shown, shown_of, none_shown, IsGrownFrom};
 ghost use Rattle.ore_groebner.specs.Rules.{IsAllowed};
 
 use ore_monomial::NoMemory;
 use ore_pairs::Listed;
-use ore_rows::{Basis, Choice};
-
-/// Which choices may come, and whether the budget may be spent, by the leads of the basis and the listed pairs.
-pub trait Rule {
-    /// The choice may come.
-    ghost allows: { Shown → List (ℕ × ℕ) → rows.Choice → Bool };
-
-    /// The answer that the budget is spent may come.
-    ghost allows_spent: { Shown → List (ℕ × ℕ) → Bool };
-}
+use ore_rows::{Basis, Choice, Rule};
 
 /// What a chooser answers.
 #[derive(Clone, Copy, Debug, PartialEq, Eq, Drop)]
@@ -61,7 +52,7 @@ pub trait Chooser: Rule {
         ensures replays { replays self.new ≡ replays self.old }
         ensures kept { kept self.new ≡ kept self.old };
 
-    /// What comes next in the present run.
+    /// What comes next in the present run. The rule of the chooser allows it, by the pairs of the present run in order.
     ///
     /// # Errors
     /// Want of memory. Then it has given nothing.
@@ -70,7 +61,7 @@ pub trait Chooser: Rule {
         requires lists { ListsChoices listed.now (present (given self.old)) }
         requires grown { IsGrownFrom (shown self.old) basis.now }
         ensures answer { IfOk result (IsAnswer basis.now listed.now (given self.old) (budget self.old) (replays self.old) (kept self.old)) }
-        ensures allowed { IfOk result (IsAllowed Self.allows Self.allows_spent (shown_of basis.now) listed.now) }
+        ensures allowed { IfOk result (IsAllowed Self.allows Self.allows_spent (shown_of basis.now) (pairs_of (present (given self.old)))) }
         ensures given { given self.new ≡ given_after (given self.old) result }
         ensures shown { IfOk result (λ _. shown self.new ≡ shown_of basis.now) }
         ensures budget { budget self.new ≡ budget self.old }

@@ -7,7 +7,7 @@ ghost use Rattle.ore_rational.proofs.FractionLaws.{rationals};
 ghost use Rattle.ore_monomial.specs.Monomial.{plain_cmp};
 ghost use Rattle.ore_ring.specs.Belongs.{Belongs};
 ghost use Rattle.ore_rows.specs.Rows as rows;
-ghost use Rattle.ore_rows.specs.Run as run;
+ghost use Rattle.ore_pairs.specs.Run as run;
 ghost use Rattle.ore_rows.specs.Stored.{rows_of, sums_of};
 
 use ore_monomial::{Exps, NoMemory, Signature};
@@ -16,7 +16,7 @@ use ore_ring::Op;
 use ore_rows::{Matrix, Row, row_lead};
 use std::alloc::Global;
 
-/// The rows of the matrix as multiples of the first basis rows, of which there are `n`.
+/// The rows of the matrix as multiples of `n` basis rows: the first of these are its rows that aren't zero, made monic.
 ///
 /// # Errors
 /// Want of memory.

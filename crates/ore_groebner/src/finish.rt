@@ -7,7 +7,7 @@ use crate::outcome::{Events, Finished, Origins};
 use crate::progress::Progress;
 use ore_rows::Matrix;
 
-// A run that is complete, where the rows of `from` are those of its matrix as multiples of the first basis rows.
+// A run that is complete, where the rows of `from` are those of its matrix as multiples of the basis rows.
 pub(crate) fn finished(progress: Progress, from: Matrix) -> Finished
     requires wide { HasColumns progress.basis.width progress.syzygies.items }
     requires few { progress.basis.width < 2 ^ 63 }

@@ -1,7 +1,7 @@
 //! The first basis of a run.
 
 ghost use Rattle.std.specs.Prelude.{◌≡◌, ◌≤◌, ◌<◌, ◌+◌, ◌++◌, ◌∷◌, [], length, map, IfOk, IfErr};
-ghost use Rattle.std.specs.List.{All, AllZip};
+ghost use Rattle.std.specs.List.{All};
 ghost use Rattle.ore_algebra.specs.Limits.{program};
 ghost use Rattle.ore_rational.proofs.FractionLaws.{rationals, rational_inverses};
 ghost use Rattle.ore_monomial.specs.Gives.{Gives};
@@ -10,19 +10,18 @@ ghost use Rattle.ore_ring.specs.Belongs.{Belongs};
 ghost use Rattle.ore_rows.specs.Arithmetic.{within};
 ghost use Rattle.ore_rows.specs.RowLead.{IsRowLead};
 ghost use Rattle.ore_rows.specs.Rows as rows;
-ghost use Rattle.ore_rows.specs.Run as run;
+ghost use Rattle.ore_pairs.specs.Run as run;
 ghost use Rattle.ore_rows.specs.Stored.{IsZeroRow, rows_of, sums_of};
-ghost use Rattle.ore_groebner.specs.Honest.{IsOrigin};
-ghost use Rattle.ore_groebner.specs.Progressing.{state_of, based, zero_row_at, IsBegun, IsKept, IsNoted, HasWidthsOf};
+ghost use Rattle.ore_rows.specs.declared.choices.Origin.TheVariants as origins;
+ghost use Rattle.ore_groebner.specs.Progressing.{state_of, based, IsBegun, IsKept, HasWidthsOf};
 
 use crate::monic::push_monic;
-use crate::outcome::Origin;
 use crate::progress::Progress;
 use ore_monomial::{NoMemory, RingStop, Signature};
 use ore_pairs::Listed;
 use ore_rational::Rational;
 use ore_ring::OreRing;
-use ore_rows::{Basis, Matrix, Row, row_lead, unit_row};
+use ore_rows::{Basis, Matrix, Origin, Row, row_lead, unit_row};
 use std::alloc::Global;
 
 /// The state before the first choice: each row of the matrix made monic, with its unit row for its cofactor row;
@@ -37,7 +36,6 @@ pub fn begin<R: OreRing>(ring: &R, alloc: Global, a: &Matrix) -> Result<Progress
     ensures begun { IfOk result IsBegun }
     ensures cols { IfOk result (λ p. p.basis.cols ≡ a.now.cols) }
     ensures width { IfOk result (λ p. p.basis.width ≡ length a.now.rows) }
-    ensures origins { IfOk result (λ p. AllZip (IsOrigin (R.signature_of ring.now) a.now []) p.origins.items p.syzygies.items) }
     ensures first { IfOk result (λ p. (p.first ≡ length p.basis.items) × (p.first ≤ length a.now.rows)) }
 {
     let mut progress = Progress {
@@ -70,7 +68,6 @@ fn begin_row<R: OreRing>(
     ensures kept { IfOk result (IsKept (R.signature_of ring.now)) }
     ensures begun { IfOk result IsBegun }
     ensures widths { IfOk result (HasWidthsOf progress) }
-    ensures noted { IfOk result (IsNoted (R.signature_of ring.now) k row.now progress) }
     ensures count { IfOk result (λ p. length p.basis.items ≤ length progress.basis.items + 1) }
 {
     let unit = unit_row(alloc, ring.signature(), progress.basis.width(), k)?;
@@ -91,12 +88,10 @@ fn begin_zero(
     requires of { All (Belongs sig.now) unit }
     requires kept { IsKept sig.now progress }
     requires begun { IsBegun progress }
-    ensures state { IfOk result (λ p. state_of p ≡ record (state_of progress) { syzygies = (state_of progress).syzygies ++ sums_of unit ∷ [] }) }
+    ensures state { IfOk result (λ p. state_of p ≡ record (state_of progress) { syzygies = (state_of progress).syzygies ++ sums_of unit ∷ []; origins = (state_of progress).origins ++ origins.ZeroRow k ∷ [] }) }
     ensures kept { IfOk result (IsKept sig.now) }
     ensures begun { IfOk result IsBegun }
     ensures widths { IfOk result (HasWidthsOf progress) }
-    ensures added { IfOk result (λ p. p.syzygies.items ≡ progress.syzygies.items ++ unit ∷ []) }
-    ensures noted { IfOk result (λ p. p.origins.items ≡ progress.origins.items ++ zero_row_at k ∷ []) }
     ensures basis { IfOk result (λ p. p.basis ≡ progress.basis) }
 {
     let _ = sig;
@@ -126,8 +121,6 @@ fn begin_monic<R: OreRing>(
     ensures kept { IfOk result (IsKept (R.signature_of ring.now)) }
     ensures begun { IfOk result IsBegun }
     ensures widths { IfOk result (HasWidthsOf progress) }
-    ensures syzygies { IfOk result (λ p. p.syzygies.items ≡ progress.syzygies.items) }
-    ensures origins { IfOk result (λ p. p.origins.items ≡ progress.origins.items) }
     ensures count { IfOk result (λ p. length p.basis.items ≡ length progress.basis.items + 1) }
 {
     let Progress {

@@ -14,7 +14,7 @@ ghost use Rattle.ore_ring.specs.Belongs.{Belongs};
 ghost use Rattle.ore_rows.specs.Arithmetic.{within};
 ghost use Rattle.ore_rows.specs.Reduction.{AreMonic};
 ghost use Rattle.ore_rows.specs.RowLead.{IsRowLead};
-ghost use Rattle.ore_rows.specs.Run as run;
+ghost use Rattle.ore_pairs.specs.Run as run;
 ghost use Rattle.ore_rows.specs.Stored.{sums_of};
 ghost use Rattle.ore_rows.specs.StoredBasis.{AllBelong, monics};
 ghost use Rattle.ore_groebner.specs.Progressing.{monic_with, pushed};

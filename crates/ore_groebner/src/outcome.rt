@@ -3,7 +3,7 @@
 ghost use Rattle.std.specs.Prelude.{◌≡◌, ◌<◌, length, slice_get};
 
 use ore_rational::Rational;
-use ore_rows::{Basis, Matrix, Steps};
+use ore_rows::{Basis, Matrix, Origin, Steps};
 use std::marker::Model;
 
 /// Where a run stopped.
@@ -57,15 +57,6 @@ pub enum Event {
     },
 }
 
-/// What a syzygy comes from.
-#[derive(Clone, Copy, Debug, PartialEq, Eq, Drop)]
-pub enum Origin {
-    /// The row of the matrix at this place, which is zero.
-    ZeroRow(usize),
-    /// The event at this place.
-    Event(usize),
-}
-
 /// What was done with the pairs, in order.
 #[derive(Drop)]
 pub struct Events {
@@ -87,6 +78,13 @@ impl Events {
         ensures { result ≡ items.items }
     {
         Events { items }
+    }
+
+    /// The events as a vector.
+    pub fn into_vec(self) -> Vec<Event>
+        ensures { result.items ≡ self }
+    {
+        self.items
     }
 
     /// The number of events.
@@ -113,7 +111,7 @@ pub struct Origins {
 
 impl Model for Origins {
     ghost use Rattle.std.specs.Prelude.{List};
-    ghost use Rattle.ore_groebner.specs.declared.outcome.Origin.{Origin};
+    ghost use Rattle.ore_rows.specs.declared.choices.Origin.{Origin};
 
     ghost Value = { List Origin };
 
@@ -126,6 +124,13 @@ impl Origins {
         ensures { result ≡ items.items }
     {
         Origins { items }
+    }
+
+    /// The origins as a vector.
+    pub fn into_vec(self) -> Vec<Origin>
+        ensures { result.items ≡ self }
+    {
+        self.items
     }
 
     /// The number of origins.
@@ -149,7 +154,7 @@ impl Origins {
 pub struct Finished {
     /// The basis.
     pub basis: Basis,
-    /// The rows of the matrix as multiples of the first basis rows.
+    /// The rows of the matrix as multiples of the basis rows, of which only the first are needed.
     pub from: Matrix,
     /// What was done with the pairs.
     pub events: Events,

@@ -12,20 +12,22 @@ ghost use Rattle.ore_rows.specs.Arithmetic.{within};
 ghost use Rattle.ore_rows.specs.Reduction.{Monic, lead_at};
 ghost use Rattle.ore_rows.specs.RowLead.{IsRowLead};
 ghost use Rattle.ore_rows.specs.Rows.{Row as Plain};
-ghost use Rattle.ore_rows.specs.Run as run;
+ghost use Rattle.ore_pairs.specs.Run as run;
+ghost use Rattle.ore_pairs.specs.PairList as pair;
 ghost use Rattle.ore_rows.specs.Stored.{IsZeroRow, sums_of};
 ghost use Rattle.ore_division.specs.StoredWork.{work_of};
 ghost use Rattle.ore_pairs.specs.Listed.{AreAt};
-ghost use Rattle.ore_groebner.specs.Progressing.{state_of, event_at, Adds, IsKept, IsGrown, HasShapeOf};
+ghost use Rattle.ore_groebner.specs.Progressing.{state_of, Adds, IsKept, HasShapeOf};
+ghost use Rattle.ore_rows.specs.declared.choices.Choice.TheVariants as choices;
 
 use crate::monic::push_monic;
-use crate::outcome::{Event, Origin, Outcome};
+use crate::outcome::{Event, Outcome};
 use ore_division::{Reduced, reduce};
 use ore_monomial::{NoMemory, RingStop, Signature};
 use ore_pairs::{Listed, s_row};
 use ore_rational::Rational;
 use ore_ring::OreRing;
-use ore_rows::{Basis, Row, row_lead};
+use ore_rows::{Basis, Origin, Row, row_lead};
 use std::alloc::Global;
 
 /// What a run has made so far.
@@ -63,8 +65,7 @@ pub fn treat<R: OreRing>(
     requires kept { IsKept (R.signature_of ring.now) progress }
     ensures gives { (a b : Monic (Plain rationals)) → AreAt progress.basis i j a b → Gives state_of result (run.treat rationals rational_inverses (R.signature_of ring.now).order (within program (R.signature_of ring.now)) (state_of progress) i j a b) }
     ensures kept { IfOk result (IsKept (R.signature_of ring.now)) }
-    ensures grown { IfOk result (λ p. IsGrown progress p (event_at (length progress.events.items))) }
-    ensures shape { IfOk result (HasShapeOf progress) }
+    ensures shape { IfOk result (HasShapeOf progress (choices.Treat i j)) }
     ensures listed { IfOk result (λ p. Adds i j progress.listed p.listed) }
 {
     let (row, cofactor) = s_row(ring, alloc, &progress.basis, i, j)?;
@@ -78,10 +79,9 @@ pub fn treat<R: OreRing>(
 /// Want of memory.
 pub fn skip(progress: Progress, i: usize, j: usize, via: usize) -> Result<Progress, NoMemory>
     requires { i < j }
-    ensures state { IfOk result (λ p. state_of p ≡ record (state_of progress) { listed = run.listing rationals (state_of progress) i j (run.Skipped via) }) }
+    ensures state { IfOk result (λ p. state_of p ≡ record (state_of progress) { listed = run.listing rationals (state_of progress) (pair.Skip i j via) }) }
     ensures kept { IfOk result (λ p. (s : Lawful) → IsKept s progress → IsKept s p) }
-    ensures grown { IfOk result (λ p. IsGrown progress p (event_at (length progress.events.items))) }
-    ensures shape { IfOk result (HasShapeOf progress) }
+    ensures shape { IfOk result (HasShapeOf progress (choices.Skip i j via)) }
     ensures listed { IfOk result (λ p. Adds i j progress.listed p.listed) }
 {
     let mut grown = progress;
@@ -107,8 +107,7 @@ fn settle<R: OreRing>(
     requires cofactor_of { All (Belongs (R.signature_of ring.now)) work.cofactor }
     ensures gives { Gives state_of result (run.settle rationals rational_inverses (R.signature_of ring.now).order (within program (R.signature_of ring.now)) (state_of progress) i j (work_of work)) }
     ensures kept { IfOk result (IsKept (R.signature_of ring.now)) }
-    ensures grown { IfOk result (λ p. IsGrown progress p (event_at (length progress.events.items))) }
-    ensures shape { IfOk result (HasShapeOf progress) }
+    ensures shape { IfOk result (HasShapeOf progress (choices.Treat i j)) }
     ensures listed { IfOk result (λ p. Adds i j progress.listed p.listed) }
 {
     match row_lead(ring.signature(), &work.row) {
@@ -132,8 +131,7 @@ fn settle_zero(
     requires cofactor_of { All (Belongs sig.now) work.cofactor }
     ensures state { IfOk result (λ p. state_of p ≡ run.with_syzygy rationals sig.now.order (state_of progress) i j (work_of work)) }
     ensures kept { IfOk result (IsKept sig.now) }
-    ensures grown { IfOk result (λ p. IsGrown progress p (event_at (length progress.events.items))) }
-    ensures shape { IfOk result (HasShapeOf progress) }
+    ensures shape { IfOk result (HasShapeOf progress (choices.Treat i j)) }
     ensures listed { IfOk result (λ p. Adds i j progress.listed p.listed) }
 {
     let Reduced {
@@ -165,7 +163,7 @@ fn with_syzygy(
     requires of { All (Belongs sig.now) cofactor }
     ensures syzygies { IfOk result (λ p. map sums_of p.syzygies.items ≡ map sums_of progress.syzygies.items ++ run.unless_zero rationals sig.now.order (sums_of cofactor)) }
     ensures kept { IfOk result (IsKept sig.now) }
-    ensures grown { IfOk result (λ p. IsGrown progress p origin) }
+    ensures origins { IfOk result (λ p. p.origins.items ≡ progress.origins.items ++ map (λ _. origin) (run.unless_zero rationals sig.now.order (sums_of cofactor))) }
     ensures first { IfOk result (λ p. p.first ≡ progress.first) }
     ensures basis { IfOk result (λ p. p.basis ≡ progress.basis) }
     ensures listed { IfOk result (λ p. p.listed ≡ progress.listed) }
@@ -200,8 +198,7 @@ fn settle_row<R: OreRing>(
     requires cofactor_of { All (Belongs (R.signature_of ring.now)) work.cofactor }
     ensures gives { (t : Term) → IsRowLead rationals (R.signature_of ring.now).order (sums_of work.row) t coef → Gives state_of result (run.with_row rationals rational_inverses (within program (R.signature_of ring.now)) (state_of progress) i j (work_of work) t) }
     ensures kept { IfOk result (IsKept (R.signature_of ring.now)) }
-    ensures grown { IfOk result (λ p. IsGrown progress p (event_at (length progress.events.items))) }
-    ensures shape { IfOk result (HasShapeOf progress) }
+    ensures shape { IfOk result (HasShapeOf progress (choices.Treat i j)) }
     ensures listed { IfOk result (λ p. Adds i j progress.listed p.listed) }
 {
     let Progress {

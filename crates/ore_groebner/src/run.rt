@@ -3,7 +3,7 @@
 ghost use Rattle.std.specs.Prelude.{◌≡◌, ◌≢◌, ◌∷◌, ◌++◌, [], IfOk, IfErr};
 ghost use Rattle.std.specs.List.{All};
 ghost use Rattle.ore_ring.specs.Belongs.{Belongs};
-ghost use Rattle.ore_groebner.specs.Choosing.{present, ListsChoices, AreAllListed};
+ghost use Rattle.ore_groebner.specs.Choosing.{present, pairs_of, ListsChoices, AreAllListed, AreAfforded};
 ghost use Rattle.ore_groebner.specs.Following.{earlier, given_with, IsNext, IsNextAllowed, IsRefusal, IsRefusalAllowed, IsLed};
 ghost use Rattle.ore_groebner.specs.Honest.{AreAllowed, HasOneMoreRun, HasRunsAfter, IsHonest, IsHalted, MayBeSpent};
 ghost use Rattle.ore_groebner.specs.Shown.{shown_of, IsGrownFrom};
@@ -40,6 +40,7 @@ pub fn run<R: OreRing, C: Chooser>(
     ensures halted_given { IfErr result (HasRunsAfter (C.given chooser.old) (C.given chooser.new)) }
     ensures halted_allowed { IfErr result (λ _. HasOneMoreRun (C.given chooser.old) (C.given chooser.new) → AreAllowed (R.signature_of ring.now) a.now C.allows (present (C.given chooser.new))) }
     ensures spent_allowed { IfErr result (λ halt. halt ≡ Spent → MayBeSpent (R.signature_of ring.now) a.now C.allows_spent (present (C.given chooser.new))) }
+    ensures afforded { AreAfforded (C.given chooser.old) (C.budget chooser.old) → AreAfforded (C.given chooser.new) (C.budget chooser.new) }
     ensures budget { C.budget chooser.new ≡ C.budget chooser.old }
     ensures replays { C.replays chooser.new ≡ C.replays chooser.old }
     ensures kept { C.kept chooser.new ≡ C.kept chooser.old }
@@ -51,10 +52,10 @@ pub fn run<R: OreRing, C: Chooser>(
     let Ok(()) = chooser.start_run() else {
         return Err(Halt::Memory);
     };
-    let first = started.first;
-    let _rows = a.rows();
     let progress = complete(ring, alloc, a, chooser, started)?;
-    let Ok(from) = from_matrix(alloc, ring.signature(), a, first) else {
+    let _rows = a.rows();
+    let rows = progress.basis.len();
+    let Ok(from) = from_matrix(alloc, ring.signature(), a, rows) else {
         return Err(Halt::Memory);
     };
     Ok(finished(progress, from))
@@ -78,6 +79,7 @@ fn complete<R: OreRing, C: Chooser>(
     ensures halted { IfErr result (IsHalted (R.signature_of ring.now) a.now (C.given chooser.new) (C.budget chooser.new) (C.replays chooser.new) (C.kept chooser.new)) }
     ensures allowed { AreAllowed (R.signature_of ring.now) a.now C.allows (present (C.given chooser.new)) }
     ensures spent_allowed { IfErr result (λ halt. halt ≡ Spent → MayBeSpent (R.signature_of ring.now) a.now C.allows_spent (present (C.given chooser.new))) }
+    ensures afforded { AreAfforded (C.given chooser.old) (C.budget chooser.old) → AreAfforded (C.given chooser.new) (C.budget chooser.new) }
     ensures budget { C.budget chooser.new ≡ C.budget chooser.old }
     ensures replays { C.replays chooser.new ≡ C.replays chooser.old }
     ensures kept { C.kept chooser.new ≡ C.kept chooser.old }
@@ -96,12 +98,12 @@ fn chosen<C: Chooser>(chooser: &mut C, progress: &Progress) -> Result<Option<Cho
     requires lists { ListsChoices progress.now.listed (present (C.given chooser.old)) }
     requires grown { IsGrownFrom (C.shown chooser.old) progress.now.basis }
     ensures next { IfOk result (IsNext progress.now.basis progress.now.listed (C.given chooser.old) (C.budget chooser.old)) }
-    ensures allowed { IfOk result (IsNextAllowed C.allows (shown_of progress.now.basis) progress.now.listed) }
+    ensures allowed { IfOk result (IsNextAllowed C.allows (shown_of progress.now.basis) (pairs_of (present (C.given chooser.old)))) }
     ensures given { IfOk result (λ o. C.given chooser.new ≡ given_with (C.given chooser.old) o) }
     ensures shown { IfOk result (λ _. C.shown chooser.new ≡ shown_of progress.now.basis) }
     ensures same { IfErr result (λ _. C.given chooser.new ≡ C.given chooser.old) }
     ensures refusal { IfErr result (IsRefusal progress.now.basis progress.now.listed (C.given chooser.old) (C.budget chooser.old) (C.replays chooser.old) (C.kept chooser.old)) }
-    ensures refusal_allowed { IfErr result (IsRefusalAllowed C.allows_spent (shown_of progress.now.basis) progress.now.listed) }
+    ensures refusal_allowed { IfErr result (IsRefusalAllowed C.allows_spent (shown_of progress.now.basis) (pairs_of (present (C.given chooser.old)))) }
     ensures budget { C.budget chooser.new ≡ C.budget chooser.old }
     ensures replays { C.replays chooser.new ≡ C.replays chooser.old }
     ensures kept { C.kept chooser.new ≡ C.kept chooser.old }

@@ -1,7 +1,8 @@
 -- A valid exact block shows exactness.
 --     syzygies_inside          by `to`, the syzygies of the treated pairs go into the row module of l
 --     left_over, left_inside, left_over_inside      what is left of a row by way of the basis and back is in the row module of l
---     exact_block              a row takes a to zeros exactly where it is in the row module of l
+--     exact_block              a row takes a to zeros exactly where it is in the row module of l, which has a column for
+--                              each row of a
 use Rattle.std.proofs.Common.{◌≡◌, ℕ, ◌<◌, List, [], ◌∷◌, length, get_or, drop, sym, ap, ◌∙◌, subst, arith}
 use Rattle.std.specs.List.{AllByRecursion}
 use Rattle.std.proofs.ByRecursion.{All-get_or, All-drop}
@@ -130,4 +131,4 @@ module _ (K : Domain) (s : Signature) (lawful : IsLawful s) where
 
     pub exact_block : IsExact K s n a l
     unfolding IsExact
-    exact_block c lc oc = (kernel_inside c lc oc, module_vanishes c)
+    exact_block = (ll, λ c lc oc. (kernel_inside c lc oc, module_vanishes c))

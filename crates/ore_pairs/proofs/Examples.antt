@@ -4,6 +4,7 @@
 --     skip_lawful, skip_counted          a list for the column 1, D, E that skips the pair of D and E
 --     outside_valid, outside_follows     a block for D and the row 1, where D is not 1; so 1 is no multiple of D
 --     zeros_invalid                      no block shows that D, -1 spans all that takes two zeros to zero
+--     longer_inexact                     the row 1, D has an entry too many to be exact for one zero
 use Rattle.std.proofs.Common.{◌≡◌, ◌≢◌, inl, inr, ⊎_elim, ℕ, zero, suc, ◌<◌, false, List, [], ◌∷◌, length, get_or, refl, sym, ap, ◌∙◌, subst, arith}
 use Rattle.std.specs.Ordering.{is_gt}
 use Rattle.std.specs.Cmp.{tied_itself}
@@ -259,4 +260,10 @@ module _ (K : Domain) (s : Signature) (lawful : IsLawful s) (o : Order) (d : Mon
 
   zeros_invalid : (b : ExactBlock K) → IsExactBlockOf K s b → ¬ IsValidExact K s o 1 zeros relation b
   unfolding IsExact combine row_plus row_scale zero_row
-  zeros_invalid b of v = not_reached ((exact_block K s lawful o 1 zeros relation b (refl, tt) of v (nil ∷ one ∷ []) refl (of_none K s, (of_single K s unit K.one (MonomialOf-unit s), tt))).0 (simp (nil-times, times-nil, Operators.plus_none K)))
+  zeros_invalid b of v = not_reached (((exact_block K s lawful o 1 zeros relation b (refl, tt) of v).1 (nil ∷ one ∷ []) refl (of_none K s, (of_single K s unit K.one (MonomialOf-unit s), tt))).0 (simp (nil-times, times-nil, Operators.plus_none K)))
+
+  -- ---- sizes
+
+  longer_inexact : ¬ IsExact K s 1 ((nil ∷ []) ∷ []) ((one ∷ D ∷ []) ∷ [])
+  unfolding IsExact
+  longer_inexact h = let wide = h.0.0 in absurd (omega arith)

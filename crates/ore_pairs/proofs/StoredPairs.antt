@@ -1,5 +1,5 @@
 -- The code on pairs, beside the definitions of a run.
---     lead_of_basis                a lead of a basis of a signature is of the signature
+--     lead_of_row                  the lead of a row of a basis of a signature is of the signature
 --     lead_here, row_here, cofactor_here     what is read at a place, and the basis row there
 --     bind_flat                    three operations in order, and then what goes on with their value
 --     s_row_parts                  the combination of a pair as that of its rows and that of its cofactor rows
@@ -41,13 +41,15 @@ use Rattle.ore_monomial.proofs.Stops.{fails_like}
 use Rattle.ore_ring.specs.Ordered.{Ordered}
 use Rattle.ore_leads.specs.FirstDivisor.{divides_term}
 use Rattle.ore_rows.specs.Arithmetic.{Arithmetic, within, scaled, less}
-use Rattle.ore_rows.specs.Reduction.{Monic, IsMonic, AreMonic, Work, rows_of, cofactors_of, leads_of, origin}
+use Rattle.ore_rows.specs.Reduction as reduction
+use Rattle.ore_rows.specs.Reduction.{Monic, Work, rows_of, cofactors_of, leads_of, origin}
 use Rattle.ore_rows.specs.Rows.{Row}
-use Rattle.ore_rows.specs.Run.{State, common, multiplier, s_row}
-use Rattle.ore_rows.specs.Run as run
+use Rattle.ore_pairs.specs.Run.{State, common, multiplier, s_row}
+use Rattle.ore_pairs.specs.Run as run
 use Rattle.ore_rows.specs.Stored.{sums_of}
-use Rattle.ore_rows.specs.StoredBasis.{StoredBasis, AllBelong, monic_of, monics}
-use Rattle.ore_rows.proofs.BasisParts.{leads_monics, row_value, cofactor_value, lead_of_signature}
+use Rattle.ore_rows.specs.StoredBasis.{StoredBasis, HasLead, AllBelong, monic_of, monics}
+use Rattle.ore_rows.proofs.BasisParts.{leads_monics, row_value, cofactor_value, row_belongs, lead_of_signature}
+use Rattle.ore_rows.proofs.StoredBases.{is_monic}
 use Rattle.ore_pairs.specs.Listed.{is_in, AreAt, HasPairsOf, multiples_less}
 use Rattle.ore_pairs.specs.PairRule.{either_listed, may_skip}
 use Rattle.ore_pairs.specs.Steps.{lead_at, pair_term}
@@ -55,17 +57,11 @@ use Rattle.ore_pairs.proofs.PairRuleLaws.{skip_past, skip_within}
 
 -- ---- reading the basis
 
-blank : Monic (List Ordered)
-blank = record { row = []; cofactor = []; lead = origin }
-
-pub lead_of_basis : (s : Signature) (b : StoredBasis) (leads : List Term) (k : ℕ) → leads ≡ leads_of b.items → k < length b.items → AllBelong s b.items → AreMonic rationals s.order (monics b) → MonomialOf s (lead_at leads k).monomial
-lead_of_basis s b leads k stored l belong monic = subst (λ (ts : List Term). MonomialOf s (lead_at ts k).monomial) (sym stored) (subst (λ (t : Term). MonomialOf s t.monomial) (sym (get_or-map (λ (m : Monic (List Ordered)). m.lead) b.items k blank origin l)) (lead_of_signature s item.row item.lead rationals.one (belong k blank l).0 here))
-  where
-    item : Monic (List Ordered)
-    item = get_or b.items k blank
-
-    here : IsMonic rationals s.order (monic_of item)
-    here = subst (IsMonic rationals s.order) (get_or-map monic_of b.items k blank (monic_of blank) l) (monic k (monic_of blank) (subst (λ n. k < n) (sym (length-map b.items monic_of)) l))
+-- the lead of a row of the basis is of the signature of its entries
+pub lead_of_row : (s : Signature) (b : StoredBasis) (leads : List Term) (k : ℕ) → leads ≡ leads_of b.items → AllBelong s b.items → (r : List Ordered) → slice_get (rows_of b.items) k ≡ Some r → HasLead r (reduction.lead_at b.items k) → MonomialOf s (lead_at leads k).monomial
+lead_of_row s b leads k same belong r at lead =
+    let of = row_belongs s b k r belong at in
+    subst (λ (ts : List Term). MonomialOf s (lead_at ts k).monomial) (sym same) (lead_of_signature s r (reduction.lead_at b.items k) rationals.one of (is_monic s r (reduction.lead_at b.items k) of lead))
 
 module _ (b : StoredBasis) (k : ℕ) (a : Monic (Row rationals)) (at : slice_get (monics b) k ≡ Some a) where
   inside : k < length (monics b)

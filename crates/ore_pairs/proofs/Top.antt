@@ -48,8 +48,8 @@ module _ (K : Domain) (o : Order) (leads : List Term) (z : Row K) where
   Found j = ((k : ℕ) → k < j → entry k ≡ none K plain_cmp)
       ⊎ ((k : ℕ) × (q : Monomial) × (k < j) × (at_place K z k q ≢ K.none) × ((i : ℕ) → i < j → IsUnder (weight leads k q) i))
 
-  abbrev HasLead : ℕ → Type 0
-  HasLead j = (m : Monomial) × IsLead K o (entry j) m (coefficient K plain_cmp (entry j) m)
+  abbrev EntryHasLead : ℕ → Type 0
+  EntryHasLead j = (m : Monomial) × IsLead K o (entry j) m (coefficient K plain_cmp (entry j) m)
 
   none_there : (f : Operator K) (q : Monomial) → f ≡ none K plain_cmp → coefficient K plain_cmp f q ≢ K.none → ⊥
   none_there f q e u = u (ap (λ f. coefficient K plain_cmp f q) e ∙ Operators.coefficient-none K q)
@@ -58,7 +58,7 @@ module _ (K : Domain) (o : Order) (leads : List Term) (z : Row K) where
   own : (j : ℕ) (m : Monomial) → IsLead K o (entry j) m (coefficient K plain_cmp (entry j) m) → IsUnder (weight leads j m) j
   own j m a r v = ap is_gt (weight_cmp o leads j r m) ∙ a.greatest r v
 
-  more : (j : ℕ) → Found j → (entry j ≡ none K plain_cmp) ⊎ HasLead j → Found (suc j)
+  more : (j : ℕ) → Found j → (entry j ≡ none K plain_cmp) ⊎ EntryHasLead j → Found (suc j)
   more j (inl all) (inl e) = inl (last (λ k. entry k ≡ none K plain_cmp) j all e)
   more j (inl all) (inr (m, a)) = inr (j, m, omega arith, a.apart, last (IsUnder (weight leads j m)) j (λ i l r u. absurd (none_there _ r (all i l) u)) (own j m a))
   more j (inr (k, q, l, u, g)) (inl e) = inr (k, q, omega arith, u, last (IsUnder (weight leads k q)) j g (λ r v. absurd (none_there _ r e v)))

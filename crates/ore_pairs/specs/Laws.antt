@@ -1,5 +1,5 @@
 -- What valid blocks show, over the fractions, for a signature and its order.
---     ExactBlockIsExact      the rows which take a to zeros are the row module of l
+--     ExactBlockIsExact      the rows which take a to zeros are the row module of l, of the size that this asks
 --     OutsideBlockIsOutside  w is not in the row module of a
 use Rattle.std.specs.Prelude.{ℕ, List, length}
 use Rattle.ore_rational.proofs.FractionLaws.{rationals}

@@ -4,3 +4,5 @@ pub mod Blocks
 pub mod Laws
 pub mod Listed
 pub mod PairRule
+pub mod Run
+pub mod Reached

@@ -1,6 +1,6 @@
 -- Pairs of basis rows by their places, and the combination of a pair, as contracts speak of them.
 --     is_in                    a pair is in a list of pairs
---     HasPairsOf               the pairs of a list are those of some lines
+--     HasPairsOf               the pairs of a list are those of some entries
 --     AreAt                    two basis rows stand at two places
 --     multiples_less           a multiple of a row less a multiple of another
 --     combination_of           a row and its cofactor row, before any step
@@ -17,7 +17,8 @@ use Rattle.ore_monomial.specs.LetterRule.{Operator}
 use Rattle.ore_rows.specs.Rows.{Row}
 use Rattle.ore_rows.specs.Arithmetic.{Arithmetic, scaled, less}
 use Rattle.ore_rows.specs.Reduction.{Monic, Work}
-use Rattle.ore_rows.specs.Run.{Line, is_listed}
+use Rattle.ore_pairs.specs.PairList.{Entry}
+use Rattle.ore_pairs.specs.Run.{is_listed}
 use Rattle.ore_ring.specs.Ordered.{Ordered}
 use Rattle.ore_rows.specs.Stored.{sums_of}
 use Rattle.ore_rows.specs.StoredBasis.{StoredBasis, monics}
@@ -27,9 +28,9 @@ unfoldable pub is_in : ℕ → ℕ → List (ℕ × ℕ) → Bool
 is_in i j [] = false
 is_in i j (p ∷ ps) = (nat_eq i p.0 && nat_eq j p.1) || is_in i j ps
 
--- a pair is in the list exactly where a line has it
-abbrev pub HasPairsOf : (K : Domain) → List (Line K) → List (ℕ × ℕ) → Type 0
-HasPairsOf K lines ps = (i j : ℕ) → is_in i j ps ≡ is_listed K i j lines
+-- a pair is in the list exactly where an entry has it
+abbrev pub HasPairsOf : (K : Domain) → List (Entry K) → List (ℕ × ℕ) → Type 0
+HasPairsOf K es ps = (i j : ℕ) → is_in i j ps ≡ is_listed K i j es
 
 -- a is the row at i, and b that at j
 abbrev pub AreAt : StoredBasis → ℕ → ℕ → Monic (Row rationals) → Monic (Row rationals) → Type 0

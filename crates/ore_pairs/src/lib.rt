@@ -27,8 +27,13 @@
 //! difference of two multiples of rows, and [`rule`] the test whether a pair may be skipped by way of a
 //! third row. Over a whole basis, [`common`] is the common multiple of two leads, [`s_row`] the
 //! combination of a pair with its cofactor row, and [`may_skip`] that test. They call those over leads,
-//! and meet the definitions of `ore_rows/specs/Run.antt`, `s_row` at the limits of the program.
+//! and meet the definitions of `specs/Run.antt`, `s_row` at the limits of the program.
 //! [`Listed`] keeps the pairs that were dealt with in an ordered set.
+//!
+//! What a run is stands in `specs/Run.antt`: the choices, and what each makes of the basis, the listed pairs and the
+//! syzygies. `specs/Reached.antt` says, over the fractions and at the limits of the program, which states some choices
+//! lead to, where the treatment of a pair stops, and which choices a rule allows. Both speak of no code, so that whoever
+//! checks the choices of a run can cite them.
 //!
 //! Which pair may be treated, and which skipped, stands in `specs/PairRule.antt`, by the leads and the
 //! listed pairs alone. The rule of choosers and the check of certificates cite it, and a run may skip

@@ -19,7 +19,7 @@ use ore_leads::Leads;
 use ore_monomial::{DegreePassed, Exps, RingStop};
 use ore_rational::Rational;
 use ore_ring::{Op, OreRing};
-use ore_rows::{Row, row_sub, scale};
+use ore_rows::{Row, row_take, scale};
 use std::alloc::Global;
 
 /// The least common multiple of the leads at two places.
@@ -84,5 +84,5 @@ pub fn multiples_less<R: OreRing>(
 {
     let multiple = scale(ring, alloc, first, row)?;
     let taken = scale(ring, alloc, second, other)?;
-    row_sub(ring, alloc, &multiple, &taken)
+    row_take(ring, alloc, multiple, &taken)
 }

@@ -8,9 +8,9 @@ ghost use Rattle.ore_monomial.specs.Gives.{Gives};
 ghost use Rattle.ore_monomial.specs.Monomial.{degree, lcm};
 ghost use Rattle.ore_ring.specs.Belongs.{Belongs};
 ghost use Rattle.ore_rows.specs.Arithmetic.{within};
-ghost use Rattle.ore_rows.specs.Reduction.{AreMonic, Monic, lead_at};
+ghost use Rattle.ore_rows.specs.Reduction.{Monic, lead_at};
 ghost use Rattle.ore_rows.specs.Rows.{Row as Plain};
-ghost use Rattle.ore_rows.specs.Run as run;
+ghost use Rattle.ore_pairs.specs.Run as run;
 ghost use Rattle.ore_rows.specs.StoredBasis.{AllBelong, monics};
 ghost use Rattle.ore_pairs.specs.Listed.{AreAt, HasPairsOf, combination_of};
 
@@ -52,18 +52,19 @@ pub fn s_row<R: OreRing>(
     requires second { j < length basis.now.items }
     requires columns { (lead_at basis.now.items i).column ≡ (lead_at basis.now.items j).column }
     requires basis_of { AllBelong (R.signature_of ring.now) basis.now.items }
-    requires monic { AreMonic rationals (R.signature_of ring.now).order (monics basis.now) }
     ensures gives { (a b : Monic (Plain rationals)) → AreAt basis.now i j a b → Gives combination_of result (run.s_row rationals (within program (R.signature_of ring.now)) a b) }
     ensures row_of { IfOk result (λ p. All (Belongs (R.signature_of ring.now)) p.0) }
     ensures cofactor_of { IfOk result (λ p. All (Belongs (R.signature_of ring.now)) p.1) }
     ensures row_width { IfOk result (λ p. length p.0 ≡ basis.now.cols) }
     ensures cofactor_width { IfOk result (λ p. length p.1 ≡ basis.now.width) }
 {
+    let first_row = basis.row(i);
+    let second_row = basis.row(j);
     let leads = basis.leads();
     let multiple = common_multiple(leads, i, j)?;
     let first = multiplier(ring, alloc, leads, i, &multiple)?;
     let second = multiplier(ring, alloc, leads, j, &multiple)?;
-    let row = multiples_less(ring, alloc, &first, basis.row(i), &second, basis.row(j))?;
+    let row = multiples_less(ring, alloc, &first, first_row, &second, second_row)?;
     let cofactor = multiples_less(
         ring,
         alloc,

@@ -7,7 +7,7 @@ use Rattle.ore_algebra.specs.Free.{none}
 use Rattle.ore_rational.proofs.FractionLaws.{rationals}
 use Rattle.ore_monomial.specs.Monomial.{plain_cmp}
 use Rattle.ore_ring.specs.Ordered.{Ordered}
-use Rattle.ore_rows.specs.Run.{constant, entry_row}
+use Rattle.ore_pairs.specs.Run.{constant, entry_row}
 use Rattle.ore_rows.specs.Stored.{sums_of}
 use Rattle.ore_groebner.proofs.entries.entry_row.Goals as goal
 

@@ -5,7 +5,7 @@ use Rattle.ore_algebra.specs.Free.{none}
 use Rattle.ore_rational.proofs.FractionLaws.{rationals}
 use Rattle.ore_monomial.specs.Monomial.{plain_cmp}
 use Rattle.ore_ring.specs.Belongs.{Belongs}
-use Rattle.ore_rows.specs.Run.{constant}
+use Rattle.ore_pairs.specs.Run.{constant}
 use Rattle.ore_rows.specs.Stored.{sums_of}
 use Rattle.ore_groebner.proofs.entries.entry_row.Given as goal
 

@@ -6,7 +6,7 @@ use Rattle.std.proofs.lemmas.List.Elements.{All-push}
 use Rattle.std.proofs.lemmas.Option.{slice_get-map}
 use Rattle.ore_rational.proofs.FractionLaws.{rationals}
 use Rattle.ore_ring.specs.Belongs.{Belongs}
-use Rattle.ore_rows.specs.Run.{from_rows}
+use Rattle.ore_pairs.specs.Run.{from_rows}
 use Rattle.ore_rows.specs.Stored.{rows_of, sums_of}
 use Rattle.ore_groebner.proofs.Multiples.{from_next, from_end}
 use Rattle.ore_groebner.proofs.entries.from_matrix.Goals as goal

@@ -1,7 +1,7 @@
 use Rattle.std.proofs.Common.{ap, ◌∙◌}
 use Rattle.ore_rational.proofs.FractionLaws.{rationals}
 use Rattle.ore_monomial.specs.Term.{Term}
-use Rattle.ore_rows.specs.Run.{constant, entry_row}
+use Rattle.ore_pairs.specs.Run.{constant, entry_row}
 use Rattle.ore_rows.specs.Stored.{sums_of}
 use Rattle.ore_groebner.proofs.Multiples.{from_zero, from_lead}
 use Rattle.ore_groebner.proofs.Progresses.{no_lead}

@@ -9,13 +9,13 @@ use Rattle.ore_rational.proofs.FractionLaws.{rationals, rational_inverses}
 use Rattle.ore_monomial.proofs.Stops.{fails_like}
 use Rattle.ore_ring.specs.Belongs.{Belongs}
 use Rattle.ore_rows.specs.Arithmetic.{within}
-use Rattle.ore_rows.specs.Run as run
+use Rattle.ore_pairs.specs.Run as run
 use Rattle.ore_rows.specs.Stored.{rows_of, sums_of}
 use Rattle.ore_rows.specs.StoredBasis.{StoredBasis, monics}
 use Rattle.ore_rows.proofs.Dots.{all_at}
 use Rattle.ore_groebner.specs.Progressing.{state_of, IsBegun}
 use Rattle.ore_groebner.specs.declared.progress.Progress.{Progress}
-use Rattle.ore_groebner.proofs.Begins.{begun_first, origins_next, rows_start, rows_next, rows_stop, rows_end, empty_kept}
+use Rattle.ore_groebner.proofs.Begins.{begun_first, rows_start, rows_next, rows_stop, rows_end, empty_kept}
 use Rattle.ore_groebner.proofs.first.begin.Goals as goal
 
 pub loop-k-init : goal.loop-k-init
@@ -24,12 +24,11 @@ loop-k-init g c =
     let p : Progress = record { first = 0; basis = c.new.result; listed = c.new-2.result; events = c.new-3.result; syzygies = c.new-4.result; origins = c.new-5.result } in
     let begun : IsBegun p = record { events = c.new-3.ensures.items; listed = c.new-2.ensures } in
     record {
-      told = rows_start s (rows_of c.args.a.now) p (ap monics c.new.ensures) begun c.new-4.ensures.items;
+      told = rows_start s (rows_of c.args.a.now) p (ap monics c.new.ensures) begun c.new-4.ensures.items c.new-5.ensures.items;
       kept = empty_kept s p _ _ c.new.ensures refl begun c.new-4.ensures.items;
       begun = begun;
       cols = ap (λ (b : StoredBasis). b.cols) c.new.ensures ∙ c.cols.ensures.value;
       width = ap (λ (b : StoredBasis). b.width) c.new.ensures ∙ c.rows.ensures.value;
-      origins = rw (c.new-5.ensures.items, c.new-4.ensures.items) tt;
       few = let e = ap (λ (b : StoredBasis). length b.items) c.new.ensures in omega arith;
     }
 
@@ -57,7 +56,6 @@ loop-k-preserved g c =
       begun = e.begun;
       cols = e.widths.cols ∙ i.cols;
       width = e.widths.width ∙ i.width;
-      origins = origins_next s a c.loop-k.k c.row.result.now c.loop-k.progress c.in_ok-progress.progress c.row.ensures.value i.width e.noted i.origins;
       few = let n = e.count in let m = i.few in omega arith;
     }
 

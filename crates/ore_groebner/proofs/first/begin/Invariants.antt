@@ -1,11 +1,9 @@
-use Rattle.std.proofs.Common.{◌≡◌, ◌≤◌, [], length, drop}
-use Rattle.std.specs.List.{AllZip}
+use Rattle.std.proofs.Common.{◌≡◌, ◌≤◌, length, drop}
 use Rattle.ore_algebra.specs.Limits.{program}
 use Rattle.ore_rational.proofs.FractionLaws.{rationals, rational_inverses}
 use Rattle.ore_rows.specs.Arithmetic.{within}
-use Rattle.ore_rows.specs.Run as run
+use Rattle.ore_pairs.specs.Run as run
 use Rattle.ore_rows.specs.Stored.{rows_of}
-use Rattle.ore_groebner.specs.Honest.{IsOrigin}
 use Rattle.ore_groebner.specs.Progressing.{state_of, IsBegun, IsKept}
 use Rattle.ore_groebner.proofs.first.begin.Given as goal
 
@@ -16,6 +14,5 @@ invariant-loop-k g l = record {
   begun : IsBegun l.progress;
   cols : l.progress.basis.cols ≡ l.a.cols;
   width : l.progress.basis.width ≡ length l.a.rows;
-  origins : AllZip (IsOrigin (g.R.OreRing.signature_of l.ring) l.a []) l.progress.origins.items l.progress.syzygies.items;
   few : length l.progress.basis.items ≤ l.k;
 }

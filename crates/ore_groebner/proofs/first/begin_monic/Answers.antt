@@ -14,10 +14,10 @@ pub returns-clause-gives : goal.returns-clause-gives
 returns-clause-gives g c t lead =
     let p = c.args.progress in
     based_gives (state_of p) _ (monics c.in_ok-basis.basis) (c.in_ok-basis.ensures.gives t lead)
-    ∙ (λ n. Ok (record { basis = monics c.in_ok-basis.basis; listed = (begun_lines p p.first c.requires.begun ∙ sym (begun_lines p c.len-first.result c.requires.begun)) n; syzygies = map sums_of p.syzygies.items }))
+    ∙ (λ n. Ok (record { basis = monics c.in_ok-basis.basis; listed = (begun_lines p p.first c.requires.begun ∙ sym (begun_lines p c.len-first.result c.requires.begun)) n; syzygies = map sums_of p.syzygies.items; origins = p.origins.items }))
 
 pub returns-clause-kept : goal.returns-clause-kept
 returns-clause-kept g c =
     let p = c.args.progress in
     let q : Progress = record { first = c.len-first.result; basis = c.in_ok-basis.basis; listed = p.listed; events = p.events; syzygies = p.syzygies; origins = p.origins } in
-    monic_kept (g.R.OreRing.signature_of c.args.ring.now) q (record { events = c.requires.begun.events; listed = c.requires.begun.listed }) c.len-first.ensures c.in_ok-basis.ensures.basis_of c.in_ok-basis.ensures.monic (subst (λ n. All (λ (r : List Ordered). length r ≡ n) p.syzygies.items) (sym c.in_ok-basis.ensures.width) c.requires.kept.wide) c.requires.kept.of
+    monic_kept (g.R.OreRing.signature_of c.args.ring.now) q (record { events = c.requires.begun.events; listed = c.requires.begun.listed }) c.len-first.ensures.value c.in_ok-basis.ensures.basis_of c.in_ok-basis.ensures.monic (subst (λ n. All (λ (r : List Ordered). length r ≡ n) p.syzygies.items) (sym c.in_ok-basis.ensures.width) c.requires.kept.wide) c.requires.kept.of

@@ -1,4 +1,4 @@
-use Rattle.std.proofs.Common.{inr, [], ◌∷◌, ◌++◌, map, sym, ap, ◌∙◌, subst}
+use Rattle.std.proofs.Common.{[], ◌∷◌, ◌++◌, map, sym, ap, ◌∙◌, subst}
 use Rattle.std.specs.declared.result.Result.TheVariants.{Ok}
 use Rattle.ore_algebra.specs.Limits.{program}
 use Rattle.ore_rational.proofs.FractionLaws.{rationals, rational_inverses}
@@ -8,7 +8,8 @@ use Rattle.ore_monomial.specs.Term.{Term}
 use Rattle.ore_rows.specs.Arithmetic.{within}
 use Rattle.ore_rows.specs.RowLead.{IsRowLead}
 use Rattle.ore_rows.specs.Rows.{unit_row}
-use Rattle.ore_rows.specs.Run as run
+use Rattle.ore_pairs.specs.Run as run
+use Rattle.ore_rows.specs.declared.choices.Origin.TheVariants as origin
 use Rattle.ore_rows.specs.Stored.{sums_of}
 use Rattle.ore_rows.proofs.GreatestTerms.{row_lead_from}
 use Rattle.ore_groebner.specs.Progressing.{state_of, based, IsKept}
@@ -30,7 +31,7 @@ returns-in_ok-begin_zero-in-None-clause-gives g c =
     let p = c.args.progress in
     let unit = c.in_ok-unit.ensures.value ∙ ap (λ n. unit_row rationals n c.args.k) c.width.ensures in
     begin_none s p.basis.width c.args.k (sums_of c.args.row.now) (state_of p) (no_lead s.order c.args.row.now c.in-None.ensures)
-    ∙ (λ n. Ok (record (state_of p) { syzygies = map sums_of p.syzygies.items ++ sym unit n ∷ [] }))
+    ∙ (λ n. Ok (record (state_of p) { syzygies = map sums_of p.syzygies.items ++ sym unit n ∷ []; origins = p.origins.items ++ origin.ZeroRow c.args.k ∷ [] }))
     ∙ ap Ok (sym c.in_ok-begin_zero-in-None.ensures.state)
 
 pub returns-in-Some-clause-gives : goal.returns-in-Some-clause-gives
@@ -41,10 +42,3 @@ returns-in-Some-clause-gives g c =
     let lead = subst (λ (v : Signature). IsRowLead rationals v.order (sums_of c.args.row.now) u c.in-Some.found.2) c.signature-2.ensures c.in-Some.ensures in
     let unit = c.in_ok-unit.ensures.value ∙ ap (λ n. unit_row rationals n c.args.k) c.width.ensures in
     subst (Gives state_of c.begin_monic.result) (sym (begin_some s p.basis.width c.args.k (sums_of c.args.row.now) (state_of p) u (row_lead_from rationals s.order (sums_of c.args.row.now) u c.in-Some.found.2 lead) ∙ (λ n. based (state_of p) (run.made_monic rationals rational_inverses (within program s) (sums_of c.args.row.now) (sym unit n) u)))) (c.begin_monic.ensures.gives u lead)
-
-pub returns-in_ok-begin_zero-in-None-clause-noted : goal.returns-in_ok-begin_zero-in-None-clause-noted
-returns-in_ok-begin_zero-in-None-clause-noted g c =
-    let s = g.R.OreRing.signature_of c.args.ring.now in
-    let e = c.in_ok-begin_zero-in-None.ensures in
-    let unit = c.in_ok-unit.ensures.value ∙ ap (λ n. unit_row rationals n c.args.k) c.width.ensures in
-    inr (c.in_ok-unit.unit, e.added, e.noted, no_lead s.order c.args.row.now c.in-None.ensures, unit)

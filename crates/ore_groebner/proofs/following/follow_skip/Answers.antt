@@ -14,7 +14,6 @@ returns c =
       followed = record {
         made = step-skip s (state_of p) c.args.i c.args.j rows.first rows.second rows.are_open c.args.via (c.requires.skipped (state_of p) rows.first rows.second refl c.requires.kept.listed rows.stand) ∙ ap Ok (sym e.state);
         kept = e.kept s c.requires.kept;
-        grown = e.grown;
         shape = e.shape;
         listed = e.listed;
       };

@@ -14,7 +14,6 @@ returns-in-Ok-clause-followed g c =
     record {
       made = treat_made s (state_of p) c.args.i c.args.j rows.first rows.second rows.are_open _ (e.gives rows.first rows.second rows.stand);
       kept = e.kept;
-      grown = e.grown;
       shape = e.shape;
       listed = e.listed;
     }

@@ -5,7 +5,7 @@ use Rattle.ore_monomial.specs.Signature.{Signature}
 use Rattle.ore_monomial.specs.Term.{Term}
 use Rattle.ore_rational.proofs.FractionLaws.{rationals}
 use Rattle.ore_rows.specs.RowLead.{IsRowLead}
-use Rattle.ore_rows.specs.Run as run
+use Rattle.ore_pairs.specs.Run as run
 use Rattle.ore_rows.specs.Stored.{sums_of}
 use Rattle.ore_rows.proofs.GreatestTerms.{row_lead_from}
 use Rattle.ore_division.specs.StoredWork.{work_of}

@@ -1,13 +1,13 @@
-use Rattle.std.proofs.Common.{◌+◌, ◌++◌, [], ◌∷◌, refl, ◌∙◌}
+use Rattle.std.proofs.Common.{◌+◌, ◌++◌, [], ◌∷◌, refl, ap, ◌∙◌}
 use Rattle.std.proofs.lemmas.List.{length-map}
 use Rattle.std.proofs.lemmas.Result.{err_from_is_err_and}
 use Rattle.ore_monomial.specs.Monomial.{unit}
 use Rattle.ore_monomial.proofs.Stops.{fails_like}
-use Rattle.ore_rows.specs.Run as run
+use Rattle.ore_pairs.specs.PairList as pair
 use Rattle.ore_rows.specs.StoredBasis.{monic_of}
 use Rattle.ore_division.specs.StoredWork.{work_of}
-use Rattle.ore_groebner.specs.Progressing.{new_rows}
-use Rattle.ore_groebner.proofs.Progresses.{line_row, lines_more, kept_more, row_stops, row_state, one_new_row, new_rows-row}
+use Rattle.ore_groebner.specs.Progressing.{new_rows, choices_of}
+use Rattle.ore_groebner.proofs.Progresses.{choices_push, line_row, lines_more, kept_more, row_stops, row_state, one_new_row, new_rows-row}
 use Rattle.ore_groebner.specs.declared.outcome.Event.TheVariants.{Treated}
 use Rattle.ore_groebner.specs.declared.outcome.Outcome.TheVariants.{NewRow}
 use Rattle.ore_groebner.specs.declared.progress.Progress.{Progress}
@@ -24,9 +24,9 @@ returns-clause-gives g c t lead =
     let p = c.args.progress in
     let w = c.args.work in
     let e = Treated c.args.i c.args.j w.steps (NewRow c.args.coef) in
-    let account = run.Treated (w.steps ++ record { index = p.first + new_rows p.events.items; monomial = unit; number = c.args.coef } ∷ []) in
+    let entry = pair.Pair c.args.i c.args.j (w.steps ++ record { index = p.first + new_rows p.events.items; monomial = unit; number = c.args.coef } ∷ []) in
     let q : Progress = record { first = p.first; basis = c.in_ok-basis.basis; listed = c.add.new.self; events = c.push.new.self; syzygies = p.syzygies; origins = p.origins } in
-    row_state s p c.args.i c.args.j (work_of w) t q c.args.coef lead.stands (length-map p.basis.items monic_of ∙ c.requires.kept.counted) (lines_more p q e c.args.i c.args.j account refl c.in_ok-push.ensures.items (line_row _ c.args.i c.args.j w.steps c.args.coef)) refl (c.in_ok-basis.ensures.gives t lead)
+    row_state s p c.args.i c.args.j (work_of w) t q c.args.coef lead.stands (length-map p.basis.items monic_of ∙ c.requires.kept.counted) (lines_more p q e c.args.i c.args.j entry refl refl refl c.in_ok-push.ensures.items (line_row _ c.args.i c.args.j w.steps c.args.coef)) refl refl (c.in_ok-basis.ensures.gives t lead)
 
 pub returns-clause-kept : goal.returns-clause-kept
 returns-clause-kept g c =
@@ -34,5 +34,13 @@ returns-clause-kept g c =
     let p = c.args.progress in
     let w = c.args.work in
     let e = Treated c.args.i c.args.j w.steps (NewRow c.args.coef) in
-    let account = run.Treated (w.steps ++ record { index = p.first + new_rows p.events.items; monomial = unit; number = c.args.coef } ∷ []) in
-    kept_more p _ e c.args.i c.args.j account refl c.in_ok-push.ensures.items (line_row _ c.args.i c.args.j w.steps c.args.coef) s c.requires.kept c.in_ok-add.ensures.added c.in_ok-basis.ensures.basis_of c.in_ok-basis.ensures.monic (one_new_row _ _ _ c.in_ok-basis.ensures.count (new_rows-row c.args.i c.args.j w.steps c.args.coef)) c.in_ok-basis.ensures.width refl
+    let entry = pair.Pair c.args.i c.args.j (w.steps ++ record { index = p.first + new_rows p.events.items; monomial = unit; number = c.args.coef } ∷ []) in
+    kept_more p _ e c.args.i c.args.j entry refl refl refl c.in_ok-push.ensures.items (line_row _ c.args.i c.args.j w.steps c.args.coef) s c.requires.kept c.in_ok-add.ensures.added c.in_ok-basis.ensures.basis_of c.in_ok-basis.ensures.monic (one_new_row _ _ _ c.in_ok-basis.ensures.count (new_rows-row c.args.i c.args.j w.steps c.args.coef)) c.in_ok-basis.ensures.width refl
+
+pub returns-clause-shape : goal.returns-clause-shape
+returns-clause-shape g c = record {
+  first = refl;
+  cols = c.in_ok-basis.ensures.cols;
+  width = c.in_ok-basis.ensures.width;
+  events = ap choices_of c.in_ok-push.ensures.items ∙ choices_push c.args.progress.events.items (Treated c.args.i c.args.j c.args.work.steps (NewRow c.args.coef));
+}

@@ -2,14 +2,14 @@ use Rattle.std.proofs.Common.{◌<◌, sym, ap, ◌∙◌, subst}
 use Rattle.std.specs.declared.option.Option.{Option}
 use Rattle.std.proofs.lemmas.Result.{err_from_is_err_and}
 use Rattle.ore_rows.specs.declared.choices.Choice.{Choice}
-use Rattle.ore_groebner.specs.Choosing.{present}
+use Rattle.ore_groebner.specs.Choosing.{present, pairs_of}
 use Rattle.ore_groebner.specs.Following.{earlier, given_with, IsNext, IsNextAllowed, IsLed}
 use Rattle.ore_groebner.specs.Honest.{AreAllowed}
 use Rattle.ore_groebner.specs.Progressing.{state_of}
 use Rattle.ore_groebner.specs.Shown.{Shown, shown_of, IsGrownFrom}
 use Rattle.ore_groebner.proofs.Bounding.{rows_left, left_smaller}
 use Rattle.ore_groebner.proofs.Ending.{refusal_halts, refusal_spent, stop_halts, stop_not_spent}
-use Rattle.ore_groebner.proofs.Given.{with_choice-begun, present-with_choice, earlier-with_choice}
+use Rattle.ore_groebner.proofs.Given.{afforded_next, with_choice-begun, present-with_choice, earlier-with_choice}
 use Rattle.ore_groebner.proofs.Leading.{allowed_push, led_next}
 use Rattle.ore_groebner.proofs.Showing.{grown_shown}
 use Rattle.ore_groebner.proofs.Stepping.{step_longer}
@@ -66,7 +66,7 @@ returns-in_err-progress-clause-allowed g c =
     let given = g.C.Chooser.given c.loop-progress.chooser in
     let p = c.loop-progress.progress in
     let now = c.in_ok-choice.ensures.given ∙ ap (λ (o : Option Choice). given_with given o) c.in-Some.is in
-    let allowed = subst (λ (o : Option Choice). IsNextAllowed g.C.Rule.allows (shown_of p.basis) p.listed o) c.in-Some.is c.in_ok-choice.ensures.allowed in
+    let allowed = subst (λ (o : Option Choice). IsNextAllowed g.C.Rule.allows (shown_of p.basis) (pairs_of (present given)) o) c.in-Some.is c.in_ok-choice.ensures.allowed in
     subst (AreAllowed s c.args.a.now g.C.Rule.allows) (sym (ap present now ∙ present-with_choice given c.in-Some.choice i.begun)) (allowed_push s c.args.a.now g.C.Rule.allows (present given) c.in-Some.choice p i.led allowed)
 
 pub returns-in_err-progress-clause-spent_allowed : goal.returns-in_err-progress-clause-spent_allowed
@@ -100,13 +100,15 @@ loop-progress-preserved g c =
     let e = c.in_ok-choice.ensures in
     let f = c.in_ok-progress.ensures.followed in
     let now = e.given ∙ ap (λ (o : Option Choice). given_with given o) c.in-Some.is in
-    let allowed = subst (λ (o : Option Choice). IsNextAllowed g.C.Rule.allows (shown_of p.basis) p.listed o) c.in-Some.is e.allowed in
+    let allowed = subst (λ (o : Option Choice). IsNextAllowed g.C.Rule.allows (shown_of p.basis) (pairs_of (present given)) o) c.in-Some.is e.allowed in
     let longer = step_longer s (state_of p) (state_of q) d f.made in
+    let next = subst (λ (o : Option Choice). IsNext p.basis p.listed given (g.C.Chooser.budget c.loop-progress.chooser) o) c.in-Some.is e.next in
     record {
       begun = λ z. with_choice-begun given d i.begun (sym now ∙ z);
       led = subst (λ cs. IsLed s a g.C.Rule.allows cs q) (sym (ap present now ∙ present-with_choice given d i.begun)) (led_next s a g.C.Rule.allows (present given) d p q i.led allowed f);
       grown = subst (λ (shown : Shown). IsGrownFrom shown q.basis) (sym e.shown) (grown_shown s p q longer.0 i.led.kept f.kept longer.1);
       earlier = ap earlier now ∙ earlier-with_choice given d ∙ i.earlier;
+      afforded = λ h. afforded_next given (g.C.Chooser.given c.chosen.new.chooser) (g.C.Chooser.budget c.loop-progress.chooser) (g.C.Chooser.budget c.chosen.new.chooser) d i.begun now c.chosen.ensures.budget next.1 (i.afforded h);
       budget = c.chosen.ensures.budget ∙ i.budget;
       replays = c.chosen.ensures.replays ∙ i.replays;
       kept = c.chosen.ensures.kept ∙ i.kept;
@@ -118,3 +120,13 @@ returns-clause-allowed g c =
     let given = g.C.Chooser.given c.loop-progress.chooser in
     let now = c.in_ok-choice.ensures.given ∙ ap (λ (o : Option Choice). given_with given o) c.in_default.is in
     subst (λ runs. AreAllowed s c.args.a.now g.C.Rule.allows (present runs)) (sym now) c.loop-progress.invariant.led.allowed
+
+pub returns-in_err-progress-clause-afforded : goal.returns-in_err-progress-clause-afforded
+returns-in_err-progress-clause-afforded g c h =
+    let x = c.loop-progress.chooser in
+    let i = c.loop-progress.invariant in
+    let p = c.loop-progress.progress in
+    let given = g.C.Chooser.given x in
+    let now = c.in_ok-choice.ensures.given ∙ ap (λ (o : Option Choice). given_with given o) c.in-Some.is in
+    let next = subst (λ (o : Option Choice). IsNext p.basis p.listed given (g.C.Chooser.budget x) o) c.in-Some.is c.in_ok-choice.ensures.next in
+    afforded_next given (g.C.Chooser.given c.chosen.new.chooser) (g.C.Chooser.budget x) (g.C.Chooser.budget c.chosen.new.chooser) c.in-Some.choice i.begun now c.chosen.ensures.budget next.1 (i.afforded h)

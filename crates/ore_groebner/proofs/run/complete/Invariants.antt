@@ -1,5 +1,5 @@
 use Rattle.std.proofs.Common.{◌≡◌, ◌≢◌, []}
-use Rattle.ore_groebner.specs.Choosing.{present}
+use Rattle.ore_groebner.specs.Choosing.{present, AreAfforded}
 use Rattle.ore_groebner.specs.Following.{earlier, IsLed}
 use Rattle.ore_groebner.specs.Shown.{IsGrownFrom}
 use Rattle.ore_groebner.proofs.Bounding.{rows_left}
@@ -12,6 +12,7 @@ invariant-loop-progress g l = record {
   led : IsLed (g.R.OreRing.signature_of l.ring) l.a g.C.Rule.allows (present (g.C.Chooser.given l.chooser)) l.progress;
   grown : IsGrownFrom (g.C.Chooser.shown l.chooser) l.progress.basis;
   earlier : earlier (g.C.Chooser.given l.chooser) ≡ earlier (g.C.Chooser.given l.fn.chooser);
+  afforded : AreAfforded (g.C.Chooser.given l.fn.chooser) (g.C.Chooser.budget l.fn.chooser) → AreAfforded (g.C.Chooser.given l.chooser) (g.C.Chooser.budget l.chooser);
   budget : g.C.Chooser.budget l.chooser ≡ g.C.Chooser.budget l.fn.chooser;
   replays : g.C.Chooser.replays l.chooser ≡ g.C.Chooser.replays l.fn.chooser;
   kept : g.C.Chooser.kept l.chooser ≡ g.C.Chooser.kept l.fn.chooser;
