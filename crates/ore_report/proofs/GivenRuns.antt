@@ -1,7 +1,8 @@
 -- Choices, run by run.
 --     present-begun, treats_in-begun       a run that has just begun has no choices
 --     present-more, treats_in-more         the present run, and how many pairs are treated, with one more choice
---     treats-append                        one more choice that treats
+--     treats-append, treats-skipped        one more choice that treats, or that skips
+--     treats_in-skipped                    a pair that is skipped isn't treated
 --     with_choice-set                      the choice goes to the end of the last run
 --     is_in-pairs_of                       the pairs of choices
 --     or_last                              a test moved to the front of some
@@ -45,6 +46,18 @@ treats_in-more [] i j h = absurd (h refl)
 treats_in-more (r ∷ []) i j h = ap (λ n. n + 0) (treats-append r i j) ∙ omega arith
 treats_in-more (r ∷ s ∷ runs) i j h = ap (λ n. treats r + n) (treats_in-more (s ∷ runs) i j (λ e. cc)) ∙ omega arith
 
+treats-skipped : (cs : List Choice) (i j via : ℕ) → treats (cs ++ Skip i j via ∷ []) ≡ treats cs
+unfolding treats
+treats-skipped [] i j via = refl
+treats-skipped (Treat x y ∷ cs) i j via = ap suc (treats-skipped cs i j via)
+treats-skipped (Skip x y v ∷ cs) i j via = treats-skipped cs i j via
+
+pub treats_in-skipped : (runs : List (List Choice)) (i j via : ℕ) → runs ≢ [] → treats_in (with_choice runs (Skip i j via)) ≡ treats_in runs
+unfolding treats_in with_choice
+treats_in-skipped [] i j via h = absurd (h refl)
+treats_in-skipped (r ∷ []) i j via h = ap (λ n. n + 0) (treats-skipped r i j via)
+treats_in-skipped (r ∷ s ∷ runs) i j via h = ap (λ n. treats r + n) (treats_in-skipped (s ∷ runs) i j via (λ e. cc))
+
 pub with_choice-set : (runs : List (List Choice)) (c : Choice) (k : ℕ) → length runs ≡ suc k → with_choice runs c ≡ set runs k (get_or runs k [] ++ c ∷ [])
 unfolding with_choice
 with_choice-set [] c k h = absurd (omega arith)
@@ -66,5 +79,5 @@ unfolding is_in
 is_in-more i j [] x y = refl
 is_in-more i j (p ∷ ps) x y = or_last (is_in i j ps) (is_in i j (ps ++ (x, y) ∷ [])) (nat_eq i x && nat_eq j y) (is_in-more i j ps x y) (nat_eq i p.0 && nat_eq j p.1)
 
-pub is_in-choice_more : (i j : ℕ) (cs : List Choice) (x y : ℕ) → is_in i j (pairs_of (cs ++ Treat x y ∷ [])) ≡ ((nat_eq i x && nat_eq j y) || is_in i j (pairs_of cs))
-is_in-choice_more i j cs x y = ap (is_in i j) (map-append (λ (c : Choice). (first_of c, second_of c)) cs (Treat x y ∷ [])) ∙ is_in-more i j (pairs_of cs) x y
+pub is_in-choice_more : (i j : ℕ) (cs : List Choice) (c : Choice) → is_in i j (pairs_of (cs ++ c ∷ [])) ≡ ((nat_eq i (first_of c) && nat_eq j (second_of c)) || is_in i j (pairs_of cs))
+is_in-choice_more i j cs c = ap (is_in i j) (map-append (λ (d : Choice). (first_of d, second_of d)) cs (c ∷ [])) ∙ is_in-more i j (pairs_of cs) (first_of c) (second_of c)

@@ -1,5 +1,10 @@
-pub mod Treatable
+pub mod Places
+pub mod Rows
+pub mod Waiting
+pub mod Vias
+pub mod Nexts
+pub mod Leasts
 pub mod GivenRuns
-pub mod Searches
 pub mod Lives
 pub mod Lawful
+pub mod RuleLaws

@@ -1,4 +1,5 @@
-pub mod AnyRule
+pub mod ChainRule
+pub mod RuleLaw
 pub mod Codes
-pub mod Searching
+pub mod Queue
 pub mod Live

@@ -1,24 +1,30 @@
 //! The choosers of runs.
 //!
-//! A [`LiveChooser`] answers, of the pairs of basis rows with equal lead columns that aren't listed, the one with the
-//! least first place, and among those the one with the least second place. It never skips a pair. Where its budget is
-//! spent and such a pair is left, it says so. It keeps the choices that it gave, run by run.
+//! A [`LiveChooser`] chooses by the chain rule. Of the pairs of basis rows with equal lead columns that aren't listed
+//! it takes the one whose common multiple, a term in the lead column, is least, then the one with the least first
+//! place, then the one with the least second place. Pairs whose common multiple has a degree above 32,767 come last,
+//! by their places alone. The pair is skipped by way of the least row that lets it be, and treated where no row does;
+//! there, and only there, the budget may be spent. It keeps the choices that it gave, run by run.
 //!
-//! Its rule (`specs/AnyRule.antt`) is that every lawful choice may come, and that the budget may be spent wherever a
-//! pair is left. That the choice is the least pair is a clause of [`LiveChooser::least`].
+//! Its rule is that choice and no other (`chain_allows` and `chain_allows_spent` in `specs/ChainRule.antt`): at each
+//! state one choice may come ([`law_rule`]).
 //!
-//! [`Given`] is a list of choices, run by run; [`Showing`] is what a run has shown of its basis; [`Search`] finds the
-//! least pair that isn't listed, and looks at no pair twice but for one a call.
+//! [`Given`] is a list of choices, run by run; [`Showing`] is what a run has shown of its basis. The pairs that wait
+//! stand in a queue (`specs/Queue.antt`), an ordered set, each with a place whose order is that of the rule. The pairs
+//! of a new basis row enter once, and a choice takes one out.
 //!
-//! The crate stands on `ore_groebner` for the traits of choosers, on `ore_pairs` for listed pairs, and on `ore_rows`
-//! and `ore_leads` for the leads of a basis.
+//! The crate stands on `ore_groebner` for the traits of choosers, on `ore_pairs` for listed pairs, common multiples and
+//! the rule by which a pair may be skipped, and on `ore_rows` and `ore_leads` for the leads of a basis.
 #![tactic(auto)]
 
 pub mod given;
+mod laws;
 pub mod live;
-mod search;
+mod pairs;
+mod queue;
 pub mod showing;
 
 pub use given::Given;
+pub use laws::law_rule;
 pub use live::LiveChooser;
 pub use showing::Showing;

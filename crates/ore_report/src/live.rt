@@ -1,14 +1,18 @@
 //! The chooser of a live run.
 
 ghost use Rattle.std.specs.Prelude.{◌≡◌, ◌≢◌, ◌≤◌, [], ◌∷◌, ◌++◌, false, IfOk, IfErr};
-ghost use Rattle.ore_groebner.specs.Choosing.{present, given_after, ListsChoices};
+ghost use Rattle.ore_groebner.specs.Choosing.{present, given_after, ListsChoices, AreAfforded};
 ghost use Rattle.ore_groebner.specs.Shown.{none_shown, shown_of, IsGrownFrom};
+ghost use Rattle.ore_groebner.specs.declared.chooser.Next.TheVariants.{Choose};
 ghost use Rattle.ore_rows.specs.Reduction.{leads_of};
-ghost use Rattle.ore_report.specs.AnyRule.{any_allows, any_allows_spent};
-ghost use Rattle.ore_report.specs.Live.{IsPaid, IsLeastAnswer, keeps_nothing};
+ghost use Rattle.ore_rows.specs.declared.choices.Choice.TheVariants.{Skip};
+ghost use Rattle.ore_report.specs.ChainRule.{chain_allows, chain_allows_spent, order_shown};
+ghost use Rattle.ore_report.specs.Live.{IsPaid, IsSettled, keeps_nothing};
+ghost use Rattle.ore_report.specs.Queue.{IsFirst, IsPlace};
 
 use crate::given::Given;
-use crate::search::Search;
+use crate::pairs::least_via;
+use crate::queue::{Place, Queue};
 use crate::showing::Showing;
 use ore_groebner::{Chooser, Next, Rule};
 use ore_monomial::NoMemory;
@@ -17,7 +21,7 @@ use ore_rows::{Basis, Choice, Runs};
 use std::alloc::Global;
 use std::marker::Model;
 
-/// It treats the least pair that isn't listed, while its budget lasts.
+/// It chooses by the chain rule, and treats pairs while its budget lasts.
 #[derive(Drop)]
 pub struct LiveChooser {
     alloc: Global,
@@ -25,7 +29,7 @@ pub struct LiveChooser {
     treated: u32,
     given: Given,
     shown: Showing,
-    search: Search,
+    queue: Queue,
 }
 
 impl Model for LiveChooser {
@@ -37,7 +41,7 @@ impl Model for LiveChooser {
 
     ghost view = { λ a. record { budget = a.budget; given = a.given; shown = a.shown } };
 
-    ghost invariant = { λ a. IsLive a.budget a.treated a.given a.shown a.search };
+    ghost invariant = { λ a. IsLive a.budget a.treated a.given a.shown a.queue };
 }
 
 impl LiveChooser {
@@ -52,41 +56,52 @@ impl LiveChooser {
             treated: 0,
             given: Given::new(alloc),
             shown: Showing::new(alloc),
-            search: Search::new(alloc),
+            queue: Queue::new(alloc),
         }
     }
 
-    /// The choices that it gave, run by run.
+    /// The choices that it gave, run by run. They treat no more pairs than its budget has.
     pub fn into_runs(self) -> Runs
-        ensures { result ≡ self.given }
+        ensures runs { result ≡ self.given }
+        ensures afforded { AreAfforded self.given self.budget }
     {
         self.given.into_runs()
     }
 
-    /// The least pair that may be treated, while the budget lasts.
-    ///
-    /// # Errors
-    /// Want of memory. Then it has given nothing.
-    pub fn least(&mut self, basis: &Basis, listed: &Listed) -> Result<Next, NoMemory>
-        requires begun { self.old.given ≢ [] }
+    // The next pair, if there is one.
+    fn next_place(&mut self, basis: &Basis, listed: &Listed) -> Result<Option<Place>, NoMemory>
         requires lists { ListsChoices listed.now (present self.old.given) }
         requires grown { IsGrownFrom self.old.shown basis.now }
-        ensures answer { IfOk result (IsLeastAnswer (leads_of basis.now.items) listed.now self.old.given self.old.budget) }
-        ensures given { self.new.given ≡ given_after self.old.given result }
+        ensures first { IfOk result (IsFirst (order_shown (shown_of basis.now)) (leads_of basis.now.items) listed.now) }
+        ensures given { self.new.given ≡ self.old.given }
         ensures shown { IfOk result (λ _. self.new.shown ≡ shown_of basis.now) }
         ensures budget { self.new.budget ≡ self.old.budget }
     {
         self.shown.show(basis)?;
-        match self.search.find(basis.leads(), listed)? {
-            None => Ok(Next::Complete),
-            Some((i, j)) => self.treat(i, j),
+        self.queue.enter(self.shown.order(), basis.leads(), listed)?;
+        Ok(self.queue.first())
+    }
+
+    // The pair is skipped by way of a row, where there is one, and else treated.
+    fn settle(&mut self, place: &Place, via: Option<usize>) -> Result<Next, NoMemory>
+        requires begun { self.old.given ≢ [] }
+        requires place { IsPlace (order_shown self.old.shown) self.old.shown.leads place.now }
+        ensures answer { IfOk result (IsSettled self.old.given self.old.budget place.now.first place.now.second via) }
+        ensures given { self.new.given ≡ given_after self.old.given result }
+        ensures shown { self.new.shown ≡ self.old.shown }
+        ensures budget { self.new.budget ≡ self.old.budget }
+    {
+        match via {
+            None => self.treat(place),
+            Some(via) => self.skip(place, via),
         }
     }
 
     // The pair is treated, where the budget allows.
-    fn treat(&mut self, i: usize, j: usize) -> Result<Next, NoMemory>
-        requires { self.old.given ≢ [] }
-        ensures answer { IfOk result (IsPaid self.old.given self.old.budget i j) }
+    fn treat(&mut self, place: &Place) -> Result<Next, NoMemory>
+        requires begun { self.old.given ≢ [] }
+        requires place { IsPlace (order_shown self.old.shown) self.old.shown.leads place.now }
+        ensures answer { IfOk result (IsPaid self.old.given self.old.budget place.now.first place.now.second) }
         ensures given { self.new.given ≡ given_after self.old.given result }
         ensures shown { self.new.shown ≡ self.old.shown }
         ensures budget { self.new.budget ≡ self.old.budget }
@@ -94,17 +109,40 @@ impl LiveChooser {
         if self.treated == self.budget {
             return Ok(Next::Spent);
         }
-        let choice = Choice::Treat { i, j };
+        let choice = Choice::Treat {
+            i: place.first,
+            j: place.second,
+        };
         self.given.push(self.alloc, choice)?;
+        self.queue.places.remove(place);
         self.treated += 1;
+        Ok(Next::Choose(choice))
+    }
+
+    // The pair is skipped by way of a row.
+    fn skip(&mut self, place: &Place, via: usize) -> Result<Next, NoMemory>
+        requires begun { self.old.given ≢ [] }
+        requires place { IsPlace (order_shown self.old.shown) self.old.shown.leads place.now }
+        ensures answer { IfOk result (λ x. x ≡ Choose (Skip place.now.first place.now.second via)) }
+        ensures given { self.new.given ≡ given_after self.old.given result }
+        ensures shown { self.new.shown ≡ self.old.shown }
+        ensures budget { self.new.budget ≡ self.old.budget }
+    {
+        let choice = Choice::Skip {
+            i: place.first,
+            j: place.second,
+            via,
+        };
+        self.given.push(self.alloc, choice)?;
+        self.queue.places.remove(place);
         Ok(Next::Choose(choice))
     }
 }
 
 impl Rule for LiveChooser {
-    ghost allows = { any_allows };
+    ghost allows = { chain_allows };
 
-    ghost allows_spent = { any_allows_spent };
+    ghost allows_spent = { chain_allows_spent };
 }
 
 impl Chooser for LiveChooser {
@@ -123,11 +161,17 @@ impl Chooser for LiveChooser {
     fn start_run(&mut self) -> Result<(), NoMemory> {
         self.given.begin(self.alloc)?;
         self.shown = Showing::new(self.alloc);
-        self.search = Search::new(self.alloc);
+        self.queue = Queue::new(self.alloc);
         Ok(())
     }
 
     fn next(&mut self, basis: &Basis, listed: &Listed) -> Result<Next, NoMemory> {
-        self.least(basis, listed)
+        match self.next_place(basis, listed)? {
+            None => Ok(Next::Complete),
+            Some(place) => {
+                let via = least_via(basis.leads(), listed, place.first, place.second);
+                self.settle(&place, via)
+            }
+        }
     }
 }

@@ -1,7 +1,8 @@
 //! What a run has shown of its basis.
 
-ghost use Rattle.std.specs.Prelude.{◌≡◌, IfOk, ◌<◌, length};
+ghost use Rattle.std.specs.Prelude.{◌≡◌, ◌≢◌, [], IfOk};
 ghost use Rattle.ore_groebner.specs.Shown.{BeginsWith, IsGrownFrom, none_shown, order_of, shown_of};
+ghost use Rattle.ore_report.specs.ChainRule.{order_shown};
 ghost use Rattle.ore_rows.specs.Reduction.{leads_of};
 
 use ore_leads::Leads;
@@ -47,10 +48,21 @@ impl Showing {
         requires { IsGrownFrom self.old basis.now }
         ensures shown { IfOk result (λ _. self.new ≡ shown_of basis.now) }
         ensures grown { BeginsWith self.new.leads self.old.leads }
+        ensures order { self.old.leads ≢ [] → self.new.order ≡ self.old.order }
     {
         add_leads(&mut self.leads, basis)?;
         self.order = order_of(basis);
         Ok(())
+    }
+
+    /// The order of monomials; the graded lexicographic order where none is shown.
+    pub fn order(&self) -> Order
+        ensures { result ≡ order_shown self.now }
+    {
+        match self.order {
+            None => Order::DegLex,
+            Some(order) => order,
+        }
     }
 }
 

@@ -1,6 +1,0 @@
-use Rattle.std.proofs.Common.{◌≡◌, ◌≤◌, ◌<◌, ℕ, false}
-use Rattle.ore_pairs.specs.PairRule.{may_treat}
-use Rattle.ore_report.proofs.search.next_partner.Given as goal
-
-abbrev pub invariant-loop-j : goal.invariant-loop-j
-invariant-loop-j l = (y : ℕ) → l.from ≤ y → y < l.j → may_treat l.leads l.listed l.i y ≡ false

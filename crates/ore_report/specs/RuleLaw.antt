@@ -1,0 +1,35 @@
+-- What a rule of choosers may be like.
+--     AllowsOneChoice            at each state at most one choice may come
+--     AllowsSomeChoice           one may come while a pair may be treated
+--     AllowsLawful               a choice that may come is lawful, by the leads and the listed pairs
+--     AllowsSpentAtTreatment     the budget may be spent exactly where a treatment may come
+--     AllowsByPairs              lists with the same pairs let the same come
+use Rattle.std.specs.Prelude.{◌≡◌, ℕ, Bool, true, List, ◌↔◌}
+use Rattle.ore_rows.specs.declared.choices.Choice.{Choice}
+use Rattle.ore_rows.specs.declared.choices.Choice.TheVariants.{Treat, Skip}
+use Rattle.ore_pairs.specs.Listed.{is_in}
+use Rattle.ore_pairs.specs.PairRule.{may_treat, may_skip}
+use Rattle.ore_groebner.specs.Shown.{Shown}
+
+-- two choices that may come are the same
+abbrev pub AllowsOneChoice : (Shown → List (ℕ × ℕ) → Choice → Bool) → Type 0
+AllowsOneChoice allows = (shown : Shown) (ps : List (ℕ × ℕ)) (c d : Choice) → allows shown ps c ≡ true → allows shown ps d ≡ true → c ≡ d
+
+-- where there is a pair that may be treated, there is a choice, of that pair or of another
+abbrev pub AllowsSomeChoice : (Shown → List (ℕ × ℕ) → Choice → Bool) → Type 0
+AllowsSomeChoice allows = (shown : Shown) (ps : List (ℕ × ℕ)) (i j : ℕ) → may_treat shown.leads ps i j ≡ true → (c : Choice) × (allows shown ps c ≡ true)
+
+-- a treated pair may be treated, and a skipped one also skipped
+abbrev pub AllowsLawful : (Shown → List (ℕ × ℕ) → Choice → Bool) → Type 0
+AllowsLawful allows = (shown : Shown) (ps : List (ℕ × ℕ)) (i j : ℕ)
+    → (allows shown ps (Treat i j) ≡ true → may_treat shown.leads ps i j ≡ true)
+    × ((via : ℕ) → allows shown ps (Skip i j via) ≡ true → (may_treat shown.leads ps i j ≡ true) × (may_skip shown.leads ps i j via ≡ true))
+
+-- the answer that the budget is spent may come where some pair may come as a treatment, and only there
+abbrev pub AllowsSpentAtTreatment : (Shown → List (ℕ × ℕ) → Choice → Bool) → (Shown → List (ℕ × ℕ) → Bool) → Type 0
+AllowsSpentAtTreatment allows allows_spent = (shown : Shown) (ps : List (ℕ × ℕ)) → (allows_spent shown ps ≡ true) ↔ ((i : ℕ) × (j : ℕ) × (allows shown ps (Treat i j) ≡ true))
+
+-- the order in which the pairs were listed doesn't count, nor how often
+abbrev pub AllowsByPairs : (Shown → List (ℕ × ℕ) → Choice → Bool) → (Shown → List (ℕ × ℕ) → Bool) → Type 0
+AllowsByPairs allows allows_spent = (shown : Shown) (ps qs : List (ℕ × ℕ)) → ((i j : ℕ) → is_in i j ps ≡ is_in i j qs)
+    → ((c : Choice) → allows shown ps c ≡ allows shown qs c) × (allows_spent shown ps ≡ allows_spent shown qs)
