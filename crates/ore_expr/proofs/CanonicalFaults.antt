@@ -24,8 +24,8 @@ use Rattle.ore_expr.specs.Grammar.{Alone, Factor, Plain, Power, Whole, Quotient,
 use Rattle.ore_expr.specs.declared.fault.TextFault.{TextFault}
 use Rattle.ore_expr.specs.declared.fault.TextFault.TheVariants.{NumberTooWide, ZeroDenominator, PowerTooLarge}
 use Rattle.ore_expr.specs.Faults.{greatest_number, greatest_exponent, index_of, number_fault, name_fault, own_fault, IsSound}
-use Rattle.ore_expr.specs.Names.{IsDistinct}
-use Rattle.ore_expr.specs.CanonicalText.{is_one}
+use Rattle.ore_text.specs.Names.{IsDistinct}
+use Rattle.ore_text.specs.CanonicalText.{is_one}
 use Rattle.ore_expr.specs.Laws.{IsStorableTerm}
 use Rattle.ore_expr.proofs.CanonicalTree.{factor_trees, product_tree, magnitude_tree, with_trees, term_tree, first_tree, canonical_tree, star_tokens, product_tokens, sign_token, first_tokens, later_tokens, first_tree_tokens, later_tree_tokens, numeral, head_small, small_sum}
 

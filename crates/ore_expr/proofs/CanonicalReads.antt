@@ -19,7 +19,7 @@ use Rattle.ore_ring.proofs.TermLaws.{collect-falling}
 use Rattle.ore_ring.proofs.AllTerms.{falls-falling, all_terms}
 use Rattle.ore_ring.proofs.Falls.{left_true, right_true}
 use Rattle.ore_expr.specs.Tokens.{lexemes}
-use Rattle.ore_expr.specs.CanonicalText.{operator_text}
+use Rattle.ore_text.specs.CanonicalText.{operator_text}
 use Rattle.ore_expr.specs.Laws.{IsStorableTerm, IsStorable, CanonicalIsRead}
 use Rattle.ore_expr.proofs.CanonicalTree.{canonical_tree, canonical_tokens}
 use Rattle.ore_expr.proofs.CanonicalFaults.{IsIndexed, AreSound, names_indexed, sound_lexemes, canonical_sound}

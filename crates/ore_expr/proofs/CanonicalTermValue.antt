@@ -24,7 +24,7 @@ use Rattle.ore_ring.proofs.Falls.{left_true, right_true}
 use Rattle.ore_expr.specs.Grammar.{Term, Alone, Product, Factor, Plain, Power, Whole, Quotient, Variable}
 use Rattle.ore_expr.specs.Faults.{index_of}
 use Rattle.ore_expr.specs.Values.{constant, power_of_variable, variable_index, term_value, factor_value, atom_value}
-use Rattle.ore_expr.specs.CanonicalText.{is_one}
+use Rattle.ore_text.specs.CanonicalText.{is_one}
 use Rattle.ore_expr.specs.Laws.{IsStorableTerm}
 use Rattle.ore_expr.proofs.CanonicalTree.{factor_trees, product_tree, magnitude_tree, with_trees, term_tree, numeral, head_small, small_sum}
 use Rattle.ore_expr.proofs.CanonicalFaults.{IsIndexed}

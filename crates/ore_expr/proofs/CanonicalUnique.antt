@@ -4,7 +4,7 @@ use Rattle.std.proofs.Common.{◌≡◌, sym, ap, ◌∙◌}
 use Rattle.std.specs.declared.result.Result.{Result}
 use Rattle.std.specs.declared.result.Result.TheVariants.{Ok}
 use Rattle.ore_algebra.specs.Limits.{program}
-use Rattle.ore_expr.specs.CanonicalText.{operator_text}
+use Rattle.ore_text.specs.CanonicalText.{operator_text}
 use Rattle.ore_expr.specs.Evaluation.{value_of}
 use Rattle.ore_expr.specs.Laws.{CanonicalIsUnique}
 use Rattle.ore_expr.specs.Parsing.{parse}

@@ -1,4 +1,3 @@
-pub mod NameLemmas
 pub mod PartialTrees
 pub mod Moves
 pub mod States
@@ -19,15 +18,5 @@ pub mod DigitLemmas
 pub mod QuotientFits
 pub mod StepLaws
 pub mod MadeOf
-pub mod RowBytes
-pub mod RowEntries
-pub mod Known
-pub mod Printing
-pub mod CanonicalReading
-pub mod Coefficients
-pub mod Powers
-pub mod Exponents
-pub mod Appending
-pub mod PrintableTerms
-pub mod Walking
 pub mod CanonicalUnique
+pub mod TermSums

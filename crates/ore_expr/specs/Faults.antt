@@ -18,6 +18,7 @@ use Rattle.std.specs.Str.Parse.{digits_value}
 use Rattle.std.specs.Str.{bytes_eq}
 use Rattle.ore_expr.specs.declared.fault.TextFault.{TextFault}
 use Rattle.ore_expr.specs.declared.fault.TextFault.TheVariants.{Syntax, UnknownName, NumberTooWide, ZeroDenominator, PowerTooLarge, TooDeep}
+pub use Rattle.ore_text.specs.Names.{index_of}
 use Rattle.ore_expr.specs.Tokens.{Token, Number, Name, Slash, Caret, Open, Close, Lexeme, lexemes, tokens_of}
 use Rattle.ore_expr.specs.Grammar.{Expression, expression_tokens, IsSentence, Begins}
 
@@ -36,11 +37,6 @@ greatest_power = 64
 -- of parentheses that are open at one time
 abbrev pub greatest_depth : ℕ
 greatest_depth = 64
-
--- the index of the first name that is these bytes
-abbrev pub index_of : List (List ℕ) → List ℕ → Option ℕ
-index_of [] name = None
-index_of (n ∷ names) name = if bytes_eq n name then Some 0 else option_map suc (index_of names name)
 
 -- one more for each `(`, and one less for each `)`, which never goes below 0
 abbrev pub open_count : List Token → ℕ

@@ -2,8 +2,7 @@
 --     HaveValue            instructions have the value of an expression, within any limits
 --     ReadsExpressions     what is read is an expression, with the value of its instructions; and each expression is read
 --     FindsFaults          a fault that is found is that of the table, and the fault of the table is found
---     IsStorableTerm, IsStorable    the numbers and degrees of a term, of an operator, are in the program's ranges
---     IsPrintable          an operator of the signature in these ranges, where the variables have names
+--     IsStorableTerm, IsStorable, IsPrintable    what can be printed (ore_text)
 --     CanonicalIsRead      the canonical text of an operator of the signature is an expression whose value is the operator
 --     CanonicalIsUnique    no text is the canonical text of two operators
 use Rattle.std.specs.Prelude.{◌≡◌, ◌≤◌, ◌<◌, ◌^◌, ℕ, List, length, nat_abs}
@@ -19,13 +18,14 @@ use Rattle.ore_ring.specs.Belongs.{OperatorOf}
 use Rattle.ore_ring.specs.Terms.{Term}
 use Rattle.ore_expr.specs.declared.fault.TextFault.{TextFault}
 use Rattle.ore_expr.specs.declared.instruction.Instruction.{Instruction}
+pub use Rattle.ore_text.specs.Printable.{IsStorableTerm, IsStorable, IsPrintable}
 use Rattle.ore_expr.specs.Grammar.{Expression}
 use Rattle.ore_expr.specs.Faults.{IsExpression, IsFault}
 use Rattle.ore_expr.specs.Values.{expression_value}
 use Rattle.ore_expr.specs.Parsing.{parse}
 use Rattle.ore_expr.specs.Evaluation.{value_of}
-use Rattle.ore_expr.specs.CanonicalText.{operator_text}
-use Rattle.ore_expr.specs.Names.{AreNames}
+use Rattle.ore_text.specs.CanonicalText.{operator_text}
+use Rattle.ore_text.specs.Names.{AreNames}
 
 -- the instructions have the value of the expression
 abbrev pub HaveValue : List (List ℕ) → List Instruction → Expression → Type 0
@@ -40,23 +40,6 @@ pub record ReadsExpressions : Type 0 where
 pub record FindsFaults : Type 0 where
   pub found : (names : List (List ℕ)) (text : List ℕ) (f : TextFault) → parse names text ≡ Err f → IsFault names text f
   pub only : (names : List (List ℕ)) (text : List ℕ) (f : TextFault) → IsFault names text f → parse names text ≡ Err f
-
--- numerator, without its sign, and denominator are below 2^127, and the degree is at most 32,767
-pub record IsStorableTerm (t : Term) : Type 0 where
-  pub numerator : nat_abs t.1.num < 2 ^ 127
-  pub denominator : t.1.den < 2 ^ 127
-  pub degree : degree t.0 ≤ 32767
-
--- each term of the operator is in these ranges
-abbrev pub IsStorable : Operator rationals → Type 0
-IsStorable f = AllByRecursion IsStorableTerm (terms rationals plain_cmp f)
-
--- there is one name for each variable, as names are declared; the operator is of the signature and in the ranges
-pub record IsPrintable (s : Signature) (names : List (List ℕ)) (f : Operator rationals) : Type 0 where
-  pub names_fit : AreNames names
-  pub count : length names ≡ length s.kinds
-  pub variables : OperatorOf rationals s f
-  pub storable : IsStorable f
 
 -- what can be printed has a text that is an expression, and within the limits of the program its value is the operator
 abbrev pub CanonicalIsRead : Type 0

@@ -1,7 +1,6 @@
 -- The tokens of an expression: numbers and names, each as long as it reaches, and single bytes. Spaces stand between
 -- tokens and mean nothing.
---     is_name_byte            a letter, a digit or an underscore
---     IsName                  a letter and at most 15 name bytes after it
+--     is_name_byte, IsName    the bytes of names, and their form (ore_text)
 --     Token                   a number, a name, one of seven symbols, or a byte that begins no token
 --     symbol, token_at        the token of one byte; the token at the front of a text
 --     more_bytes              how many bytes a token has after its first
@@ -9,17 +8,9 @@
 --     lexemes_from, lexemes   the tokens of a text; some bytes of a token are passed over first
 --     tokens_of               the tokens of some lexemes
 use Rattle.std.specs.Prelude.{◌≡◌, ℕ, zero, suc, ◌-◌, ◌≤◌, Bool, true, ◌||◌, nat_eq, if◌then◌else◌, List, [], ◌∷◌, length, map, take_while}
+pub use Rattle.ore_text.specs.Names.{is_name_byte, IsName}
 use Rattle.std.specs.Char.{is_ascii_digit, is_ascii_alphabetic, is_ascii_alphanumeric}
 use Rattle.std.specs.List.{AllPass}
-
--- an ASCII letter, a digit, or `_`, which is the byte 95
-abbrev pub is_name_byte : ℕ → Bool
-is_name_byte b = is_ascii_alphanumeric b || nat_eq b 95
-
--- 1 to 16 name bytes, the first of them a letter
-abbrev pub IsName : List ℕ → Type 0
-IsName [] = ⊥
-IsName (b ∷ bs) = (is_ascii_alphabetic b ≡ true) × (length bs ≤ 15) × AllPass is_name_byte bs
 
 -- a number and a name with their bytes; the symbols `+ - * / ^ ( )`; a byte that begins no token
 pub data Token : Type 0 where

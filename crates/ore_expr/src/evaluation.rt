@@ -5,12 +5,14 @@ ghost use Rattle.std.specs.List.{All};
 ghost use Rattle.ore_algebra.specs.Limits.{program};
 ghost use Rattle.ore_monomial.specs.Gives.{Gives, Turns};
 ghost use Rattle.ore_ring.specs.Belongs.{Belongs};
+ghost use Rattle.ore_ring.specs.Within.{opposite as opposite_of, times_within};
 ghost use Rattle.ore_expr.specs.declared.instruction.Instruction.TheVariants as code;
 ghost use Rattle.ore_expr.specs.Evaluation.{IsOf, applied, value_of};
 ghost use Rattle.ore_expr.specs.Stack.{instruction_of, outcome as outcome_of, values_of};
 ghost use Rattle.ore_expr.specs.Values.{constant as constant_of, power_of_variable as power_of, power_within};
 
 use crate::instruction::Instruction;
+use crate::operand::{Operand, added};
 use ore_monomial::{Exps, RingStop};
 use ore_rational::Rational;
 use ore_ring::{Op, OreRing};
@@ -45,7 +47,7 @@ pub fn evaluate<R: OreRing>(
         apply(ring, alloc, &mut stack, *instruction)?;
     }
     match stack.pop() {
-        Some(top) => Ok(top),
+        Some(top) => Ok(top.finish(alloc)?),
         None => Ok(Op::zero(alloc, ring.signature().order())),
     }
 }
@@ -54,7 +56,7 @@ pub fn evaluate<R: OreRing>(
 fn apply<R: OreRing>(
     ring: &R,
     alloc: Global,
-    stack: &mut Vec<Op>,
+    stack: &mut Vec<Operand>,
     instruction: Instruction,
 ) -> Result<(), RingStop>
     requires instruction_of { IsOf (length (R.signature_of ring.now).kinds) instruction }
@@ -78,14 +80,14 @@ fn apply<R: OreRing>(
 fn push_constant<R: OreRing>(
     ring: &R,
     alloc: Global,
-    stack: &mut Vec<Op>,
+    stack: &mut Vec<Operand>,
     number: Rational,
 ) -> Result<(), RingStop>
     requires { All (Belongs (R.signature_of ring.now)) stack.old.items }
     ensures turns { Turns result (values_of stack.new.items) (applied program (R.signature_of ring.now) (values_of stack.old.items) (code.Constant number)) }
     ensures of { IfOk result (λ _. All (Belongs (R.signature_of ring.now)) stack.new.items) }
 {
-    stack.push(constant(ring, alloc, number)?)?;
+    stack.push(Operand::finished(constant(ring, alloc, number)?))?;
     Ok(())
 }
 
@@ -93,7 +95,7 @@ fn push_constant<R: OreRing>(
 fn push_power<R: OreRing>(
     ring: &R,
     alloc: Global,
-    stack: &mut Vec<Op>,
+    stack: &mut Vec<Operand>,
     variable: usize,
     exponent: u16,
 ) -> Result<(), RingStop>
@@ -103,7 +105,7 @@ fn push_power<R: OreRing>(
     ensures turns { Turns result (values_of stack.new.items) (applied program (R.signature_of ring.now) (values_of stack.old.items) (code.Power variable exponent)) }
     ensures of { IfOk result (λ _. All (Belongs (R.signature_of ring.now)) stack.new.items) }
 {
-    stack.push(power_of_variable(ring, alloc, variable, exponent)?)?;
+    stack.push(Operand::finished(power_of_variable(ring, alloc, variable, exponent)?))?;
     Ok(())
 }
 
@@ -111,7 +113,7 @@ fn push_power<R: OreRing>(
 fn join<R: OreRing>(
     ring: &R,
     alloc: Global,
-    stack: &mut Vec<Op>,
+    stack: &mut Vec<Operand>,
     operation: Operation,
 ) -> Result<(), RingStop>
     requires { All (Belongs (R.signature_of ring.now)) stack.old.items }
@@ -121,7 +123,7 @@ fn join<R: OreRing>(
     let Some((f, g)) = pop_two(stack) else {
         return Ok(())
     };
-    stack.push(outcome(ring, alloc, operation, &f, &g)?)?;
+    stack.push(outcome(ring, alloc, operation, f, g)?)?;
     Ok(())
 }
 
@@ -130,26 +132,51 @@ fn outcome<R: OreRing>(
     ring: &R,
     alloc: Global,
     operation: Operation,
-    f: &Op,
-    g: &Op,
-) -> Result<Op, RingStop>
-    requires f_of { Belongs (R.signature_of ring.now) f.now }
-    requires g_of { Belongs (R.signature_of ring.now) g.now }
-    ensures gives { Gives (λ f. f.sum) result (outcome_of program (R.signature_of ring.now) operation f.now.sum g.now.sum) }
+    f: Operand,
+    g: Operand,
+) -> Result<Operand, RingStop>
+    requires f_of { Belongs (R.signature_of ring.now) f }
+    requires g_of { Belongs (R.signature_of ring.now) g }
+    ensures gives { Gives (λ f. f.sum) result (outcome_of program (R.signature_of ring.now) operation f.sum g.sum) }
     ensures of { IfOk result (Belongs (R.signature_of ring.now)) }
 {
+    let g = g.finish(alloc)?;
     match operation {
-        Operation::Sum => ring.add(alloc, f, g),
-        Operation::Difference => ring.sub(alloc, f, g),
-        Operation::Product => ring.mul(alloc, f, g),
+        Operation::Sum => added(alloc, f, &g),
+        Operation::Difference => {
+            let opposite = opposite(ring, alloc, &g)?;
+            added(alloc, f, &opposite)
+        }
+        Operation::Product => product(ring, alloc, f, &g),
     }
+}
+
+// The operator with each fraction negated.
+fn opposite<R: OreRing>(ring: &R, alloc: Global, g: &Op) -> Result<Op, RingStop>
+    requires { Belongs (R.signature_of ring.now) g.now }
+    ensures gives { Gives (λ f. f.sum) result (Ok (opposite_of g.now.sum)) }
+    ensures of { IfOk result (Belongs (R.signature_of ring.now)) }
+{
+    let nothing = Op::zero(alloc, ring.signature().order());
+    ring.sub(alloc, &nothing, g)
+}
+
+// The product of two operators.
+fn product<R: OreRing>(ring: &R, alloc: Global, f: Operand, g: &Op) -> Result<Operand, RingStop>
+    requires f_of { Belongs (R.signature_of ring.now) f }
+    requires g_of { Belongs (R.signature_of ring.now) g.now }
+    ensures gives { Gives (λ f. f.sum) result (times_within program (R.signature_of ring.now) f.sum g.now.sum) }
+    ensures of { IfOk result (Belongs (R.signature_of ring.now)) }
+{
+    let f = f.finish(alloc)?;
+    Ok(Operand::finished(ring.mul(alloc, &f, g)?))
 }
 
 // So many factors of the top.
 fn raise<R: OreRing>(
     ring: &R,
     alloc: Global,
-    stack: &mut Vec<Op>,
+    stack: &mut Vec<Operand>,
     count: u16,
 ) -> Result<(), RingStop>
     requires { All (Belongs (R.signature_of ring.now)) stack.old.items }
@@ -157,12 +184,22 @@ fn raise<R: OreRing>(
     ensures of { IfOk result (λ _. All (Belongs (R.signature_of ring.now)) stack.new.items) }
 {
     let Some(f) = stack.pop() else { return Ok(()) };
-    stack.push(power(ring, alloc, &f, count)?)?;
+    stack.push(raised(ring, alloc, f, count)?)?;
     Ok(())
 }
 
+// The product of so many factors.
+fn raised<R: OreRing>(ring: &R, alloc: Global, f: Operand, count: u16) -> Result<Operand, RingStop>
+    requires { Belongs (R.signature_of ring.now) f }
+    ensures gives { Gives (λ f. f.sum) result (power_within program (R.signature_of ring.now) count f.sum) }
+    ensures of { IfOk result (Belongs (R.signature_of ring.now)) }
+{
+    let f = f.finish(alloc)?;
+    Ok(Operand::finished(power(ring, alloc, &f, count)?))
+}
+
 // The two on top, the lower one first. Where there are fewer, nothing is taken.
-fn pop_two(stack: &mut Vec<Op>) -> Option<(Op, Op)>
+fn pop_two(stack: &mut Vec<Operand>) -> Option<(Operand, Operand)>
     ensures { MatchOption result ((length stack.old.items < 2) × (stack.new.items ≡ stack.old.items)) (λ p. stack.old.items ≡ stack.new.items ++ p.0 ∷ p.1 ∷ []) }
 {
     if stack.len() < 2 {

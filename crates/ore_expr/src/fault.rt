@@ -2,6 +2,7 @@
 
 ghost use Rattle.std.specs.Prelude.{◌≡◌};
 ghost use Rattle.ore_expr.specs.declared.fault.TextFault.TheVariants.{Stop};
+ghost use Rattle.ore_expr.specs.FaultWords.{text_word};
 ghost use Rattle.ore_monomial.specs.declared.stop.RingStop.TheVariants.{Memory};
 
 use ore_monomial::RingStop;
@@ -24,6 +25,23 @@ pub enum TextFault {
     TooDeep(usize),
     /// The text is an expression, and an operation in it stops.
     Stop(RingStop),
+}
+
+impl TextFault {
+    /// Its word in a reply. A stop has none, since its cause is answered.
+    pub fn word(self) -> &'static [u8]
+        ensures { result.now ≡ text_word self }
+    {
+        match self {
+            TextFault::Syntax(_) => b"syntax",
+            TextFault::UnknownName(_) => b"unknown-name",
+            TextFault::NumberTooWide(_) => b"number-too-wide",
+            TextFault::ZeroDenominator(_) => b"zero-denominator",
+            TextFault::PowerTooLarge(_) => b"power-too-large",
+            TextFault::TooDeep(_) => b"too-deep",
+            TextFault::Stop(_) => b"",
+        }
+    }
 }
 
 impl From<RingStop> for TextFault {

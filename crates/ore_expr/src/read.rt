@@ -12,11 +12,11 @@ ghost use Rattle.ore_expr.specs.Reading.{Reads, IsRead};
 use crate::evaluation::evaluate;
 use crate::fault::TextFault;
 use crate::instruction::Instruction;
-use crate::names::Names;
 use crate::parser::Parser;
 use crate::token::token_at;
 use ore_monomial::RingStop;
 use ore_ring::{Op, OreRing};
+use ore_text::Names;
 use std::alloc::Global;
 
 /// The instructions of an expression, in the order in which its operations are formed.
@@ -78,61 +78,4 @@ pub fn read_operator<R: OreRing>(
     let instructions = parse(alloc, names, text)?;
     let value = evaluate(ring, alloc, &instructions)?;
     Ok(value)
-}
-
-#[cfg(test)]
-mod tests {
-    use super::*;
-    use std::test::Fail;
-
-    #[test]
-    fn faults_stand_at_their_places(rt: HostRuntime) -> Result<(), Fail> {
-        let names = Names::new(rt.alloc());
-        for (text, fault) in [
-            ("", TextFault::Syntax(0)),
-            ("1 +", TextFault::Syntax(3)),
-            (" x", TextFault::UnknownName(1)),
-            ("2^65", TextFault::PowerTooLarge(2)),
-            ("1/0", TextFault::ZeroDenominator(2)),
-            ("3\t", TextFault::Syntax(1)),
-            ("1 2", TextFault::Syntax(2)),
-            ("(1", TextFault::Syntax(2)),
-            ("1)", TextFault::Syntax(1)),
-            ("--1", TextFault::Syntax(1)),
-            (
-                "170141183460469231731687303715884105728",
-                TextFault::NumberTooWide(0),
-            ),
-            (
-                "(((((((((((((((((((((((((((((((((((((((((((((((((((((((((((((((((",
-                TextFault::TooDeep(64),
-            ),
-        ] {
-            let read = parse(rt.alloc(), &names, text.as_bytes());
-            assert_eq!(rt; read.err(), Some(fault));
-        }
-        Ok(())
-    }
-
-    #[test]
-    fn expressions_have_their_operations(rt: HostRuntime) -> Result<(), Fail> {
-        let mut names = Names::new(rt.alloc());
-        names.add(b"t")?;
-        names.add(b"d")?;
-        for (text, operations) in [
-            ("d*t - 1/2*(t + 1)^2", 10),
-            (" -007 ", 3),
-            ("t^00032767", 1),
-            (
-                "((((((((((((((((((((((((((((((((((((((((((((((((((((((((((((((((2))))))))))))))))))))))))))))))))))))))))))))))))))))))))))))))))",
-                1,
-            ),
-        ] {
-            let read = parse(rt.alloc(), &names, text.as_bytes())?;
-            assert_eq!(rt; read.len(), operations);
-        }
-        let read = parse(rt.alloc(), &names, b"t^32768");
-        assert_eq!(rt; read.err(), Some(TextFault::PowerTooLarge(2)));
-        Ok(())
-    }
 }

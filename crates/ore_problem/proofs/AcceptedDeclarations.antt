@@ -36,8 +36,8 @@ use Rattle.ore_monomial.proofs.Signatures.{lawful, step_in_range}
 use Rattle.ore_ring.proofs.Falls.{right_true}
 use Rattle.ore_expr.specs.Tokens.{IsName}
 use Rattle.ore_expr.specs.Faults.{index_of}
-use Rattle.ore_expr.specs.Names.{IsDistinct, AreNames}
-use Rattle.ore_expr.proofs.NameLemmas.{AreNames-push}
+use Rattle.ore_text.specs.Names.{IsDistinct, AreNames}
+use Rattle.ore_text.proofs.NameLemmas.{AreNames-push}
 use Rattle.ore_problem.specs.declared.fault.ProblemReason.{ProblemReason}
 use Rattle.ore_problem.specs.declared.fault.ProblemReason.TheVariants as reason
 use Rattle.ore_problem.specs.Lines.{Cursor, content, is_comment, words}

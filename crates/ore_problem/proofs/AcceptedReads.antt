@@ -6,6 +6,7 @@
 --     Stands                       from a cursor to another the lines of a problem stand
 --     prefix_stands                they stand where a problem is read at the front
 --     stands_prefix                and where they stand, it is read
+--     lines_accepted               the lines of a problem are those of an accepted text
 --     accepted_prefix, accepted_read    an accepted text is read at the front of any lines, and alone
 --     reads_exactly                the law
 use Rattle.std.proofs.Common.{◌≡◌, ℕ, suc, ◌+◌, List, [], ◌∷◌, ◌++◌, length, refl, sym, ap, ◌∙◌, subst, append-nil}
@@ -15,13 +16,13 @@ use Rattle.std.specs.List.{AllZip}
 use Rattle.ore_rational.proofs.FractionLaws.{rationals}
 use Rattle.ore_monomial.specs.declared.order.Order.{Order}
 use Rattle.ore_monomial.specs.SignatureCode.{signature_of}
-use Rattle.ore_expr.specs.Names.{AreNames}
+use Rattle.ore_text.specs.Names.{AreNames}
 use Rattle.ore_rows.specs.Rows.{Row}
 use Rattle.ore_problem.specs.declared.fault.ProblemReason.TheVariants as reason
 use Rattle.ore_problem.specs.Lines.{Cursor, at_start, raw_lines, words}
 use Rattle.ore_problem.specs.ProblemText.{order_word}
 use Rattle.ore_problem.specs.Problems.{System, Read, ◌>>=◌, Frame, accepted_where, found_or, are_words, line_due, header_after, order_of, order_after, is_matrix, Declarations, declarations_after, sizes_of, rows_after, end_after, prefix_of, ends_there, problem_of}
-use Rattle.ore_problem.specs.Accepted.{counted, AllDeclare, IsRow, Accepted}
+use Rattle.ore_problem.specs.Accepted.{counted, LastCounts, AllDeclare, IsRow, Accepted}
 use Rattle.ore_problem.specs.Laws.{IsReadExactly}
 use Rattle.ore_problem.proofs.AcceptedLines.{GoesFrom, goes_same, cursor, arrived, stays, due, due_back, over, goes_over, goes_all}
 use Rattle.ore_problem.proofs.AcceptedWords.{bound, found, passed_test, same_ok, same_words, order_words, order_of-words, AreSizes, sizes_of-words, size_words}
@@ -90,24 +91,24 @@ pub record Stands (c : Cursor) (p : System) (goal : Cursor) : Type 0 where
   pub entries : AllZip (IsRow p) rows p.rows
   pub last_words : words last ≡ codes "end" ∷ []
 
-abbrev system : Frame → ℕ → List (Row rationals) → System
+abbrev pub system : Frame → ℕ → List (Row rationals) → System
 system f cols rows = record { names = f.names; signature = f.signature; cols = cols; rows = rows }
 
 -- ---- what is read behind each line
 
-abbrev end_read : Frame → ℕ → List (Row rationals) → Cursor → Read (System × Cursor)
+abbrev pub end_read : Frame → ℕ → List (Row rationals) → Cursor → Read (System × Cursor)
 end_read f cols rows c = end_after c >>= λ e. Ok (system f cols rows, e)
 
-abbrev rows_read : Frame → ℕ × ℕ → Cursor → Read (System × Cursor)
+abbrev pub rows_read : Frame → ℕ × ℕ → Cursor → Read (System × Cursor)
 rows_read f n c = rows_after f n.1 n.0 c >>= λ r. end_read f n.1 r.0 r.1
 
-abbrev sizes_read : Declarations → Read (System × Cursor)
+abbrev pub sizes_read : Declarations → Read (System × Cursor)
 sizes_read d = sizes_of d.cursor.line d.sizes >>= λ n. rows_read d.frame n d.cursor
 
-abbrev declarations_read : Order → Cursor → Read (System × Cursor)
+abbrev pub declarations_read : Order → Cursor → Read (System × Cursor)
 declarations_read o c = declarations_after o c >>= sizes_read
 
-abbrev order_read : Cursor → Read (System × Cursor)
+abbrev pub order_read : Cursor → Read (System × Cursor)
 order_read c = order_after c >>= λ o. declarations_read o.0 o.1
 
 -- ---- a problem that is read
@@ -273,29 +274,33 @@ accepted_stands text p rest c e h = record {
   last_words = h.last_words;
 }
 
+-- what stands between two cursors is accepted as the text that has these lines
+pub lines_accepted : (text : List ℕ) (p : System) (c goal : Cursor) (h : Stands c p goal) → counted (raw_lines text) ≡ h.first ∷ h.order ∷ (h.declarations ++ h.matrix ∷ (h.rows ++ h.last ∷ [])) → LastCounts (raw_lines text) → Accepted text p
+lines_accepted text p c goal h lines last = record {
+  header = h.first;
+  order = h.order;
+  declarations = h.declarations;
+  matrix = h.matrix;
+  rows = h.rows;
+  last = h.last;
+  lines = lines;
+  none_behind = last;
+  header_words = h.header_words;
+  order_words = h.order_words;
+  names = h.names;
+  kinds = p.signature.accepted;
+  declared = h.declared;
+  matrix_words = h.sizes.spelled;
+  row_count = h.sizes.rows;
+  column_count = h.sizes.cols;
+  entries = h.entries;
+  last_words = h.last_words;
+}
+
 stands_accepted : (text : List ℕ) (p : System) (goal : Cursor) → goal.left ≡ [] → Stands (at_start text) p goal → Accepted text p
 stands_accepted text p goal e h =
     let all = goes_all 0 0 (raw_lines text) (h.first ∷ h.order ∷ (h.declarations ++ h.matrix ∷ (h.rows ++ h.last ∷ []))) goal h.goes e in
-    record {
-      header = h.first;
-      order = h.order;
-      declarations = h.declarations;
-      matrix = h.matrix;
-      rows = h.rows;
-      last = h.last;
-      lines = all.0;
-      none_behind = all.1;
-      header_words = h.header_words;
-      order_words = h.order_words;
-      names = h.names;
-      kinds = p.signature.accepted;
-      declared = h.declared;
-      matrix_words = h.sizes.spelled;
-      row_count = h.sizes.rows;
-      column_count = h.sizes.cols;
-      entries = h.entries;
-      last_words = h.last_words;
-    }
+    lines_accepted text p (at_start text) goal h all.0 all.1
 
 -- an accepted text is read at the front of any lines
 pub accepted_prefix : (text more : List ℕ) (p : System) (rest : List (List ℕ)) → raw_lines more ≡ raw_lines text ++ rest → Accepted text p → prefix_of more ≡ Ok (p, over 0 0 (raw_lines text) rest)

@@ -26,8 +26,8 @@ use Rattle.ore_monomial.specs.LetterRule.{Operator}
 use Rattle.ore_ring.specs.Terms.{Term, Terms, falling}
 use Rattle.ore_ring.proofs.Falls.{left_true, right_true}
 use Rattle.ore_expr.specs.Tokens.{IsName, is_name_byte}
-use Rattle.ore_expr.specs.Names.{AreNames}
-use Rattle.ore_expr.specs.CanonicalText.{power_text, factor_texts, magnitude_text, is_one, with_factors, term_text, sign_text, later_text, terms_text, operator_text}
+use Rattle.ore_text.specs.Names.{AreNames}
+use Rattle.ore_text.specs.CanonicalText.{power_text, factor_texts, magnitude_text, is_one, with_factors, term_text, sign_text, later_text, terms_text, operator_text}
 
 abbrev pub is_mark : ℕ → Bool
 is_mark b = nat_eq b 32 || (nat_eq b 42 || (nat_eq b 43 || (nat_eq b 45 || (nat_eq b 47 || nat_eq b 94))))

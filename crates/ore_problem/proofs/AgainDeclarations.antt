@@ -24,7 +24,7 @@ use Rattle.ore_monomial.specs.declared.signature.VarKind.TheVariants.{Coordinate
 use Rattle.ore_monomial.proofs.Signatures.{lawful, step_in_range}
 use Rattle.ore_expr.specs.Tokens.{IsName}
 use Rattle.ore_expr.specs.Faults.{index_of}
-use Rattle.ore_expr.specs.Names.{IsDistinct, AreNames}
+use Rattle.ore_text.specs.Names.{IsDistinct, AreNames}
 use Rattle.ore_problem.specs.Lines.{is_some_byte}
 use Rattle.ore_problem.specs.Declarations.{is_digits}
 use Rattle.ore_problem.specs.ProblemText.{kind_word, kind_words, declaration_text}

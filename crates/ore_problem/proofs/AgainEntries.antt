@@ -19,11 +19,11 @@ use Rattle.ore_expr.specs.declared.fault.TextFault.{TextFault}
 use Rattle.ore_expr.specs.Tokens.{Token, Number, Name, Plus, Minus, Star, Slash, Caret, Open, Close, Stray, token_at, more_bytes, Lexeme, lexemes_from, lexemes, tokens_of}
 use Rattle.ore_expr.specs.Grammar.{Expression}
 use Rattle.ore_expr.specs.Faults.{greatest_number, power_limit, open_count, greatest_depth, index_of, number_fault, name_fault, own_fault, IsSound, IsExpression}
-use Rattle.ore_expr.specs.CanonicalText.{operator_text}
-use Rattle.ore_expr.specs.RowText.{listed, row_text}
+use Rattle.ore_text.specs.CanonicalText.{operator_text}
+use Rattle.ore_text.specs.RowText.{listed, row_text}
 use Rattle.ore_expr.specs.Laws.{IsPrintable}
 use Rattle.ore_expr.proofs.CanonicalReads.{canonical_is_read}
-use Rattle.ore_expr.specs.Names.{AreNames}
+use Rattle.ore_text.specs.Names.{AreNames}
 use Rattle.ore_expr.specs.Reading.{IsValue}
 use Rattle.ore_rows.specs.Rows.{Row}
 use Rattle.ore_problem.specs.Lines.{split_at}

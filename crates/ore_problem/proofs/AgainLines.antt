@@ -74,7 +74,7 @@ plain_joined (w ∷ v ∷ ws) h = plain_append w (32 ∷ join_with_byte 32 (v �
 
 -- ---- one line
 
-raw_lines-append : (line rest : List ℕ) → Lacks 10 line → raw_lines (line ++ 10 ∷ rest) ≡ ended line ∷ raw_lines rest
+pub raw_lines-append : (line rest : List ℕ) → Lacks 10 line → raw_lines (line ++ 10 ∷ rest) ≡ ended line ∷ raw_lines rest
 unfolding raw_lines
 raw_lines-append [] rest h = refl
 raw_lines-append (b ∷ bs) rest h = (λ i. if head_lacks 10 b bs h i then (b ∷ []) ∷ raw_lines (bs ++ 10 ∷ rest) else onto_first b (raw_lines-append bs rest (tail_lacks 10 b bs h) i))
@@ -102,7 +102,7 @@ pub record IsLine (line : List ℕ) : Type 0 where
 pub plain_line : (line : List ℕ) → IsPlain line → IsLine line
 plain_line line h = record { new_line = plain_lacks 10 plain_ten line h; return = plain_lacks 13 plain_thirteen line h; hash = plain_lacks 35 plain_hash line h }
 
-lacks_append : (byte : ℕ) (a b : List ℕ) → Lacks byte a → Lacks byte b → Lacks byte (a ++ b)
+pub lacks_append : (byte : ℕ) (a b : List ℕ) → Lacks byte a → Lacks byte b → Lacks byte (a ++ b)
 lacks_append byte a b h k = list_all-append (λ x. not (nat_eq x byte)) a b ∙ (λ i. h i && k i)
 
 pub line_append : (a b : List ℕ) → IsLine a → IsLine b → IsLine (a ++ b)

@@ -2,24 +2,24 @@
 --     lines_of             the lines of the text
 --     prints_problem       the text has these lines
 --     printed_accepted     the text is accepted, as the text of this problem
---     over-all             the cursor behind all lines of a text
 --     printed_is_read      the law
-use Rattle.std.proofs.Common.{◌≡◌, ℕ, suc, ◌+◌, ◌<◌, ◌≤◌, ◌^◌, Bool, true, false, List, [], ◌∷◌, ◌++◌, length, map, refl, sym, ap, ◌∙◌, subst, arith, append-nil}
-use Rattle.std.specs.Prelude.{if◌then◌else◌, nat_eq, codes, decimal}
+use Rattle.std.proofs.Common.{◌≡◌, ℕ, ◌+◌, ◌<◌, ◌≤◌, ◌^◌, List, [], ◌∷◌, ◌++◌, length, map, refl, sym, ap, ◌∙◌, subst, arith, append-nil}
+use Rattle.std.specs.Prelude.{codes, decimal}
 use Rattle.std.specs.declared.result.Result.TheVariants.{Ok}
 use Rattle.std.specs.List.{AllByRecursion, AllZip, join_with_byte, flat_map, zip}
 use Rattle.ore_rational.proofs.FractionLaws.{rationals}
 use Rattle.ore_monomial.specs.declared.order.Order.{Order}
 use Rattle.ore_monomial.specs.declared.order.Order.TheVariants.{DegLex, DegRevLex}
-use Rattle.ore_expr.specs.RowText.{row_text}
+use Rattle.ore_text.specs.RowText.{row_text}
 use Rattle.ore_rows.specs.Rows.{Row}
-use Rattle.ore_problem.specs.Lines.{raw_lines, onto_first}
+use Rattle.ore_problem.specs.Lines.{raw_lines}
 use Rattle.ore_problem.specs.ProblemText.{order_word, declaration_text, matrix_text, problem_text}
 use Rattle.ore_problem.specs.Problems.{System}
 use Rattle.ore_problem.specs.Stored.{IsPrintableSystem}
 use Rattle.ore_problem.specs.Accepted.{counted, LastCounts, AllDeclare, IsRow, Accepted}
 use Rattle.ore_problem.specs.Laws.{behind, PrintedIsRead}
 use Rattle.ore_problem.proofs.AcceptedLines.{cursor, over}
+use Rattle.ore_problem.proofs.FrontReads.{byte_count, over-all, byte_count-raw_lines}
 use Rattle.ore_problem.proofs.AcceptedReads.{accepted_prefix, accepted_read}
 use Rattle.ore_problem.proofs.AgainLines.{ended, IsWord, words_joined, plain_joined, plain_line, counted_ended, last_counts_ended, Prints, prints_line, prints_append, prints_all}
 use Rattle.ore_problem.proofs.AgainEntries.{row_line, AllPrint, prints_row, row_is}
@@ -115,35 +115,11 @@ module _ (p : System) (h : IsPrintableSystem p) where
 
 -- ---- the cursor behind the text
 
-abbrev total : List (List ℕ) → ℕ
-total [] = 0
-total (raw ∷ raws) = length raw + total raws
-
-over-all : (line used : ℕ) (raws rest : List (List ℕ)) → over line used raws rest ≡ cursor (line + length raws) (used + total raws) rest
-over-all line used [] rest = let a : line ≡ line + 0 = omega arith in let b : used ≡ used + 0 = omega arith in (λ i. cursor (a i) (b i) rest)
-over-all line used (raw ∷ raws) rest =
-    let a : suc line + length raws ≡ line + suc (length raws) = omega arith in
-    let b : (used + length raw) + total raws ≡ used + (length raw + total raws) = omega arith in
-    over-all (suc line) (used + length raw) raws rest ∙ (λ i. cursor (a i) (b i) rest)
-
-total-onto_first : (b : ℕ) (raws : List (List ℕ)) → total (onto_first b raws) ≡ suc (total raws)
-total-onto_first b [] = omega arith
-total-onto_first b (raw ∷ raws) = omega arith
-
-total-raw_lines : (text : List ℕ) → total (raw_lines text) ≡ length text
-unfolding raw_lines
-total-raw_lines [] = refl
-total-raw_lines (b ∷ bs) = by (nat_eq b 10) (total-raw_lines bs)
-  where
-    by : (t : Bool) → total (raw_lines bs) ≡ length bs → total (if t then (b ∷ []) ∷ raw_lines bs else onto_first b (raw_lines bs)) ≡ suc (length bs)
-    by true e = omega arith
-    by false e = total-onto_first b (raw_lines bs) ∙ ap suc e
-
 over-behind : (p : System) (rest : List ℕ) → over 0 0 (raw_lines (problem_text p)) (raw_lines rest) ≡ behind p rest
 over-behind p rest =
     over-all 0 0 (raw_lines (problem_text p)) (raw_lines rest)
     ∙ (let a : 0 + length (raw_lines (problem_text p)) ≡ length (raw_lines (problem_text p)) = omega arith in
-    let b : 0 + total (raw_lines (problem_text p)) ≡ length (problem_text p) = omega (arith, total-raw_lines (problem_text p)) in
+    let b : 0 + byte_count (raw_lines (problem_text p)) ≡ length (problem_text p) = omega (arith, byte_count-raw_lines (problem_text p)) in
     (λ i. cursor (a i) (b i) (raw_lines rest)))
 
 -- ---- the law

@@ -19,7 +19,7 @@ use Rattle.ore_monomial.specs.declared.signature.SignatureFault.{SignatureFault}
 use Rattle.ore_monomial.specs.Signature.{Signature, first_fault}
 use Rattle.ore_monomial.specs.SignatureCode.{signature_of, signature_again}
 use Rattle.ore_expr.specs.Faults.{index_of}
-use Rattle.ore_expr.specs.Names.{IsAdded}
+use Rattle.ore_text.specs.Names.{IsAdded}
 use Rattle.ore_problem.specs.Declarations.{Declared, declared_by, fault_of}
 use Rattle.ore_problem.specs.Problems.{Frame, fault_or, with_declared}
 use Rattle.ore_problem.specs.Reader.{IsExtended}

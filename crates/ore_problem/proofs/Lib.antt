@@ -12,6 +12,10 @@ mod AcceptedWords
 mod AcceptedDeclarations
 mod AcceptedRows
 pub mod AcceptedReads
+pub mod FrontReads
+mod LineMachine
+mod MachineReads
+pub mod FaultyTexts
 mod AgainBytes
 mod AgainLines
 mod AgainEntries

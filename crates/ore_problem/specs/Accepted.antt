@@ -7,6 +7,7 @@
 --     AreEntries       what stands behind `row`, for so many columns
 --     IsRow            the line of a row
 --     Accepted         a text is accepted, and this is its problem
+--     AcceptedFront    some bytes begin with such a text, and go on with another
 use Rattle.std.specs.Prelude.{◌≡◌, ◌≤◌, ℕ, zero, suc, true, false, if◌then◌else◌, List, [], ◌∷◌, ◌++◌, length, codes, decimal}
 use Rattle.std.specs.List.{AllZip, list_all}
 use Rattle.std.specs.Str.Parse.{digits_value}
@@ -17,7 +18,7 @@ use Rattle.ore_monomial.specs.Signature.{first_fault}
 use Rattle.ore_monomial.specs.declared.signature.VarKind.{VarKind}
 use Rattle.ore_monomial.specs.declared.signature.VarKind.TheVariants.{Coordinate, Constant, Plain, Differential, Shift, Delay}
 use Rattle.ore_expr.specs.Faults.{index_of}
-use Rattle.ore_expr.specs.Names.{AreNames}
+use Rattle.ore_text.specs.Names.{AreNames}
 use Rattle.ore_expr.specs.Reading.{IsValue}
 use Rattle.ore_rows.specs.Rows.{Row}
 use Rattle.ore_problem.specs.Lines.{split_at, raw_lines, content, is_comment, words}
@@ -91,3 +92,9 @@ pub record Accepted (text : List ℕ) (p : System) : Type 0 where
   pub column_count : p.cols ≤ 64
   pub entries : AllZip (IsRow p) rows p.rows
   pub last_words : words last ≡ codes "end" ∷ []
+
+-- The bytes are those of the accepted text `front` and of `rest`, and so are their lines: `front` ends where a line ends.
+pub record AcceptedFront (bytes : List ℕ) (p : System) (front rest : List ℕ) : Type 0 where
+  pub parts : bytes ≡ front ++ rest
+  pub lines : raw_lines bytes ≡ raw_lines front ++ raw_lines rest
+  pub accepted : Accepted front p

@@ -6,3 +6,4 @@ pub mod ProblemText
 pub mod Stored
 pub mod Accepted
 pub mod Laws
+pub mod FaultWords

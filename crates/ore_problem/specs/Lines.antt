@@ -1,7 +1,7 @@
 -- The lines of a text. A line ends with the byte 10, which the last one may lack; one byte 13 directly before it belongs to
 -- the end too. Where a line is due, comments are passed over and counted.
---     raw_lines, split_at      the lines with their ends; the pieces of a text between bytes of one value (ore_expr)
---     onto_first       a byte before the first of some pieces (ore_expr)
+--     raw_lines, split_at      the lines with their ends; the pieces of a text between bytes of one value (ore_text)
+--     onto_first       a byte before the first of some pieces (ore_text)
 --     is_line_end      these bytes are the end of a line
 --     content          a line without its end
 --     is_comment       a line begins with `#`
@@ -14,8 +14,8 @@ use Rattle.std.specs.Prelude.{ℕ, suc, ◌+◌, Bool, true, false, ◌&&◌, na
 use Rattle.std.specs.List.{filter}
 use Rattle.std.specs.declared.option.Option.{Option}
 use Rattle.std.specs.declared.option.Option.TheVariants.{None, Some}
-pub use Rattle.ore_expr.specs.Lines.{onto_first}
-unfoldable pub use Rattle.ore_expr.specs.Lines.{split_at, raw_lines}
+pub use Rattle.ore_text.specs.Lines.{onto_first}
+unfoldable pub use Rattle.ore_text.specs.Lines.{split_at, raw_lines}
 
 -- the byte 10, or the bytes 13 and 10
 abbrev pub is_line_end : List ℕ → Bool

@@ -12,7 +12,7 @@ use Rattle.ore_monomial.specs.declared.order.Order.{Order}
 use Rattle.ore_monomial.specs.declared.order.Order.TheVariants.{DegLex, DegRevLex}
 use Rattle.ore_monomial.specs.declared.signature.VarKind.{VarKind}
 use Rattle.ore_monomial.specs.declared.signature.VarKind.TheVariants.{Coordinate, Constant, Plain, Differential, Shift, Delay}
-use Rattle.ore_expr.specs.RowText.{row_text}
+use Rattle.ore_text.specs.RowText.{row_text}
 use Rattle.ore_rows.specs.Rows.{Row}
 use Rattle.ore_problem.specs.Problems.{System}
 

@@ -9,7 +9,7 @@ use Rattle.std.specs.List.{All, AllByRecursion}
 use Rattle.std.specs.declared.result.Result.{Result}
 use Rattle.std.specs.declared.result.Result.TheVariants.{Ok, Err}
 use Rattle.ore_ring.specs.Belongs.{Belongs}
-use Rattle.ore_expr.specs.Names.{AreNames}
+use Rattle.ore_text.specs.Names.{AreNames}
 use Rattle.ore_expr.specs.Laws.{IsPrintable}
 use Rattle.ore_rows.specs.Stored.{rows_of}
 use Rattle.ore_problem.specs.declared.fault.ProblemFault.{ProblemFault}

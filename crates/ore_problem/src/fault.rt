@@ -2,6 +2,7 @@
 
 ghost use Rattle.std.specs.Prelude.{◌≡◌};
 ghost use Rattle.ore_problem.specs.declared.fault.ProblemReason.TheVariants.{Memory};
+ghost use Rattle.ore_problem.specs.FaultWords.{signature_word as signature_word_of, fault_word};
 
 use ore_expr::TextFault;
 use ore_monomial::{NoMemory, SignatureFault};
@@ -47,6 +48,42 @@ pub enum ProblemReason {
     AfterEnd,
     /// There was no memory.
     Memory,
+}
+
+impl ProblemReason {
+    /// Its word in a reply. A stop of an entry has none, since its cause is answered, and neither has want of memory.
+    pub fn word(self) -> &'static [u8]
+        ensures { result.now ≡ fault_word self }
+    {
+        match self {
+            ProblemReason::Header => b"header",
+            ProblemReason::BadDeclaration => b"bad-declaration",
+            ProblemReason::NameTwice => b"name-twice",
+            ProblemReason::Signature(fault) => signature_word(fault),
+            ProblemReason::BadMatrix => b"bad-matrix",
+            ProblemReason::TooManyRows => b"too-many-rows",
+            ProblemReason::TooManyColumns => b"too-many-columns",
+            ProblemReason::BadRow => b"bad-row",
+            ProblemReason::WrongLength => b"wrong-length",
+            ProblemReason::Text(fault) => fault.word(),
+            ProblemReason::NoEnd => b"no-end",
+            ProblemReason::AfterEnd => b"after-end",
+            ProblemReason::Memory => b"",
+        }
+    }
+}
+
+// The word of a fault of a declared variable.
+fn signature_word(fault: SignatureFault) -> &'static [u8]
+    ensures { result.now ≡ signature_word_of fault }
+{
+    match fault {
+        SignatureFault::TooMany => b"too-many-variables",
+        SignatureFault::BadCoordinate(_) => b"bad-coordinate",
+        SignatureFault::TwoDifferentials(_) => b"two-differentials",
+        SignatureFault::BadStep(_) => b"bad-step",
+        SignatureFault::GroupOrder(_) => b"group-order",
+    }
 }
 
 impl ProblemFault {

@@ -2,7 +2,7 @@
 
 ghost use Rattle.std.specs.Prelude.{◌≡◌, ◌≤◌, [], ◌∷◌, ◌++◌, ◌+◌, true, false, length, map, min, option_map, unwrap_or, IfOk, IfSome};
 ghost use Rattle.ore_monomial.specs.SignatureCode.{signature_of};
-ghost use Rattle.ore_expr.specs.Names.{AreNames};
+ghost use Rattle.ore_text.specs.Names.{AreNames};
 ghost use Rattle.ore_expr.specs.Tokens.{IsName};
 ghost use Rattle.ore_problem.specs.Declarations.{named as named_of, two_words as two_words_of, three_words as three_words_of, four_words as four_words_of, declared_by as declared_by_of, is_digits as is_digits_of, coordinate_index as coordinate_index_of, step_value as step_value_of, fault_of};
 ghost use Rattle.ore_problem.specs.Problems.{declared_frame, fault_or, with_declared};
@@ -12,9 +12,9 @@ ghost use Rattle.ore_problem.specs.Stored.{Reads};
 use crate::fault::{ProblemFault, ProblemReason};
 use crate::problem::Problem;
 use crate::word::{is_digits, is_name, is_word, value_up_to};
-use ore_expr::Names;
 use ore_monomial::{Order, Signature, SignatureFault, VarKind};
 use ore_rows::Matrix;
+use ore_text::Names;
 use std::alloc::{AllocError, Global};
 use std::marker::Model;
 

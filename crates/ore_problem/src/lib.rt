@@ -10,13 +10,15 @@
 //! is evaluated, in the ring of all kinds of the declared signature.
 //!
 //! Apart from the reader stands the relation of a text and its problem, `specs/Accepted.antt`: what is read are
-//! just the accepted texts ([`laws::law_is_read_exactly`]). [`print_problem`] writes the one printed text, which
-//! is read as the same problem, whatever follows it ([`laws::law_printed_is_read`]).
+//! just the accepted texts ([`laws::law_is_read_exactly`]), and a text begins with a problem just where its first lines are
+//! an accepted text ([`laws::law_prefix_is_read_exactly`]). The faulty line that is answered is the first that no problem
+//! with the same lines before it has there ([`laws::law_finds_first_faulty_line`]). [`print_problem`] writes the one
+//! printed text, which is read as the same problem, whatever follows it ([`laws::law_printed_is_read`]).
 //!
 //! A line without an end, a number of any length and any bytes have an answer. Not proved: a reader passes over the
 //! text once, and allocates nothing by a number that a text names.
 //!
-//! The crate stands on `ore_expr` for entries and names, on `ore_rows` for matrices, on `ore_mixed` for the ring
+//! The crate stands on `ore_expr` for entries, on `ore_text` for names and lines, on `ore_rows` for matrices, on `ore_mixed` for the ring
 //! in which entries are evaluated, on `thiserror` for the fault and on `itoa` for numbers.
 #![tactic(auto)]
 

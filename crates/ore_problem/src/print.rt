@@ -9,9 +9,9 @@ ghost use Rattle.ore_problem.specs.Stored.{system_of, IsProblem};
 
 use crate::problem::Problem;
 use itoa::Buffer;
-use ore_expr::{Names, append_row};
 use ore_monomial::{NoMemory, Order, Signature, VarKind};
 use ore_rows::Matrix;
+use ore_text::{Names, append_row};
 use std::alloc::{AllocError, Global};
 
 /// The text of a problem, in its one printed form.

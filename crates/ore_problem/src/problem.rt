@@ -1,8 +1,8 @@
 //! Problems.
 
-use ore_expr::Names;
 use ore_monomial::Signature;
 use ore_rows::Matrix;
+use ore_text::Names;
 
 /// A system: a matrix of operators of a signature, whose variables have these names. The type doesn't tie the three
 /// together: what is read has one name for each variable and entries of the signature, and who prints owes it.

@@ -62,6 +62,3 @@ fn problem_in(alloc: Global, lines: &mut Lines) -> Result<Problem, ProblemFault>
     end(alloc, lines)?;
     Ok(frame.into_problem(Matrix::from_rows(cols, rows)))
 }
-
-#[cfg(test)]
-mod tests;

@@ -15,11 +15,12 @@ ghost use Rattle.ore_problem.specs.Stored.{Reads};
 use crate::fault::{ProblemFault, ProblemReason};
 use crate::frame::Frame;
 use crate::lines::Lines;
-use ore_expr::{Instruction, Names, TextFault, evaluate, parse};
+use ore_expr::{Instruction, TextFault, evaluate, parse};
 use ore_mixed::MixedRing;
 use ore_monomial::{RingStop, Signature};
 use ore_ring::Op;
 use ore_rows::Row;
+use ore_text::Names;
 use std::alloc::{AllocError, Global};
 
 /// So many rows of `cols` entries, each in the next line.

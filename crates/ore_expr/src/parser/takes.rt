@@ -17,9 +17,9 @@ use super::{Due, Level, Parser, Waiting};
 use crate::digits::{denominator, number, power};
 use crate::fault::TextFault;
 use crate::instruction::Instruction;
-use crate::names::Names;
 use crate::token::Token;
 use ore_rational::Rational;
+use ore_text::Names;
 use std::alloc::{AllocError, Global};
 
 // The greatest power of a name, and of another atom.

@@ -24,10 +24,11 @@ returns-in-Some-clause-gives g c =
     let s = g.R.OreRing.signature_of c.args.ring.now in
     top_value program s c.args.instructions.now c.loop-instruction.stack.items c.pop.new.self.items c.in-Some.top c.in-Some.ensures.items
     (last_stack program s c.args.instructions.now c.loop-instruction.instruction-index (values_of c.loop-instruction.stack.items) c.loop-instruction-test.false c.loop-instruction.invariant.told)
+    ∙ ap (λ (w : Ordered). Ok w.sum) (sym c.in_ok-finish-in-Some.ensures)
 
 pub returns-in-Some-clause-of : goal.returns-in-Some-clause-of
 returns-in-Some-clause-of g c =
-    (All-pop (Belongs (g.R.OreRing.signature_of c.args.ring.now)) c.loop-instruction.stack.items c.pop.new.self.items (Some c.in-Some.top) c.in-Some.ensures.items c.loop-instruction.invariant.belongs).1
+    subst (Belongs (g.R.OreRing.signature_of c.args.ring.now)) (sym c.in_ok-finish-in-Some.ensures) (All-pop (Belongs (g.R.OreRing.signature_of c.args.ring.now)) c.loop-instruction.stack.items c.pop.new.self.items (Some c.in-Some.top) c.in-Some.ensures.items c.loop-instruction.invariant.belongs).1
 
 pub returns-clause-gives : goal.returns-clause-gives
 returns-clause-gives g c =

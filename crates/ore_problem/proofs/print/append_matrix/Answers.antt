@@ -1,5 +1,5 @@
 use Rattle.std.proofs.Common.{◌++◌, map, ap, ◌∙◌}
-use Rattle.ore_expr.specs.RowText.{row_text}
+use Rattle.ore_text.specs.RowText.{row_text}
 use Rattle.ore_ring.specs.Ordered.{Ordered}
 use Rattle.ore_rows.specs.Stored.{sums_of}
 use Rattle.ore_problem.proofs.PrintLemmas.{rows_next}

@@ -1,6 +1,6 @@
 use Rattle.std.proofs.Common.{◌≡◌, ◌++◌, map, drop}
 use Rattle.std.specs.List.{flat_map}
-use Rattle.ore_expr.specs.RowText.{row_text}
+use Rattle.ore_text.specs.RowText.{row_text}
 use Rattle.ore_rows.specs.Stored.{rows_of, sums_of}
 use Rattle.ore_problem.proofs.print.append_matrix.Given as goal
 

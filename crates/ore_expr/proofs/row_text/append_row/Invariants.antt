@@ -1,9 +1,0 @@
-use Rattle.std.proofs.Common.{◌≡◌, ◌++◌, map, drop}
-use Rattle.ore_expr.specs.CanonicalText.{operator_text}
-use Rattle.ore_expr.specs.RowText.{row_text}
-use Rattle.ore_expr.proofs.RowEntries.{entries_text}
-use Rattle.ore_expr.proofs.row_text.append_row.Given as goal
-
-abbrev pub invariant-loop-op : goal.invariant-loop-op
-invariant-loop-op l =
-    l.out.items ++ entries_text (operator_text l.names l.sig.order) l.separator (map (λ f. f.sum) (drop l.op-index l.row)) ≡ l.fn.out.items ++ row_text l.names l.sig.order (map (λ f. f.sum) l.row)

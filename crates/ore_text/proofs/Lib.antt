@@ -1,0 +1,13 @@
+pub mod Appending
+pub mod CanonicalReading
+pub mod Coefficients
+pub mod Exponents
+pub mod FaultyLines
+pub mod Known
+pub mod NameLemmas
+pub mod Powers
+pub mod PrintableTerms
+pub mod Printing
+pub mod RowBytes
+pub mod RowEntries
+pub mod Walking

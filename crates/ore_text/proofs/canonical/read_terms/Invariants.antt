@@ -1,0 +1,21 @@
+use Rattle.std.proofs.Common.{◌≡◌, ◌≤◌, ◌-◌, length, drop}
+use Rattle.std.specs.List.{All}
+use Rattle.ore_rational.proofs.FractionLaws.{rationals}
+use Rattle.ore_monomial.specs.LetterRule.{Operator}
+use Rattle.ore_ring.specs.Terms.{falling}
+use Rattle.ore_text.specs.CanonicalParts.{terms_of, IsPrintableTerm}
+use Rattle.ore_text.specs.CanonicalText.{operator_text}
+use Rattle.ore_text.specs.Printable.{IsPrintable}
+use Rattle.ore_text.proofs.Walking.{Left}
+use Rattle.ore_text.proofs.canonical.read_terms.Given as goal
+
+abbrev pub invariant-loop-at : goal.invariant-loop-at
+invariant-loop-at l = record {
+  within : l.at ≤ length l.text;
+  by : l.op.by ≡ l.fn.op.by;
+  good : All (IsPrintableTerm l.sig) (terms_of l.op);
+  only : (f : Operator rationals) → l.fn.op.by ≡ l.sig.order → IsPrintable l.sig l.names f → l.text ≡ operator_text l.names l.sig.order f → Left l.names (falling l.sig.order f) (terms_of l.op) (drop l.at l.text);
+}
+
+abbrev pub decreases-loop-at : goal.decreases-loop-at
+decreases-loop-at l = length l.text - l.at
