@@ -1,27 +1,33 @@
 -- The lines of kinds have one value each.
 --     other_words                a text isn't the one it was compared with
---     byte_at                    a byte of a text
---     counted_lacks              a word and a number lack the line end
---     cause_text, cause_same     the words of a cause, one after another; those of causes differ
+--     byte_at, apart_at          a byte of a text; texts that differ there
+--     counted_same, counted_lacks     a word and a number tell the number, and lack the line end
+--     cause_text, cause_same, cause_lacks     the words of a cause, one after another; they tell it, and lack the line end
+--     tag, count, cause, kind_with, again     a kind by its number among kinds, its number of links and its cause
+--     tag_in, tag_is, count_in, count_is, cause_in, cause_is     what the words of a kind say of these
+--     below, few, may_cause      these may be written
+--     kind_same, kind_lacks      the words of a kind tell it, and lack the line end
 --     kind_line                  the words of kinds differ
 --     kind_is                    so they are a format
 --     no_kind, no_cause          words that are of no kind, and of no cause
-use Rattle.std.proofs.Common.{◌≡◌, ℕ, ◌<◌, ◌≤◌, Bool, false, if◌then◌else◌, List, [], ◌∷◌, ◌++◌, drop, get_or, refl, sym, ap, ◌∙◌, arith}
+use Rattle.std.proofs.Common.{◌≡◌, ℕ, ◌<◌, ◌≤◌, Bool, false, true≢false, if◌then◌else◌, List, [], ◌∷◌, ◌++◌, drop, get_or, refl, sym, ap, ◌∙◌, arith}
 use Rattle.std.specs.Prelude.{◌≢◌, nat_eq, codes, decimal}
 use Rattle.std.specs.List.{join_with_byte}
 use Rattle.std.specs.Cmp.Lexicographic.{pointwise}
-use Rattle.ore_expr.proofs.RowEntries.{other_bytes}
+use Rattle.std.proofs.lemmas.Bool.{eq-eqb}
+use Rattle.std.proofs.lemmas.List.{append_cancel_left}
+use Rattle.ore_text.proofs.RowEntries.{other_bytes}
 use Rattle.ore_cert.specs.declared.kind.Kind.{Kind}
 use Rattle.ore_cert.specs.declared.kind.Kind.TheVariants.{Controllable, AutonomousElement, LeftInverse, RightInverse, NoLeftInverse, NoRightInverse, KernelLeft, KernelRight, Resolution, ExtZero, ExtNonzero, Halted}
 use Rattle.ore_cert.specs.declared.report.Cause.{Cause}
 use Rattle.ore_cert.specs.declared.report.Cause.TheVariants.{Overflow, Degree, Budget}
-use Rattle.ore_cert.specs.CertificateText.{number_bound}
+use Rattle.ore_parts.specs.CertificateText.{number_bound}
 use Rattle.ore_cert.specs.KindFormat.{kind_words, IsWrittenKind, kind_format, halted_words, IsNoPlain, IsNoLinks}
-use Rattle.ore_cert.specs.Lines.{LacksByte}
-use Rattle.ore_cert.specs.WholeText.{cause_words, IsWrittenCause, IsLength}
-use Rattle.ore_cert.proofs.Bytes.{LacksByte-append, LacksByte-decimal}
-use Rattle.ore_cert.proofs.FormatLaws.{IsFormat, AreWords, line_is}
-use Rattle.ore_cert.proofs.Numbers.{same_decimal}
+use Rattle.ore_parts.specs.Lines.{LacksByte}
+use Rattle.ore_cert.specs.WholeText.{cause_words, IsWrittenCause}
+use Rattle.ore_parts.proofs.Bytes.{LacksByte-append, LacksByte-decimal}
+use Rattle.ore_parts.proofs.FormatLaws.{IsFormat, AreWords, line_is}
+use Rattle.ore_parts.proofs.Numbers.{same_decimal}
 
 -- a text that was compared with a word in a slice
 pub other_words : (a b w : List ℕ) (r : Bool) → r ≡ pointwise nat_eq a w → w ≡ b → r ≡ false → a ≢ b
@@ -33,23 +39,27 @@ byte_at k t = get_or t k 0
 pub counted_lacks : (word : List ℕ) (n : ℕ) → LacksByte 10 word → LacksByte 10 (word ++ decimal n)
 counted_lacks word n h = LacksByte-append 10 word (decimal n) h (LacksByte-decimal 10 n (omega arith))
 
+-- two numbers behind one word
+pub counted_same : (word words : List ℕ) (m n : ℕ) → m < number_bound → n < number_bound → words ≡ word ++ 32 ∷ decimal m → words ≡ word ++ 32 ∷ decimal n → m ≡ n
+counted_same word words m n h k e f = same_decimal m n h k (append_cancel_left (32 ∷ []) (decimal m) (decimal n) (append_cancel_left word (32 ∷ decimal m) (32 ∷ decimal n) (sym e ∙ f)))
+
+pub apart_at : (k a b : ℕ) (u v : List ℕ) → u ≡ v → byte_at k u ≡ a → byte_at k v ≡ b → nat_eq a b ≡ false → ⊥
+apart_at k a b u v e p q n = true≢false (sym (eq-eqb a b (sym p ∙ ap (byte_at k) e ∙ q)) ∙ n)
+
 -- ---- causes
 
 abbrev pub cause_text : Cause → List ℕ
 cause_text c = join_with_byte 32 (cause_words c)
 
-first_apart : (a b : ℕ) (u v : List ℕ) → u ≡ v → byte_at 0 u ≡ a → byte_at 0 v ≡ b → (a ≡ b → ⊥) → ⊥
-first_apart a b u v e p q n = n (sym p ∙ ap (byte_at 0) e ∙ q)
-
 pub cause_same : (c d : Cause) → IsWrittenCause c → IsWrittenCause d → cause_text c ≡ cause_text d → c ≡ d
 cause_same Overflow Overflow h k e = refl
-cause_same Overflow Degree h k e = absurd (first_apart 111 100 (cause_text Overflow) (cause_text Degree) e refl refl (λ p. omega (arith, p)))
-cause_same Overflow (Budget n) h k e = absurd (first_apart 111 98 (cause_text Overflow) (cause_text (Budget n)) e refl refl (λ p. omega (arith, p)))
-cause_same Degree Overflow h k e = absurd (first_apart 100 111 (cause_text Degree) (cause_text Overflow) e refl refl (λ p. omega (arith, p)))
+cause_same Overflow Degree h k e = absurd (apart_at 0 111 100 (cause_text Overflow) (cause_text Degree) e refl refl refl)
+cause_same Overflow (Budget n) h k e = absurd (apart_at 0 111 98 (cause_text Overflow) (cause_text (Budget n)) e refl refl refl)
+cause_same Degree Overflow h k e = absurd (apart_at 0 100 111 (cause_text Degree) (cause_text Overflow) e refl refl refl)
 cause_same Degree Degree h k e = refl
-cause_same Degree (Budget n) h k e = absurd (first_apart 100 98 (cause_text Degree) (cause_text (Budget n)) e refl refl (λ p. omega (arith, p)))
-cause_same (Budget m) Overflow h k e = absurd (first_apart 98 111 (cause_text (Budget m)) (cause_text Overflow) e refl refl (λ p. omega (arith, p)))
-cause_same (Budget m) Degree h k e = absurd (first_apart 98 100 (cause_text (Budget m)) (cause_text Degree) e refl refl (λ p. omega (arith, p)))
+cause_same Degree (Budget n) h k e = absurd (apart_at 0 100 98 (cause_text Degree) (cause_text (Budget n)) e refl refl refl)
+cause_same (Budget m) Overflow h k e = absurd (apart_at 0 98 111 (cause_text (Budget m)) (cause_text Overflow) e refl refl refl)
+cause_same (Budget m) Degree h k e = absurd (apart_at 0 98 100 (cause_text (Budget m)) (cause_text Degree) e refl refl refl)
 cause_same (Budget m) (Budget n) h k e = ap Budget (same_decimal m n (omega (arith, h)) (omega (arith, k)) (ap (drop 7) e))
 
 cause_lacks : (c : Cause) → LacksByte 10 (halted_words c)
@@ -168,7 +178,7 @@ cause_is (Halted Overflow) = refl
 cause_is (Halted Degree) = refl
 cause_is (Halted (Budget n)) = refl
 
-below : (n : ℕ) → n ≤ 12 → n < number_bound
+pub below : (n : ℕ) → n ≤ 12 → n < number_bound
 below n h = omega (arith, h)
 
 few : (k : Kind) → IsWrittenKind k → count k < number_bound

@@ -3,14 +3,15 @@
 --     made_is                   it is a format
 --     finds_made, made_fault    what its reader answers
 --     itself                    a format has its own texts
-use Rattle.std.proofs.Common.{◌≡◌, ℕ, ◌+◌, List, ◌++◌, refl, sym, ap, subst, ◌∙◌}
-use Rattle.ore_cert.specs.declared.fault.CertFault.{CertFault}
-use Rattle.ore_cert.specs.Formats.{Format, IsTextOf, line_count, Finds}
-use Rattle.ore_cert.specs.Lines.{Unread}
-use Rattle.ore_cert.specs.Reading.{IsStartFault}
-use Rattle.ore_cert.proofs.FaultyLines.{IsWhole}
-use Rattle.ore_cert.proofs.FormatLaws.{IsFormat, Renames}
-use Rattle.ore_cert.proofs.FormatReads.{finds, same_fault}
+--     text_of                   the text of what a value is made of
+use Rattle.std.proofs.Common.{◌≡◌, ◌+◌, ◌++◌, refl, sym, ap, subst, ◌∙◌}
+use Rattle.ore_parts.specs.declared.fault.CertFault.{CertFault}
+use Rattle.ore_parts.specs.Formats.{Format, IsTextOf, line_count, Finds}
+use Rattle.ore_parts.specs.Lines.{Unread}
+use Rattle.ore_parts.specs.Reading.{IsStartFault}
+use Rattle.ore_parts.proofs.FaultyLines.{IsWhole}
+use Rattle.ore_parts.proofs.FormatLaws.{IsFormat, Renames}
+use Rattle.ore_parts.proofs.FormatReads.{finds, same_fault}
 
 pub record Makes {X Y : Type 0} (F : Format X) (H : Format Y) (to : X → Y) : Type 0 where
   pub may_to : (x : X) → F.may x → H.may (to x)

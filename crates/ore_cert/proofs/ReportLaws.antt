@@ -1,14 +1,20 @@
 -- The lines of reports have one value each, and what follows the plan is a format.
+--     same_places, two_lack, three_places_lack, two_same     places as they are written
+--     plan_tag, plan_count, plan_with, plan_again     a plan by its number among plans and the number behind it
+--     plan_tag_in, plan_tag_is, plan_count_in, plan_count_is     what the words of a plan say of these
+--     plan_few, plan_same, plan_lacks                these may be written; the words of a plan tell it, and lack the line end
+--     first_place, choice_same, choice_lacks         so do those of a choice
+--     stop_first, stop_same, stop_lacks, line_same, line_lacks     and those of the last line, and of the line of a run
 --     plan_words_are, choice_words_are, report_words_are     the words of lines differ
 --     plan_is, choice_is, report_line_is             so these lines are formats
 --     no_plan, no_choice, no_stop, no_report_line    words that are none of them
 --     choices_behind, choices_of, choices_are        how many choices follow a line; these as a format
 --     next_parts, next_from                          a run with its choices, or the last line, as a line and choices; and back
 --     next_sequence, next_names, next_is             so it is a format
---     next_again, may_parts, may_next, text_parts, text_next     what this owes
-use Rattle.std.proofs.Common.{◌≡◌, ℕ, suc, ◌+◌, ◌<◌, ◌≤◌, if◌then◌else◌, List, [], ◌∷◌, ◌++◌, length, drop, refl, sym, ap, subst, ◌∙◌, append-nil, arith}
+--     next_again, may_parts, may_next, choice_line, choice_lines, none_left, text_parts, text_next     what this owes
+use Rattle.std.proofs.Common.{◌≡◌, ℕ, suc, ◌<◌, if◌then◌else◌, List, [], ◌∷◌, ◌++◌, length, drop, refl, sym, ap, subst, ◌∙◌, append-nil, arith}
 use Rattle.std.specs.Prelude.{◌≢◌, nat_eq, codes, decimal}
-use Rattle.std.specs.List.{All, flat_map}
+use Rattle.std.specs.List.{flat_map}
 use Rattle.std.proofs.lemmas.List.{append_cancel_left}
 use Rattle.std.proofs.lemmas.List.Elements.{All-nil}
 use Rattle.ore_rows.specs.declared.choices.Choice.{Choice}
@@ -21,16 +27,16 @@ use Rattle.ore_cert.specs.declared.report_lines.Next.{Next}
 use Rattle.ore_cert.specs.declared.report_lines.Next.TheVariants.{Run, End}
 use Rattle.ore_cert.specs.declared.report_lines.ReportLine.{ReportLine}
 use Rattle.ore_cert.specs.declared.report_lines.ReportLine.TheVariants.{RunLine, StopLine}
-use Rattle.ore_cert.specs.BlockText.{place, is_place}
-use Rattle.ore_cert.specs.CertificateText.{number_bound}
-use Rattle.ore_cert.specs.Formats.{Format, sequence, items}
-use Rattle.ore_cert.specs.Lines.{LacksByte}
+use Rattle.ore_parts.specs.BlockText.{place, is_place}
+use Rattle.ore_parts.specs.CertificateText.{number_bound}
+use Rattle.ore_parts.specs.Formats.{Format, sequence, items}
+use Rattle.ore_parts.specs.Lines.{LacksByte}
 use Rattle.ore_cert.specs.ReportFormats.{plan_line, plan_format, choice_words, choice_format, stop_line, report_line_words, report_line_format, IsWrittenReportLine, next_text, next_format, IsNoPlainPlan}
-use Rattle.ore_cert.specs.WholeText.{choice_text, run_text, IsWrittenChoice, IsWrittenPlan, IsWrittenStop, IsWrittenRun, IsLength}
-use Rattle.ore_cert.proofs.Bytes.{LacksByte-append, LacksByte-cons, LacksByte-decimal}
-use Rattle.ore_cert.proofs.FormatLaws.{IsFormat, AreWords, Renames, line_is, sequence_is, renamed_is, items_is}
-use Rattle.ore_cert.proofs.KindLaws.{byte_at, counted_lacks}
-use Rattle.ore_cert.proofs.Numbers.{numbers_cancel, same_decimal}
+use Rattle.ore_cert.specs.WholeText.{choice_text, IsWrittenChoice, IsWrittenPlan, IsWrittenStop, IsLength}
+use Rattle.ore_parts.proofs.Bytes.{LacksByte-append, LacksByte-cons, LacksByte-decimal}
+use Rattle.ore_parts.proofs.FormatLaws.{IsFormat, AreWords, Renames, line_is, sequence_is, renamed_is, items_is}
+use Rattle.ore_cert.proofs.KindLaws.{byte_at, apart_at, counted_lacks, below}
+use Rattle.ore_parts.proofs.Numbers.{numbers_cancel, same_decimal}
 
 -- ---- places
 
@@ -47,9 +53,6 @@ two_same : (i j k l : ℕ) → is_place i × is_place j → is_place k × is_pla
 two_same i j k l h g e =
     let r = numbers_cancel (suc i) (suc k) (place j) (place l) e in
     (same_places i k h.0 g.0 r.0, same_places j l h.1 g.1 r.1)
-
-first_bytes : (k a b : ℕ) (u v : List ℕ) → u ≡ v → byte_at k u ≡ a → byte_at k v ≡ b → a ≡ b
-first_bytes k a b u v e p q = sym p ∙ ap (byte_at k) e ∙ q
 
 -- ---- plans
 
@@ -113,9 +116,6 @@ plan_count_is (Resolve k) = refl
 plan_count_is (Ext k) = refl
 plan_count_is Adjoint = refl
 
-below : (n : ℕ) → n ≤ 12 → n < number_bound
-below n h = omega (arith, h)
-
 plan_few : (p : Plan) → IsWrittenPlan p → plan_count p < number_bound
 unfolding plan_count
 plan_few Analyse h = omega arith
@@ -164,8 +164,8 @@ no_plan text n r x Adjoint h e = n.adjoint e
 
 choice_same : (c d : Choice) → IsWrittenChoice c → IsWrittenChoice d → choice_words c ≡ choice_words d → c ≡ d
 choice_same (choice.Treat i j) (choice.Treat k l) h g e = let r = two_same i j k l h g (append_cancel_left (codes "treat ") (place i ++ 32 ∷ place j) (place k ++ 32 ∷ place l) e) in λ x. choice.Treat (r.0 x) (r.1 x)
-choice_same (choice.Treat i j) (choice.Skip k l m) h g e = let z = first_bytes 0 116 115 (choice_words (choice.Treat i j)) (choice_words (choice.Skip k l m)) e refl refl in absurd (let y : ⊥ = omega (arith, z) in y)
-choice_same (choice.Skip k l m) (choice.Treat i j) h g e = let z = first_bytes 0 115 116 (choice_words (choice.Skip k l m)) (choice_words (choice.Treat i j)) e refl refl in absurd (let y : ⊥ = omega (arith, z) in y)
+choice_same (choice.Treat i j) (choice.Skip k l m) h g e = absurd (apart_at 0 116 115 (choice_words (choice.Treat i j)) (choice_words (choice.Skip k l m)) e refl refl refl)
+choice_same (choice.Skip k l m) (choice.Treat i j) h g e = absurd (apart_at 0 115 116 (choice_words (choice.Skip k l m)) (choice_words (choice.Treat i j)) e refl refl refl)
 choice_same (choice.Skip i j v) (choice.Skip k l w) h g e =
     let r = numbers_cancel (suc i) (suc k) (place j ++ 32 ∷ place v) (place l ++ 32 ∷ place w) (append_cancel_left (codes "skip ") (place i ++ 32 ∷ (place j ++ 32 ∷ place v)) (place k ++ 32 ∷ (place l ++ 32 ∷ place w)) e) in
     let first = same_places i k h.0 g.0 r.0 in
@@ -194,13 +194,13 @@ no_choice text t s (choice.Skip i j v) h e = s (i, j, v) h e
 
 stop_same : (s t : Stop) → IsWrittenStop s → IsWrittenStop t → stop_line s ≡ stop_line t → s ≡ t
 stop_same Forced Forced h k e = refl
-stop_same Forced (Treat i j) h k e = let z = first_bytes 5 102 116 (stop_line Forced) (stop_line (Treat i j)) e refl refl in absurd (let y : ⊥ = omega (arith, z) in y)
-stop_same Forced Budget h k e = let z = first_bytes 5 102 98 (stop_line Forced) (stop_line Budget) e refl refl in absurd (let y : ⊥ = omega (arith, z) in y)
-stop_same (Treat i j) Forced h k e = let z = first_bytes 5 116 102 (stop_line (Treat i j)) (stop_line Forced) e refl refl in absurd (let y : ⊥ = omega (arith, z) in y)
+stop_same Forced (Treat i j) h k e = absurd (apart_at 5 102 116 (stop_line Forced) (stop_line (Treat i j)) e refl refl refl)
+stop_same Forced Budget h k e = absurd (apart_at 5 102 98 (stop_line Forced) (stop_line Budget) e refl refl refl)
+stop_same (Treat i j) Forced h k e = absurd (apart_at 5 116 102 (stop_line (Treat i j)) (stop_line Forced) e refl refl refl)
 stop_same (Treat i j) (Treat k l) h g e = let r = two_same i j k l h g (append_cancel_left (codes "stop treat ") (place i ++ 32 ∷ place j) (place k ++ 32 ∷ place l) e) in λ x. Treat (r.0 x) (r.1 x)
-stop_same (Treat i j) Budget h k e = let z = first_bytes 5 116 98 (stop_line (Treat i j)) (stop_line Budget) e refl refl in absurd (let y : ⊥ = omega (arith, z) in y)
-stop_same Budget Forced h k e = let z = first_bytes 5 98 102 (stop_line Budget) (stop_line Forced) e refl refl in absurd (let y : ⊥ = omega (arith, z) in y)
-stop_same Budget (Treat i j) h k e = let z = first_bytes 5 98 116 (stop_line Budget) (stop_line (Treat i j)) e refl refl in absurd (let y : ⊥ = omega (arith, z) in y)
+stop_same (Treat i j) Budget h k e = absurd (apart_at 5 116 98 (stop_line (Treat i j)) (stop_line Budget) e refl refl refl)
+stop_same Budget Forced h k e = absurd (apart_at 5 98 102 (stop_line Budget) (stop_line Forced) e refl refl refl)
+stop_same Budget (Treat i j) h k e = absurd (apart_at 5 98 116 (stop_line Budget) (stop_line (Treat i j)) e refl refl refl)
 stop_same Budget Budget h k e = refl
 
 stop_first : (s : Stop) → byte_at 0 (stop_line s) ≡ 115
@@ -220,8 +220,8 @@ no_stop text f b t Budget h e = b e
 
 line_same : (k l : ReportLine) → IsWrittenReportLine k → IsWrittenReportLine l → report_line_words k ≡ report_line_words l → k ≡ l
 line_same (RunLine m) (RunLine n) h g e = ap RunLine (same_decimal m n h g (append_cancel_left (codes "run ") (decimal m) (decimal n) e))
-line_same (RunLine m) (StopLine s) h g e = let z = first_bytes 0 114 115 (report_line_words (RunLine m)) (stop_line s) e refl (stop_first s) in absurd (let y : ⊥ = omega (arith, z) in y)
-line_same (StopLine s) (RunLine m) h g e = let z = first_bytes 0 115 114 (stop_line s) (report_line_words (RunLine m)) e (stop_first s) refl in absurd (let y : ⊥ = omega (arith, z) in y)
+line_same (RunLine m) (StopLine s) h g e = absurd (apart_at 0 114 115 (report_line_words (RunLine m)) (stop_line s) e refl (stop_first s) refl)
+line_same (StopLine s) (RunLine m) h g e = absurd (apart_at 0 115 114 (stop_line s) (report_line_words (RunLine m)) e (stop_first s) refl refl)
 line_same (StopLine s) (StopLine t) h g e = ap StopLine (stop_same s t h g e)
 
 line_lacks : (k : ReportLine) → LacksByte 10 (report_line_words k)

@@ -4,28 +4,33 @@
 --     runs_is                  the runs and the last line
 --     runs_found, runs_fault   what a reader answers that reads one run after the other
 --     shorter                  a run takes some bytes
+--     same_run, same_end, apart     runs and last lines
+--     no_choices               a run of no choices
+--     Runs, flat, end_text, tail_is     some runs, their text, the last line, and what follows the first run
+--     runs_cancel, whole_runs     the runs that a text begins with; their number of lines
+--     next_follows, next_strays     a fault of the first run, or of the last line behind no run
+--     behind_runs, all_append, flat_append, to, from, behind_fault     what follows some of the runs
 use Rattle.std.proofs.Common.{◌≡◌, ℕ, suc, ◌+◌, ◌<◌, ◌≤◌, List, [], ◌∷◌, ◌++◌, length, take, refl, sym, ap, subst, ◌∙◌, append_assoc, arith}
 use Rattle.std.specs.List.{All, flat_map}
 use Rattle.std.proofs.lemmas.List.{length-append}
 use Rattle.std.proofs.lemmas.List.Elements.{All-nil, All-cons, All-head, All-tail}
 use Rattle.ore_rows.specs.declared.choices.Choice.{Choice}
-use Rattle.ore_cert.specs.declared.fault.CertFault.{CertFault}
-use Rattle.ore_cert.specs.declared.fault.CertFault.TheVariants.{Malformed, Memory}
+use Rattle.ore_parts.specs.declared.fault.CertFault.{CertFault}
+use Rattle.ore_parts.specs.declared.fault.CertFault.TheVariants.{Malformed, Memory}
 use Rattle.ore_cert.specs.declared.report.Stop.{Stop}
 use Rattle.ore_cert.specs.declared.report.Stop.TheVariants.{Forced}
 use Rattle.ore_cert.specs.declared.report_lines.Next.{Next}
 use Rattle.ore_cert.specs.declared.report_lines.Next.TheVariants.{Run, End}
-use Rattle.ore_cert.specs.CertificateText.{number_bound}
-use Rattle.ore_cert.specs.FaultyLine.{IsFaultyStart, IsFaultyLine, FollowedBy}
-use Rattle.ore_cert.specs.Formats.{Format, IsTextOf, line_count, Finds, items}
-use Rattle.ore_cert.specs.Lines.{Unread, raw_lines}
-use Rattle.ore_cert.specs.Reading.{IsStartFault}
+use Rattle.ore_parts.specs.FaultyLine.{IsFaultyLine, FollowedBy}
+use Rattle.ore_parts.specs.Formats.{Format, IsTextOf, line_count, Finds, items}
+use Rattle.ore_parts.specs.Lines.{Unread, raw_lines}
+use Rattle.ore_parts.specs.Reading.{IsStartFault}
 use Rattle.ore_cert.specs.ReportFormats.{stop_line, next_text, next_format, runs_format}
 use Rattle.ore_cert.specs.WholeText.{run_text, IsWrittenChoice, IsWrittenRun, IsWrittenStop}
-use Rattle.ore_cert.proofs.FaultyLines.{IsWhole, whole_append, stray_faulty, faulty_stray, stray_behind, stray_same}
-use Rattle.ore_cert.proofs.FormatFaults.{Strays, strays_faulty, faulty_strays, front_lines}
-use Rattle.ore_cert.proofs.FormatLaws.{IsFormat, line_count-append, whole_text, items_is}
-use Rattle.ore_cert.proofs.FormatReads.{finds}
+use Rattle.ore_parts.proofs.FaultyLines.{IsWhole, whole_append, stray_faulty, faulty_stray, stray_behind, stray_same}
+use Rattle.ore_parts.proofs.FormatFaults.{Strays, strays_faulty, faulty_strays, front_lines}
+use Rattle.ore_parts.proofs.FormatLaws.{IsFormat, line_count-append, whole_text, items_is}
+use Rattle.ore_parts.proofs.FormatReads.{finds}
 use Rattle.ore_cert.proofs.ReportLaws.{next_is}
 
 -- ---- one run

@@ -1,61 +1,57 @@
 -- Certificates are a format.
+--     same_unit, zero_operator, zero_written, same_operator     lines that are the same; zero may be written
 --     unit_words_are, operator_words_are     the words of lines
 --     operator_spelled           what reading a canonical text says of a line
 --     unit_is, operator_is, link_names, link_is      lines and links are formats
 --     with_exact_is, with_unit_is, with_row_is, with_operator_is, autonomous_is, links_is, links_exact_is, links_row_is
 --                                the parts of some kinds
---     parts_is, body_makes, body_is          the parts of each kind, and what they make
+--     parts_is, parts_text, body_makes, body_is      the parts of each kind, their text, and what they make
 --     body_found, body_fails     what their readers answer
---     last, last_is, head, head_is           the last line, and the first
---     kind_of                    the kind of a certificate
---     may_kind                   a certificate that may be written has a kind, and parts, that may be written
---     made_kind, made_written    what parts of a kind make is of that kind, and may be written
---     closed_text                what follows the first line is the line of the kind, the rest and the last line
+--     last, last_is, head, head_is     the last line, and the first
+--     kind_of, may_kind          the kind of a certificate; one that may be written has a kind, and parts, that may be written
+--     same_kind, made_kind       what parts of a kind make is of that kind
+--     few_links, written, made_written     a certificate whose parts may be written may be written
+--     line_of, text_of_kind, closed_text     what follows the first line is the line of the kind, the rest and the last line
 --     closed_names, closed_is, kinds_names, kinds_is, certificate_names, certificate_is      the whole text
-use Rattle.std.proofs.Common.{◌≡◌, ℕ, suc, ◌<◌, ◌≤◌, List, [], ◌∷◌, ◌++◌, length, Option, None, Some, Result, Ok, Err, refl, sym, ap, subst, ◌∙◌, append_assoc, arith}
-use Rattle.std.specs.Prelude.{codes, decimal, IsErrAnd, IfOk, IfSome, MatchOption}
-use Rattle.std.specs.List.{All, flat_map}
+use Rattle.std.proofs.Common.{◌≡◌, ℕ, suc, List, [], ◌∷◌, ◌++◌, length, Option, None, Some, Result, Ok, Err, refl, sym, ap, subst, ◌∙◌, append_assoc, arith}
+use Rattle.std.specs.Prelude.{codes, IsErrAnd, IfOk, IfSome, MatchOption}
 use Rattle.std.proofs.lemmas.List.{append_cancel_left}
 use Rattle.ore_algebra.specs.Free.{none}
 use Rattle.ore_rational.proofs.FractionLaws.{rationals}
-use Rattle.ore_monomial.specs.declared.order.Order.{Order}
 use Rattle.ore_monomial.specs.Monomial.{plain_cmp}
 use Rattle.ore_monomial.specs.Signature.{Signature}
 use Rattle.ore_monomial.specs.LetterRule.{Operator}
 use Rattle.ore_ring.specs.Belongs.{Belongs}
 use Rattle.ore_ring.specs.Ordered.{Ordered}
-use Rattle.ore_rows.specs.Stored.{OperatorMatrix}
-use Rattle.ore_expr.specs.CanonicalText.{operator_text}
+use Rattle.ore_text.specs.CanonicalText.{operator_text}
 use Rattle.ore_expr.specs.Laws.{IsPrintable}
-use Rattle.ore_expr.specs.Names.{AreNames}
+use Rattle.ore_text.specs.Names.{AreNames}
 use Rattle.ore_expr.proofs.CanonicalUnique.{canonical_is_unique}
-use Rattle.ore_cert.specs.declared.block.ExactBlock.{ExactBlock}
-use Rattle.ore_cert.specs.declared.block.OutsideBlock.{OutsideBlock}
-use Rattle.ore_cert.specs.declared.block.Link.{Link}
+use Rattle.ore_parts.specs.declared.block.Link.{Link}
 use Rattle.ore_cert.specs.declared.certificate.Side.TheVariants.{Left, Right}
 use Rattle.ore_cert.specs.declared.certificate.Certificate.{Certificate}
 use Rattle.ore_cert.specs.declared.certificate.Certificate.TheVariants as certificate
-use Rattle.ore_cert.specs.declared.fault.CertFault.{CertFault}
+use Rattle.ore_parts.specs.declared.fault.CertFault.{CertFault}
 use Rattle.ore_cert.specs.declared.kind.Kind.{Kind}
 use Rattle.ore_cert.specs.declared.kind.Kind.TheVariants.{Controllable, AutonomousElement, LeftInverse, RightInverse, NoLeftInverse, NoRightInverse, KernelLeft, KernelRight, Resolution, ExtZero, ExtNonzero, Halted}
-use Rattle.ore_cert.specs.BlockText.{place, is_place, exact_text}
-use Rattle.ore_cert.specs.Formats.{Format, IsTextOf, Finds, Reads, sequence, items, fixed}
-use Rattle.ore_cert.specs.KindFormat.{Spells, kind_words, kind_format, IsWrittenKind}
-use Rattle.ore_cert.specs.Lines.{LacksByte, Unread}
-use Rattle.ore_cert.specs.Reading.{IsStartFault}
-use Rattle.ore_cert.specs.PartFormats.{matrix_format, row_format, exact_format, outside_format}
-use Rattle.ore_cert.specs.WholeFormats.{unit_format, operator_words, operator_format, link_format, with_exact, with_unit, with_row, with_operator, autonomous_parts, links_format, links_exact, links_row, Parts, parts_format, with_parts, rest_text, IsMadeOf, body_format, closed_format, kinds_format, certificate_format}
+use Rattle.ore_parts.specs.BlockText.{place, is_place}
+use Rattle.ore_parts.specs.Formats.{Format, IsTextOf, Finds, ReadsOne, sequence, fixed, Spells}
+use Rattle.ore_cert.specs.KindFormat.{kind_words, kind_format, IsWrittenKind}
+use Rattle.ore_parts.specs.Lines.{LacksByte, Unread}
+use Rattle.ore_parts.specs.Reading.{IsStartFault}
+use Rattle.ore_parts.specs.PartFormats.{matrix_format, row_format, exact_format, outside_format}
+use Rattle.ore_cert.specs.WholeFormats.{unit_format, operator_words, operator_format, link_format, with_exact, with_unit, with_row, with_operator, autonomous_parts, links_format, links_exact, links_row, Parts, parts_format, with_parts, IsMadeOf, body_format, closed_format, kinds_format, certificate_format}
 use Rattle.ore_cert.specs.ReportFormats.{plan_format, runs_format}
-use Rattle.ore_cert.specs.WholeText.{link_text, body_text, certificate_text, IsLength, IsWrittenOperator, IsWrittenLink, IsWrittenLinks, IsWrittenCertificate}
-use Rattle.ore_cert.proofs.Bytes.{LacksByte-append, LacksByte-cons, LacksByte-decimal}
-use Rattle.ore_cert.proofs.FormatLaws.{IsFormat, AreWords, Renames, line_is, fixed_is, sequence_is, renamed_is, items_is}
+use Rattle.ore_cert.specs.WholeText.{kind_text, rest_text, IsLength, IsWrittenOperator, IsWrittenLinks, IsWrittenCertificate}
+use Rattle.ore_parts.proofs.Bytes.{LacksByte-append, LacksByte-cons, LacksByte-decimal}
+use Rattle.ore_parts.proofs.FormatLaws.{IsFormat, AreWords, Renames, line_is, fixed_is, sequence_is, renamed_is, items_is}
 use Rattle.ore_cert.proofs.KindLaws.{kind_is}
-use Rattle.ore_cert.proofs.FormatReads.{reads_err}
+use Rattle.ore_parts.proofs.FormatReads.{reads_err}
 use Rattle.ore_cert.proofs.MadeFormats.{Makes, made_is, finds_made, made_fault}
-use Rattle.ore_cert.proofs.BlockLaws.{exact_is, outside_is}
-use Rattle.ore_cert.proofs.MatrixLaws.{matrix_is, row_is}
-use Rattle.ore_cert.proofs.MatrixTexts.{operator_lacks_end, none_printable}
-use Rattle.ore_cert.proofs.Numbers.{same_decimal}
+use Rattle.ore_parts.proofs.BlockLaws.{exact_is, outside_is}
+use Rattle.ore_parts.proofs.MatrixLaws.{matrix_is, row_is}
+use Rattle.ore_parts.proofs.MatrixTexts.{operator_lacks_end, none_printable}
+use Rattle.ore_parts.proofs.Numbers.{same_decimal}
 use Rattle.ore_cert.proofs.ReportLaws.{plan_is}
 use Rattle.ore_cert.proofs.RunsLaws.{runs_is}
 
@@ -165,7 +161,7 @@ module _ (s : Signature) (names : List (List ℕ)) (are : AreNames names) (fit :
   parts_is (ExtNonzero count) = links_row_is count
   parts_is (Halted cause) = sequence_is plan_format (λ _. runs_format) plan_is (λ p h. runs_is)
 
-  parts_text : (k : Kind) (p : Parts s names k) → rest_text s names (with_parts s names k p) ≡ (parts_format s names k).text p
+  parts_text : (k : Kind) (p : Parts s names k) → rest_text names s.order (with_parts s names k p) ≡ (parts_format s names k).text p
   parts_text Controllable p = refl
   parts_text AutonomousElement p = refl
   parts_text LeftInverse p = refl
@@ -188,7 +184,7 @@ module _ (s : Signature) (names : List (List ℕ)) (are : AreNames names) (fit :
   pub body_found : (k : Kind) (old : Unread) (p : Parts s names k) (new : Unread) → Finds (parts_format s names k) old p new → Finds (body_format s names k) old (with_parts s names k p) new
   body_found k old p new a = finds_made (parts_format s names k) (body_format s names k) (with_parts s names k) (body_makes k) (parts_is k) old p new a
 
-  pub body_fails : (k : Kind) (old new : Unread) (z : Result Certificate CertFault) (e : CertFault) → IsErrAnd z (λ y. y ≡ e) → IsStartFault (IsTextOf (parts_format s names k)) old e → Reads (body_format s names k) old z new
+  pub body_fails : (k : Kind) (old new : Unread) (z : Result Certificate CertFault) (e : CertFault) → IsErrAnd z (λ y. y ≡ e) → IsStartFault (IsTextOf (parts_format s names k)) old e → ReadsOne (body_format s names k) old z new
   body_fails k old new z e is f = reads_err (body_format s names k) old new z e is (made_fault (parts_format s names k) (body_format s names k) (with_parts s names k) (body_makes k) (parts_is k) old e f)
 
   -- ---- the whole text
@@ -277,24 +273,23 @@ module _ (s : Signature) (names : List (List ℕ)) (are : AreNames names) (fit :
   abbrev line_of : Kind → List ℕ
   line_of k = kind_words k ++ 10 ∷ []
 
-  -- the line of the kind, and the rest
-  kind_text : (c : Certificate) → body_text names s.order c ≡ line_of (kind_of c) ++ rest_text s names c
+  text_of_kind : (c : Certificate) → kind_text c ≡ line_of (kind_of c)
   unfolding kind_of
-  kind_text (certificate.Controllable q block) = refl
-  kind_text (certificate.AutonomousElement element operator cofactor block) = refl
-  kind_text (certificate.LeftInverse m) = refl
-  kind_text (certificate.RightInverse m) = refl
-  kind_text (certificate.NoLeftInverse unit block) = refl
-  kind_text (certificate.NoRightInverse unit block) = refl
-  kind_text (certificate.Kernel Left generators block) = refl
-  kind_text (certificate.Kernel Right generators block) = refl
-  kind_text (certificate.Resolution links) = refl
-  kind_text (certificate.ExtZero links block) = append_assoc (line_of (ExtZero (length links))) (flat_map (link_text names s.order) links) (exact_text names s.order block)
-  kind_text (certificate.ExtNonzero links element block) = append_assoc (line_of (ExtNonzero (length links))) (flat_map (link_text names s.order) links) ((with_row s names (codes "element")).text (element, block))
-  kind_text (certificate.Halted r) = refl
+  text_of_kind (certificate.Controllable q block) = refl
+  text_of_kind (certificate.AutonomousElement element operator cofactor block) = refl
+  text_of_kind (certificate.LeftInverse m) = refl
+  text_of_kind (certificate.RightInverse m) = refl
+  text_of_kind (certificate.NoLeftInverse unit block) = refl
+  text_of_kind (certificate.NoRightInverse unit block) = refl
+  text_of_kind (certificate.Kernel Left generators block) = refl
+  text_of_kind (certificate.Kernel Right generators block) = refl
+  text_of_kind (certificate.Resolution links) = refl
+  text_of_kind (certificate.ExtZero links block) = refl
+  text_of_kind (certificate.ExtNonzero links element block) = refl
+  text_of_kind (certificate.Halted r) = refl
 
-  pub closed_text : (c : Certificate) → body_text names s.order c ++ codes "end\n" ≡ line_of (kind_of c) ++ (rest_text s names c ++ codes "end\n")
-  closed_text c = ap (λ t. t ++ codes "end\n") (kind_text c) ∙ append_assoc (line_of (kind_of c)) (rest_text s names c) (codes "end\n")
+  pub closed_text : (c : Certificate) → kind_text c ++ (rest_text names s.order c ++ codes "end\n") ≡ line_of (kind_of c) ++ (rest_text names s.order c ++ codes "end\n")
+  closed_text c = ap (λ t. t ++ (rest_text names s.order c ++ codes "end\n")) (text_of_kind c)
 
   pub made_kind : (k : Kind) (c : Certificate) → IsMadeOf s names k c → kind_of c ≡ k
   made_kind k c m = ap kind_of (sym m.2) ∙ same_kind k m.0 m.1
@@ -310,7 +305,7 @@ module _ (s : Signature) (names : List (List ℕ)) (are : AreNames names) (fit :
     may_from = may_kind;
     may_to = λ p h. made_written p.0 p.1 h.0 h.1;
     text_from = λ c h. closed_text c;
-    text_to = λ p h. closed_text p.1 ∙ ap (λ k. line_of k ++ (rest_text s names p.1 ++ codes "end\n")) (made_kind p.0 p.1 h.1);
+    text_to = λ p h. closed_text p.1 ∙ ap (λ k. line_of k ++ (rest_text names s.order p.1 ++ codes "end\n")) (made_kind p.0 p.1 h.1);
   }
 
   pub kinds_is : IsFormat (kinds_format s names)

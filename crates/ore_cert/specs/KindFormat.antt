@@ -1,21 +1,15 @@
 -- The line with the kind of a certificate.
---     Spells                    the value whose words a text is, or none where there is no such value
---     halted_words, kind_words  what a line says of a stopped computation, and of a kind
+--     halted_words, kind_words     what a line says of a stopped computation, and of a kind
 --     IsWrittenKind             its numbers are in their ranges
 --     kind_format               the line of a kind
 --     IsNoPlain, IsNoLinks      no kind without a number; none with the number of links
-use Rattle.std.specs.Prelude.{◌≡◌, ◌≢◌, ℕ, List, [], ◌∷◌, ◌++◌, codes, decimal, MatchOption}
+use Rattle.std.specs.Prelude.{◌≢◌, ℕ, List, ◌∷◌, ◌++◌, codes, decimal}
 use Rattle.std.specs.List.{join_with_byte}
-use Rattle.std.specs.declared.option.Option.{Option}
 use Rattle.ore_cert.specs.declared.kind.Kind.{Kind}
 use Rattle.ore_cert.specs.declared.kind.Kind.TheVariants.{Controllable, AutonomousElement, LeftInverse, RightInverse, NoLeftInverse, NoRightInverse, KernelLeft, KernelRight, Resolution, ExtZero, ExtNonzero, Halted}
 use Rattle.ore_cert.specs.declared.report.Cause.{Cause}
-use Rattle.ore_cert.specs.Formats.{Format, one_line}
+use Rattle.ore_parts.specs.Formats.{Format, one_line}
 use Rattle.ore_cert.specs.WholeText.{cause_words, IsWrittenCause, IsLength}
-
--- the value that is found may be written and has these words; or none is, and no value that may be written has them
-abbrev pub Spells : {X : Type 0} → (X → List ℕ) → (X → Type 0) → List ℕ → Option X → Type 0
-Spells {X} words may text result = MatchOption result ((x : X) → may x → text ≢ words x) (λ x. may x × (text ≡ words x))
 
 -- `halted`, and then the words of the cause
 abbrev pub halted_words : Cause → List ℕ

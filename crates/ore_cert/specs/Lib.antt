@@ -1,13 +1,6 @@
-pub mod Lines
-pub mod FaultyLine
-pub mod CertificateText
-pub mod Reading
-pub mod Formats
-pub mod BlockCode
-pub mod BlockText
-pub mod PartFormats
+pub mod EachKind
 pub mod WholeText
-pub mod OfSignature
+pub mod CertificateOf
 pub mod KindFormat
 pub mod ReportFormats
 pub mod WholeFormats

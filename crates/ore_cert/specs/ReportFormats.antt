@@ -1,10 +1,10 @@
 -- The formats of the lines of a report.
 --     plan_line, choice_words, stop_line     what the lines say
 --     plan_format, choice_format             these lines
---     report_line_words, report_line_format  the line of a run, or the last line
+--     report_line_words, report_line_format     the line of a run, or the last line
 --     IsWrittenReportLine            its numbers are in their ranges
 --     next_text, next_format         a run with its choices, or the last line
---     IsWrittenNext                  their numbers are in their ranges
+--     IsWrittenNext                  its numbers are in their ranges
 --     runs_format                    the runs and the last line
 --     report_rest_format             what follows the first line of a report
 --     IsNoPlainPlan                  no plan without a number
@@ -18,9 +18,9 @@ use Rattle.ore_cert.specs.declared.report_lines.Next.{Next}
 use Rattle.ore_cert.specs.declared.report_lines.Next.TheVariants.{Run, End}
 use Rattle.ore_cert.specs.declared.report_lines.ReportLine.{ReportLine}
 use Rattle.ore_cert.specs.declared.report_lines.ReportLine.TheVariants.{RunLine, StopLine}
-use Rattle.ore_cert.specs.BlockText.{line, place}
-use Rattle.ore_cert.specs.CertificateText.{number_bound}
-use Rattle.ore_cert.specs.Formats.{Format, one_line, sequence}
+use Rattle.ore_parts.specs.BlockText.{place}
+use Rattle.ore_parts.specs.CertificateText.{number_bound}
+use Rattle.ore_parts.specs.Formats.{Format, one_line, sequence}
 use Rattle.ore_cert.specs.WholeText.{plan_words, stop_words, run_text, IsWrittenChoice, IsWrittenPlan, IsWrittenStop, IsWrittenRun}
 
 -- `plan`, and then the words of what was computed, without the line end

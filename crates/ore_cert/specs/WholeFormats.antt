@@ -6,20 +6,19 @@
 --     Parts, with_parts              what a certificate of a kind is made of; the certificate
 --     parts_format                   its parts one after the other
 --     IsMadeOf                       a certificate of a kind whose parts may be written
---     rest_text, body_format         what stands between the line of the kind and the last line
+--     body_format                    what stands between the line of the kind and the last line
 --     closed_format                  that, and the last line
 --     kinds_format                   what follows the first line
 --     certificate_format             the whole text
-use Rattle.std.specs.Prelude.{◌≡◌, ℕ, List, [], ◌∷◌, ◌++◌, codes}
-use Rattle.std.specs.List.{flat_map, join_with_byte}
+use Rattle.std.specs.Prelude.{◌≡◌, ℕ, List, ◌∷◌, ◌++◌, codes}
 use Rattle.ore_monomial.specs.Signature.{Signature}
 use Rattle.ore_ring.specs.Ordered.{Ordered}
 use Rattle.ore_rows.specs.Stored.{OperatorMatrix}
 use Rattle.ore_rows.specs.declared.choices.Choice.{Choice}
-use Rattle.ore_expr.specs.CanonicalText.{operator_text}
-use Rattle.ore_cert.specs.declared.block.ExactBlock.{ExactBlock}
-use Rattle.ore_cert.specs.declared.block.OutsideBlock.{OutsideBlock}
-use Rattle.ore_cert.specs.declared.block.Link.{Link}
+use Rattle.ore_text.specs.CanonicalText.{operator_text}
+use Rattle.ore_parts.specs.declared.block.ExactBlock.{ExactBlock}
+use Rattle.ore_parts.specs.declared.block.OutsideBlock.{OutsideBlock}
+use Rattle.ore_parts.specs.declared.block.Link.{Link}
 use Rattle.ore_cert.specs.declared.certificate.Side.TheVariants.{Left, Right}
 use Rattle.ore_cert.specs.declared.certificate.Certificate.{Certificate}
 use Rattle.ore_cert.specs.declared.certificate.Certificate.TheVariants as certificate
@@ -27,11 +26,11 @@ use Rattle.ore_cert.specs.declared.kind.Kind.{Kind}
 use Rattle.ore_cert.specs.declared.kind.Kind.TheVariants.{Controllable, AutonomousElement, LeftInverse, RightInverse, NoLeftInverse, NoRightInverse, KernelLeft, KernelRight, Resolution, ExtZero, ExtNonzero, Halted}
 use Rattle.ore_cert.specs.declared.report.Plan.{Plan}
 use Rattle.ore_cert.specs.declared.report.Stop.{Stop}
-use Rattle.ore_cert.specs.BlockText.{line, place, is_place, matrix_part, row_part, exact_text, outside_text}
-use Rattle.ore_cert.specs.Formats.{Format, one_line, sequence, items, fixed}
-use Rattle.ore_cert.specs.PartFormats.{matrix_format, row_format, exact_format, outside_format}
+use Rattle.ore_parts.specs.BlockText.{place, is_place}
+use Rattle.ore_parts.specs.Formats.{Format, one_line, sequence, items}
+use Rattle.ore_parts.specs.PartFormats.{matrix_format, row_format, exact_format, outside_format}
 use Rattle.ore_cert.specs.ReportFormats.{report_rest_format}
-use Rattle.ore_cert.specs.WholeText.{run_text, plan_words, stop_words, link_text, operator_line, body_text, certificate_text, IsWrittenLink, IsWrittenOperator, IsWrittenCertificate}
+use Rattle.ore_cert.specs.WholeText.{link_text, kind_text, rest_text, certificate_text, IsWrittenLink, IsWrittenOperator, IsWrittenCertificate}
 
 -- `unit` and the place of a unit row, on one line
 abbrev pub unit_format : Format ℕ
@@ -127,36 +126,21 @@ module _ (s : Signature) (names : List (List ℕ)) where
   with_parts (ExtNonzero count) p = certificate.ExtNonzero p.0 p.1.0 p.1.1
   with_parts (Halted cause) p = certificate.Halted (record { cause = cause; plan = p.0; runs = p.1.0; stop = p.1.1 })
 
-  -- the text of the parts of a certificate
-  abbrev pub rest_text : Certificate → List ℕ
-  rest_text (certificate.Controllable q block) = matrix_part names s.order (codes "Q") q ++ exact_text names s.order block
-  rest_text (certificate.AutonomousElement element operator cofactor block) = row_part names s.order (codes "element") element ++ (operator_line names s.order (codes "operator") operator ++ (row_part names s.order (codes "cofactor") cofactor ++ outside_text names s.order block))
-  rest_text (certificate.LeftInverse m) = matrix_part names s.order (codes "S") m
-  rest_text (certificate.RightInverse m) = matrix_part names s.order (codes "S") m
-  rest_text (certificate.NoLeftInverse unit block) = line (codes "unit" ∷ place unit ∷ []) ++ outside_text names s.order block
-  rest_text (certificate.NoRightInverse unit block) = line (codes "unit" ∷ place unit ∷ []) ++ outside_text names s.order block
-  rest_text (certificate.Kernel Left generators block) = matrix_part names s.order (codes "L") generators ++ exact_text names s.order block
-  rest_text (certificate.Kernel Right generators block) = matrix_part names s.order (codes "Q") generators ++ exact_text names s.order block
-  rest_text (certificate.Resolution links) = flat_map (link_text names s.order) links
-  rest_text (certificate.ExtZero links block) = flat_map (link_text names s.order) links ++ exact_text names s.order block
-  rest_text (certificate.ExtNonzero links element block) = flat_map (link_text names s.order) links ++ (row_part names s.order (codes "element") element ++ outside_text names s.order block)
-  rest_text (certificate.Halted r) = line (codes "plan" ∷ plan_words r.plan) ++ (flat_map run_text r.runs ++ line (codes "stop" ∷ stop_words r.stop))
-
   -- the certificate is one of the kind, and has parts that may be written
   abbrev pub IsMadeOf : (k : Kind) → Certificate → Type 0
   IsMadeOf k c = (p : Parts k) × (parts_format k).may p × (with_parts k p ≡ c)
 
   -- certificates of a kind, by the text of their parts
   abbrev pub body_format : Kind → Format Certificate
-  body_format k = record { text = rest_text; may = IsMadeOf k }
+  body_format k = record { text = rest_text names s.order; may = IsMadeOf k }
 
   -- certificates of a kind, by the text of their parts and the last line, `end`
   abbrev pub closed_format : Kind → Format Certificate
-  closed_format k = record { text = λ c. rest_text c ++ codes "end\n"; may = IsMadeOf k }
+  closed_format k = record { text = λ c. rest_text names s.order c ++ codes "end\n"; may = IsMadeOf k }
 
   -- certificates of all kinds, by what follows the first line of their texts
   abbrev pub kinds_format : Format Certificate
-  kinds_format = record { text = λ c. body_text names s.order c ++ codes "end\n"; may = IsWrittenCertificate s names }
+  kinds_format = record { text = λ c. kind_text c ++ (rest_text names s.order c ++ codes "end\n"); may = IsWrittenCertificate s names }
 
   -- certificates of all kinds, by their whole texts
   abbrev pub certificate_format : Format Certificate

@@ -1,15 +1,19 @@
 -- The text of a certificate of any kind.
---     choice_text, run_text  a choice of a run; a run with its choices
+--     choice_text, run_text     a choice of a run; a run with its choices
 --     plan_words, cause_words, stop_words     what was computed; why and where it stopped
---     report_text            the body of a report
---     link_text, links_text  a matrix with its block; some of them
+--     report_rest            a report, but for the line of its cause
+--     side_word              a side
+--     generators_name        the name of the generators of a kernel
+--     kind_text              the line of the kind, which is the second of a certificate
+--     link_text              a matrix with its block
 --     operator_line          a word and an operator
---     body_text              what stands between the first line and the last
+--     rest_text              what stands between the line of the kind and the last line
 --     certificate_text       the whole text
 --     brief_text             the kind of the certificate and what is claimed, without what shows it
---     IsLength               how many links there may be
---     IsWrittenChoice, IsWrittenRun, IsWrittenStop, IsWrittenPlan, IsWrittenCause, IsWrittenReport, IsWrittenLink, IsWrittenLinks, IsWrittenOperator, IsWrittenCertificate
+--     IsLength               how many links there may be (EachKind)
+--     IsWrittenChoice, IsWrittenRun, IsWrittenStop, IsWrittenPlan, IsWrittenCause, IsWrittenReport, IsWrittenOperator
 --                            numbers are in their ranges, and operators are of the signature
+--     certificate_written, IsWrittenLink, IsWrittenLinks, IsWrittenCertificate     so it is with each part
 --     IsCertificate          the text of some certificate
 use Rattle.std.specs.Prelude.{◌≡◌, ℕ, ◌<◌, ◌≤◌, List, [], ◌∷◌, ◌++◌, length, codes, decimal}
 use Rattle.std.specs.List.{All, flat_map}
@@ -17,16 +21,21 @@ use Rattle.ore_monomial.specs.declared.order.Order.{Order}
 use Rattle.ore_monomial.specs.Signature.{Signature}
 use Rattle.ore_ring.specs.Belongs.{Belongs}
 use Rattle.ore_ring.specs.Ordered.{Ordered}
-use Rattle.ore_expr.specs.CanonicalText.{operator_text}
+use Rattle.ore_text.specs.CanonicalText.{operator_text}
 use Rattle.ore_expr.specs.Laws.{IsPrintable}
 use Rattle.ore_rows.specs.declared.choices.Choice.{Choice}
 use Rattle.ore_rows.specs.declared.choices.Choice.TheVariants as choice
-use Rattle.ore_cert.specs.CertificateText.{number_bound}
-use Rattle.ore_cert.specs.BlockText.{line, place, matrix_part, row_part, exact_text, outside_text, is_place, IsWrittenMatrix, IsWrittenRow, IsWrittenExact, IsWrittenOutside}
-use Rattle.ore_cert.specs.declared.block.Link.{Link}
+use Rattle.ore_parts.specs.CertificateText.{number_bound}
+use Rattle.ore_parts.specs.BlockText as parts
+use Rattle.ore_parts.specs.BlockText.{line, place, matrix_part, row_part, exact_text, outside_text, is_place}
+use Rattle.ore_parts.specs.EachPart.{LinkMeets}
+use Rattle.ore_parts.specs.declared.block.Link.{Link}
+use Rattle.ore_cert.specs.declared.certificate.Side.{Side}
 use Rattle.ore_cert.specs.declared.certificate.Side.TheVariants.{Left, Right}
 use Rattle.ore_cert.specs.declared.certificate.Certificate.{Certificate}
 use Rattle.ore_cert.specs.declared.certificate.Certificate.TheVariants.{Controllable, AutonomousElement, LeftInverse, RightInverse, NoLeftInverse, NoRightInverse, Kernel, Resolution, ExtZero, ExtNonzero, Halted}
+use Rattle.ore_cert.specs.EachKind.{Conditions, LinksMeet, CertificateMeets}
+pub use Rattle.ore_cert.specs.EachKind.{IsLength}
 use Rattle.ore_cert.specs.declared.report.Cause.{Cause}
 use Rattle.ore_cert.specs.declared.report.Cause.TheVariants as cause
 use Rattle.ore_cert.specs.declared.report.Plan.{Plan}
@@ -69,43 +78,62 @@ stop_words stop.Forced = codes "forced" ∷ []
 stop_words (stop.Treat i j) = codes "treat" ∷ place i ∷ place j ∷ []
 stop_words stop.Budget = codes "budget" ∷ []
 
--- the cause and the plan, each on a line, the runs, and the line that says where it stopped
-abbrev pub report_text : Report → List ℕ
-report_text r = line (codes "halted" ∷ cause_words r.cause) ++ (line (codes "plan" ∷ plan_words r.plan) ++ (flat_map run_text r.runs ++ line (codes "stop" ∷ stop_words r.stop)))
+-- the plan on a line, the runs, and the line that says where it stopped
+abbrev pub report_rest : Report → List ℕ
+report_rest r = line (codes "plan" ∷ plan_words r.plan) ++ (flat_map run_text r.runs ++ line (codes "stop" ∷ stop_words r.stop))
 
 -- ---- kinds
+
+-- `left` or `right`
+abbrev pub side_word : Side → List ℕ
+side_word Left = codes "left"
+side_word Right = codes "right"
+
+-- L, whose rows generate, or Q, whose columns do
+abbrev pub generators_name : Side → List ℕ
+generators_name Left = codes "L"
+generators_name Right = codes "Q"
+
+-- the word of the kind, and the number of links, the side or the cause where it has one
+abbrev pub kind_text : Certificate → List ℕ
+kind_text (Controllable q block) = codes "controllable\n"
+kind_text (AutonomousElement element operator cofactor block) = codes "autonomous-element\n"
+kind_text (LeftInverse m) = codes "left-inverse\n"
+kind_text (RightInverse m) = codes "right-inverse\n"
+kind_text (NoLeftInverse unit block) = codes "no-left-inverse\n"
+kind_text (NoRightInverse unit block) = codes "no-right-inverse\n"
+kind_text (Kernel side generators block) = line (codes "kernel" ∷ side_word side ∷ [])
+kind_text (Resolution links) = line (codes "resolution" ∷ decimal (length links) ∷ [])
+kind_text (ExtZero links block) = line (codes "ext-zero" ∷ decimal (length links) ∷ [])
+kind_text (ExtNonzero links element block) = line (codes "ext-nonzero" ∷ decimal (length links) ∷ [])
+kind_text (Halted r) = line (codes "halted" ∷ cause_words r.cause)
 
 module _ (names : List (List ℕ)) (o : Order) where
   -- the matrix `L`, and then its exact block
   abbrev pub link_text : Link → List ℕ
   link_text k = matrix_part names o (codes "L") k.l ++ exact_text names o k.block
 
-  -- the word of the kind and the number of links on one line, and then each link
-  abbrev pub links_text : List ℕ → List Link → List ℕ
-  links_text kind links = line (kind ∷ decimal (length links) ∷ []) ++ flat_map link_text links
-
   -- the word and the canonical text of the operator on one line
   abbrev pub operator_line : List ℕ → Ordered → List ℕ
   operator_line word f = line (word ∷ operator_text names o f.sum ∷ [])
 
-  -- the line of the kind, and then the parts that the kind has
-  abbrev pub body_text : Certificate → List ℕ
-  body_text (Controllable q block) = codes "controllable\n" ++ (matrix_part names o (codes "Q") q ++ exact_text names o block)
-  body_text (AutonomousElement element operator cofactor block) = codes "autonomous-element\n" ++ (row_part names o (codes "element") element ++ (operator_line (codes "operator") operator ++ (row_part names o (codes "cofactor") cofactor ++ outside_text names o block)))
-  body_text (LeftInverse s) = codes "left-inverse\n" ++ matrix_part names o (codes "S") s
-  body_text (RightInverse s) = codes "right-inverse\n" ++ matrix_part names o (codes "S") s
-  body_text (NoLeftInverse unit block) = codes "no-left-inverse\n" ++ (line (codes "unit" ∷ place unit ∷ []) ++ outside_text names o block)
-  body_text (NoRightInverse unit block) = codes "no-right-inverse\n" ++ (line (codes "unit" ∷ place unit ∷ []) ++ outside_text names o block)
-  body_text (Kernel Left generators block) = codes "kernel left\n" ++ (matrix_part names o (codes "L") generators ++ exact_text names o block)
-  body_text (Kernel Right generators block) = codes "kernel right\n" ++ (matrix_part names o (codes "Q") generators ++ exact_text names o block)
-  body_text (Resolution links) = links_text (codes "resolution") links
-  body_text (ExtZero links block) = links_text (codes "ext-zero") links ++ exact_text names o block
-  body_text (ExtNonzero links element block) = links_text (codes "ext-nonzero") links ++ (row_part names o (codes "element") element ++ outside_text names o block)
-  body_text (Halted report) = report_text report
+  -- the parts that the kind has, in their order
+  abbrev pub rest_text : Certificate → List ℕ
+  rest_text (Controllable q block) = matrix_part names o (codes "Q") q ++ exact_text names o block
+  rest_text (AutonomousElement element operator cofactor block) = row_part names o (codes "element") element ++ (operator_line (codes "operator") operator ++ (row_part names o (codes "cofactor") cofactor ++ outside_text names o block))
+  rest_text (LeftInverse m) = matrix_part names o (codes "S") m
+  rest_text (RightInverse m) = matrix_part names o (codes "S") m
+  rest_text (NoLeftInverse unit block) = line (codes "unit" ∷ place unit ∷ []) ++ outside_text names o block
+  rest_text (NoRightInverse unit block) = line (codes "unit" ∷ place unit ∷ []) ++ outside_text names o block
+  rest_text (Kernel side generators block) = matrix_part names o (generators_name side) generators ++ exact_text names o block
+  rest_text (Resolution links) = flat_map link_text links
+  rest_text (ExtZero links block) = flat_map link_text links ++ exact_text names o block
+  rest_text (ExtNonzero links element block) = flat_map link_text links ++ (row_part names o (codes "element") element ++ outside_text names o block)
+  rest_text (Halted r) = report_rest r
 
-  -- the line `certificate 1`, the body and the line `end`
+  -- the line `certificate 1`, the line of the kind, its parts, and the line `end`
   abbrev pub certificate_text : Certificate → List ℕ
-  certificate_text c = codes "certificate 1\n" ++ (body_text c ++ codes "end\n")
+  certificate_text c = codes "certificate 1\n" ++ (kind_text c ++ (rest_text c ++ codes "end\n"))
 
   -- of the verdicts, the kind with Q, or with the element and the operator; of another kind, the whole text
   abbrev pub brief_text : Certificate → List ℕ
@@ -131,10 +159,6 @@ IsWrittenCause cause.Overflow = Unit {0}
 IsWrittenCause cause.Degree = Unit {0}
 IsWrittenCause (cause.Budget n) = n ≤ 1000000
 
--- from 1 to 12
-abbrev pub IsLength : ℕ → Type 0
-IsLength k = (1 ≤ k) × (k ≤ 12)
-
 -- the number of a resolution or of an extension module is from 1 to 12
 abbrev pub IsWrittenPlan : Plan → Type 0
 IsWrittenPlan (Resolve k) = IsLength k
@@ -155,34 +179,26 @@ pub record IsWrittenReport (r : Report) : Type 0 where
   pub stop : IsWrittenStop r.stop
 
 module _ (s : Signature) (names : List (List ℕ)) where
-  -- the matrix and the block may be written
-  pub record IsWrittenLink (k : Link) : Type 0 where
-    pub l : IsWrittenMatrix s names k.l
-    pub block : IsWrittenExact s names k.block
-
-  -- from 1 to 12 links, each of which may be written
-  pub record IsWrittenLinks (links : List Link) : Type 0 where
-    pub count : IsLength (length links)
-    pub all : All IsWrittenLink links
-
   -- an operator of the signature, with its order, whose numbers and degrees are in the program's ranges
   pub record IsWrittenOperator (f : Ordered) : Type 0 where
     pub written : IsPrintable s names f.sum
     pub of : Belongs s f
 
+  -- the part may be written
+  abbrev pub certificate_written : Conditions
+  certificate_written = record { parts = parts.written s names; operator = IsWrittenOperator; unit = is_place; report = IsWrittenReport }
+
+  -- a matrix with its block may be written
+  abbrev pub IsWrittenLink : Link → Type 0
+  IsWrittenLink = LinkMeets certificate_written.parts
+
+  -- from 1 to 12 links, each of which may be written
+  abbrev pub IsWrittenLinks : List Link → Type 0
+  IsWrittenLinks = LinksMeet certificate_written
+
   -- each part of a certificate may be written
   abbrev pub IsWrittenCertificate : Certificate → Type 0
-  IsWrittenCertificate (Controllable q block) = IsWrittenMatrix s names q × IsWrittenExact s names block
-  IsWrittenCertificate (AutonomousElement element operator cofactor block) = IsWrittenRow s names element × IsWrittenOperator operator × IsWrittenRow s names cofactor × IsWrittenOutside s names block
-  IsWrittenCertificate (LeftInverse m) = IsWrittenMatrix s names m
-  IsWrittenCertificate (RightInverse m) = IsWrittenMatrix s names m
-  IsWrittenCertificate (NoLeftInverse unit block) = is_place unit × IsWrittenOutside s names block
-  IsWrittenCertificate (NoRightInverse unit block) = is_place unit × IsWrittenOutside s names block
-  IsWrittenCertificate (Kernel side generators block) = IsWrittenMatrix s names generators × IsWrittenExact s names block
-  IsWrittenCertificate (Resolution links) = IsWrittenLinks links
-  IsWrittenCertificate (ExtZero links block) = IsWrittenLinks links × IsWrittenExact s names block
-  IsWrittenCertificate (ExtNonzero links element block) = IsWrittenLinks links × IsWrittenRow s names element × IsWrittenOutside s names block
-  IsWrittenCertificate (Halted report) = IsWrittenReport report
+  IsWrittenCertificate = CertificateMeets certificate_written
 
   -- a certificate that may be written has this text
   abbrev pub IsCertificate : List ℕ → Type 0

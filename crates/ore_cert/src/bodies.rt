@@ -1,27 +1,25 @@
 //! What stands between the line of a kind and the last line, read kind by kind.
 
 ghost use Rattle.std.specs.Prelude.{◌≡◌, length};
-ghost use Rattle.ore_expr.specs.Names.{AreNames};
+ghost use Rattle.ore_text.specs.Names.{AreNames};
 ghost use Rattle.ore_cert.specs.declared.kind.Kind.TheVariants as kinds;
-ghost use Rattle.ore_cert.specs.Formats.{Reads};
-ghost use Rattle.ore_cert.specs.Lines.{LacksByte};
+ghost use Rattle.ore_parts.specs.Formats.{ReadsOne};
+ghost use Rattle.ore_parts.specs.Lines.{LacksByte};
 ghost use Rattle.ore_cert.specs.WholeFormats.{with_exact, with_unit, with_row, with_operator, autonomous_parts, link_format, links_format, links_exact, links_row, body_format};
 
-use crate::block::{ExactBlock, Link, Links, OutsideBlock};
 use crate::certificate::{Certificate, Side};
-use crate::fault::CertFault;
 use crate::kind::Kind;
 use crate::line_words::{read_operator_line, read_unit};
-use crate::lines::Lines;
-use crate::matrix::read_matrix_part;
-use crate::parts::{read_exact_part, read_outside_part};
 use crate::report::{Cause, Report};
 use crate::report_lines::read_report_rest;
-use crate::row::read_row_part;
-use ore_expr::Names;
 use ore_monomial::Signature;
+use ore_parts::matrix::read_matrix_part;
+use ore_parts::parts::{read_exact_part, read_outside_part};
+use ore_parts::row::read_row_part;
+use ore_parts::{CertFault, ExactBlock, Lines, Link, Links, OutsideBlock};
 use ore_ring::Op;
 use ore_rows::{Matrix, Row};
+use ore_text::Names;
 use std::alloc::Global;
 
 // The rest of a certificate of this kind.
@@ -34,7 +32,7 @@ pub(crate) fn read_body(
 ) -> Result<Certificate, CertFault>
     requires names { AreNames names.now }
     requires count { length names.now ≡ length sig.now.kinds }
-    ensures { Reads (body_format sig.now names.now kind) lines.old result lines.new }
+    ensures { ReadsOne (body_format sig.now names.now kind) lines.old result lines.new }
 {
     match kind {
         Kind::Controllable => read_controllable(alloc, sig, names, lines),
@@ -61,7 +59,7 @@ fn read_controllable(
 ) -> Result<Certificate, CertFault>
     requires names { AreNames names.now }
     requires count { length names.now ≡ length sig.now.kinds }
-    ensures { Reads (body_format sig.now names.now kinds.Controllable) lines.old result lines.new }
+    ensures { ReadsOne (body_format sig.now names.now kinds.Controllable) lines.old result lines.new }
 {
     let (q, block) = read_with_exact(alloc, sig, names, b"Q", lines)?;
     Ok(Certificate::Controllable { q, block })
@@ -76,7 +74,7 @@ fn read_autonomous(
 ) -> Result<Certificate, CertFault>
     requires names { AreNames names.now }
     requires count { length names.now ≡ length sig.now.kinds }
-    ensures { Reads (body_format sig.now names.now kinds.AutonomousElement) lines.old result lines.new }
+    ensures { ReadsOne (body_format sig.now names.now kinds.AutonomousElement) lines.old result lines.new }
 {
     let (element, (operator, (cofactor, block))) = read_autonomous_parts(alloc, sig, names, lines)?;
     Ok(Certificate::AutonomousElement {
@@ -96,7 +94,7 @@ fn read_left_inverse(
 ) -> Result<Certificate, CertFault>
     requires names { AreNames names.now }
     requires count { length names.now ≡ length sig.now.kinds }
-    ensures { Reads (body_format sig.now names.now kinds.LeftInverse) lines.old result lines.new }
+    ensures { ReadsOne (body_format sig.now names.now kinds.LeftInverse) lines.old result lines.new }
 {
     let s = read_matrix_part(alloc, sig, names, lines, b"S")?;
     Ok(Certificate::LeftInverse { s })
@@ -111,7 +109,7 @@ fn read_right(
 ) -> Result<Certificate, CertFault>
     requires names { AreNames names.now }
     requires count { length names.now ≡ length sig.now.kinds }
-    ensures { Reads (body_format sig.now names.now kinds.RightInverse) lines.old result lines.new }
+    ensures { ReadsOne (body_format sig.now names.now kinds.RightInverse) lines.old result lines.new }
 {
     let s = read_matrix_part(alloc, sig, names, lines, b"S")?;
     Ok(Certificate::RightInverse { s })
@@ -126,7 +124,7 @@ fn read_no_left(
 ) -> Result<Certificate, CertFault>
     requires names { AreNames names.now }
     requires count { length names.now ≡ length sig.now.kinds }
-    ensures { Reads (body_format sig.now names.now kinds.NoLeftInverse) lines.old result lines.new }
+    ensures { ReadsOne (body_format sig.now names.now kinds.NoLeftInverse) lines.old result lines.new }
 {
     let (unit, block) = read_with_unit(alloc, sig, names, lines)?;
     Ok(Certificate::NoLeftInverse { unit, block })
@@ -141,7 +139,7 @@ fn read_no_right(
 ) -> Result<Certificate, CertFault>
     requires names { AreNames names.now }
     requires count { length names.now ≡ length sig.now.kinds }
-    ensures { Reads (body_format sig.now names.now kinds.NoRightInverse) lines.old result lines.new }
+    ensures { ReadsOne (body_format sig.now names.now kinds.NoRightInverse) lines.old result lines.new }
 {
     let (unit, block) = read_with_unit(alloc, sig, names, lines)?;
     Ok(Certificate::NoRightInverse { unit, block })
@@ -156,7 +154,7 @@ fn read_kernel_left(
 ) -> Result<Certificate, CertFault>
     requires names { AreNames names.now }
     requires count { length names.now ≡ length sig.now.kinds }
-    ensures { Reads (body_format sig.now names.now kinds.KernelLeft) lines.old result lines.new }
+    ensures { ReadsOne (body_format sig.now names.now kinds.KernelLeft) lines.old result lines.new }
 {
     let (generators, block) = read_with_exact(alloc, sig, names, b"L", lines)?;
     Ok(Certificate::Kernel {
@@ -175,7 +173,7 @@ fn read_kernel_right(
 ) -> Result<Certificate, CertFault>
     requires names { AreNames names.now }
     requires count { length names.now ≡ length sig.now.kinds }
-    ensures { Reads (body_format sig.now names.now kinds.KernelRight) lines.old result lines.new }
+    ensures { ReadsOne (body_format sig.now names.now kinds.KernelRight) lines.old result lines.new }
 {
     let (generators, block) = read_with_exact(alloc, sig, names, b"Q", lines)?;
     Ok(Certificate::Kernel {
@@ -195,7 +193,7 @@ fn read_resolution(
 ) -> Result<Certificate, CertFault>
     requires names { AreNames names.now }
     requires count { length names.now ≡ length sig.now.kinds }
-    ensures { Reads (body_format sig.now names.now (kinds.Resolution count)) lines.old result lines.new }
+    ensures { ReadsOne (body_format sig.now names.now (kinds.Resolution count)) lines.old result lines.new }
 {
     let links = read_links(alloc, sig, names, count, lines)?;
     Ok(Certificate::Resolution { links })
@@ -211,7 +209,7 @@ fn read_ext_zero(
 ) -> Result<Certificate, CertFault>
     requires names { AreNames names.now }
     requires count { length names.now ≡ length sig.now.kinds }
-    ensures { Reads (body_format sig.now names.now (kinds.ExtZero count)) lines.old result lines.new }
+    ensures { ReadsOne (body_format sig.now names.now (kinds.ExtZero count)) lines.old result lines.new }
 {
     let (links, block) = read_links_exact(alloc, sig, names, count, lines)?;
     Ok(Certificate::ExtZero { links, block })
@@ -227,7 +225,7 @@ fn read_ext_nonzero(
 ) -> Result<Certificate, CertFault>
     requires names { AreNames names.now }
     requires count { length names.now ≡ length sig.now.kinds }
-    ensures { Reads (body_format sig.now names.now (kinds.ExtNonzero count)) lines.old result lines.new }
+    ensures { ReadsOne (body_format sig.now names.now (kinds.ExtNonzero count)) lines.old result lines.new }
 {
     let (links, (element, block)) = read_links_row(alloc, sig, names, count, lines)?;
     Ok(Certificate::ExtNonzero {
@@ -247,7 +245,7 @@ fn read_halted(
 ) -> Result<Certificate, CertFault>
     requires names { AreNames names.now }
     requires count { length names.now ≡ length sig.now.kinds }
-    ensures { Reads (body_format sig.now names.now (kinds.Halted cause)) lines.old result lines.new }
+    ensures { ReadsOne (body_format sig.now names.now (kinds.Halted cause)) lines.old result lines.new }
 {
     let (plan, (runs, stop)) = read_report_rest(alloc, lines)?;
     Ok(Certificate::Halted {
@@ -271,7 +269,7 @@ fn read_with_exact(
     requires names { AreNames names.now }
     requires count { length names.now ≡ length sig.now.kinds }
     requires name { LacksByte 10 name.now }
-    ensures { Reads (with_exact sig.now names.now name.now) lines.old result lines.new }
+    ensures { ReadsOne (with_exact sig.now names.now name.now) lines.old result lines.new }
 {
     let matrix = read_matrix_part(alloc, sig, names, lines, name)?;
     let block = read_exact_part(alloc, sig, names, lines)?;
@@ -287,7 +285,7 @@ fn read_with_unit(
 ) -> Result<(usize, OutsideBlock), CertFault>
     requires names { AreNames names.now }
     requires count { length names.now ≡ length sig.now.kinds }
-    ensures { Reads (with_unit sig.now names.now) lines.old result lines.new }
+    ensures { ReadsOne (with_unit sig.now names.now) lines.old result lines.new }
 {
     let unit = read_unit(lines)?;
     let block = read_outside_part(alloc, sig, names, lines)?;
@@ -305,7 +303,7 @@ fn read_with_row(
     requires names { AreNames names.now }
     requires count { length names.now ≡ length sig.now.kinds }
     requires name { LacksByte 10 name.now }
-    ensures { Reads (with_row sig.now names.now name.now) lines.old result lines.new }
+    ensures { ReadsOne (with_row sig.now names.now name.now) lines.old result lines.new }
 {
     let row = read_row_part(alloc, sig, names, lines, name)?;
     let block = read_outside_part(alloc, sig, names, lines)?;
@@ -321,7 +319,7 @@ fn read_with_operator(
 ) -> Result<(Op, (Row, OutsideBlock)), CertFault>
     requires names { AreNames names.now }
     requires count { length names.now ≡ length sig.now.kinds }
-    ensures { Reads (with_operator sig.now names.now) lines.old result lines.new }
+    ensures { ReadsOne (with_operator sig.now names.now) lines.old result lines.new }
 {
     let operator = read_operator_line(alloc, sig, names, b"operator", lines)?;
     let rest = read_with_row(alloc, sig, names, b"cofactor", lines)?;
@@ -337,7 +335,7 @@ fn read_autonomous_parts(
 ) -> Result<(Row, (Op, (Row, OutsideBlock))), CertFault>
     requires names { AreNames names.now }
     requires count { length names.now ≡ length sig.now.kinds }
-    ensures { Reads (autonomous_parts sig.now names.now) lines.old result lines.new }
+    ensures { ReadsOne (autonomous_parts sig.now names.now) lines.old result lines.new }
 {
     let element = read_row_part(alloc, sig, names, lines, b"element")?;
     let rest = read_with_operator(alloc, sig, names, lines)?;
@@ -353,7 +351,7 @@ fn read_link(
 ) -> Result<Link, CertFault>
     requires names { AreNames names.now }
     requires count { length names.now ≡ length sig.now.kinds }
-    ensures { Reads (link_format sig.now names.now) lines.old result lines.new }
+    ensures { ReadsOne (link_format sig.now names.now) lines.old result lines.new }
 {
     let l = read_matrix_part(alloc, sig, names, lines, b"L")?;
     let block = read_exact_part(alloc, sig, names, lines)?;
@@ -370,7 +368,7 @@ fn read_links(
 ) -> Result<Links, CertFault>
     requires names { AreNames names.now }
     requires count { length names.now ≡ length sig.now.kinds }
-    ensures { Reads (links_format sig.now names.now count) lines.old result lines.new }
+    ensures { ReadsOne (links_format sig.now names.now count) lines.old result lines.new }
 {
     let mut links = Vec::new(alloc);
     for _ in 0..count {
@@ -390,7 +388,7 @@ fn read_links_exact(
 ) -> Result<(Links, ExactBlock), CertFault>
     requires names { AreNames names.now }
     requires count { length names.now ≡ length sig.now.kinds }
-    ensures { Reads (links_exact sig.now names.now count) lines.old result lines.new }
+    ensures { ReadsOne (links_exact sig.now names.now count) lines.old result lines.new }
 {
     let links = read_links(alloc, sig, names, count, lines)?;
     let block = read_exact_part(alloc, sig, names, lines)?;
@@ -407,7 +405,7 @@ fn read_links_row(
 ) -> Result<(Links, (Row, OutsideBlock)), CertFault>
     requires names { AreNames names.now }
     requires count { length names.now ≡ length sig.now.kinds }
-    ensures { Reads (links_row sig.now names.now count) lines.old result lines.new }
+    ensures { ReadsOne (links_row sig.now names.now count) lines.old result lines.new }
 {
     let links = read_links(alloc, sig, names, count, lines)?;
     let rest = read_with_row(alloc, sig, names, b"element", lines)?;

@@ -1,7 +1,7 @@
 //! What certificates say.
 
-use crate::block::{ExactBlock, Links, OutsideBlock};
 use crate::report::Report;
+use ore_parts::{ExactBlock, Links, OutsideBlock};
 use ore_ring::Op;
 use ore_rows::{Matrix, Row};
 

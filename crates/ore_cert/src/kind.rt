@@ -2,14 +2,13 @@
 
 ghost use Rattle.std.specs.Prelude.{◌≡◌, ◌≢◌, ℕ, ◌≤◌, ◌++◌, ◌∷◌, [], codes, decimal, MatchOption};
 ghost use Rattle.std.specs.List.{join_with_byte};
-ghost use Rattle.ore_cert.specs.Formats.{Reads};
+ghost use Rattle.ore_parts.specs.Formats.{ReadsOne, Spells};
 ghost use Rattle.ore_cert.specs.WholeText.{cause_words, IsWrittenCause, IsLength};
-ghost use Rattle.ore_cert.specs.KindFormat.{Spells, halted_words, kind_words, IsWrittenKind, kind_format, IsNoPlain, IsNoLinks};
+ghost use Rattle.ore_cert.specs.KindFormat.{halted_words, kind_words, IsWrittenKind, kind_format, IsNoPlain, IsNoLinks};
 
-use crate::count::count_in;
-use crate::fault::CertFault;
-use crate::lines::Lines;
 use crate::report::Cause;
+use ore_parts::count::count_in;
+use ore_parts::{CertFault, Lines};
 
 /// The kind of a certificate, and what its line says besides. What the kinds claim stands at `Certificate`.
 #[derive(Clone, Copy, Drop)]
@@ -37,7 +36,7 @@ pub enum Kind {
 /// # Errors
 /// The line that is due, where it isn't of this form or there is none.
 pub fn read_kind(lines: &mut Lines<'_>) -> Result<Kind, CertFault>
-    ensures { Reads kind_format lines.old result lines.new }
+    ensures { ReadsOne kind_format lines.old result lines.new }
 {
     let line = lines.at();
     let Some(words) = lines.take() else {
@@ -148,8 +147,8 @@ fn budget_behind(words: &[u8], word: &[u8]) -> Option<u32>
     let Some(number) = count_in(words, word) else {
         return None
     };
-    if number > 1000000 {
-        return None;
+    match number {
+        0..=1000000 => Some(number as u32),
+        _ => None,
     }
-    Some(number as u32)
 }

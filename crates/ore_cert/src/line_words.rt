@@ -1,20 +1,18 @@
 //! The lines of a unit row and of an operator.
 
 ghost use Rattle.std.specs.Prelude.{◌≡◌, ◌∷◌, ◌++◌, length, codes, IfOk};
-ghost use Rattle.ore_expr.specs.Names.{AreNames};
-ghost use Rattle.ore_cert.specs.BlockText.{place, is_place};
-ghost use Rattle.ore_cert.specs.Formats.{Reads};
-ghost use Rattle.ore_cert.specs.KindFormat.{Spells};
-ghost use Rattle.ore_cert.specs.Lines.{LacksByte};
+ghost use Rattle.ore_text.specs.Names.{AreNames};
+ghost use Rattle.ore_parts.specs.BlockText.{place, is_place};
+ghost use Rattle.ore_parts.specs.Formats.{ReadsOne, Spells};
+ghost use Rattle.ore_parts.specs.Lines.{LacksByte};
 ghost use Rattle.ore_cert.specs.WholeFormats.{unit_format, operator_words, operator_format};
 ghost use Rattle.ore_cert.specs.WholeText.{IsWrittenOperator};
 
-use crate::fault::CertFault;
-use crate::lines::Lines;
-use crate::sizes::place_in;
-use ore_expr::{Names, read_canonical};
 use ore_monomial::{NoMemory, Signature};
+use ore_parts::sizes::place_in;
+use ore_parts::{CertFault, Lines};
 use ore_ring::Op;
+use ore_text::{Names, read_canonical};
 use std::alloc::Global;
 
 /// The place, from 0, of a unit row on the line that is due.
@@ -22,7 +20,7 @@ use std::alloc::Global;
 /// # Errors
 /// The line that is due, where it isn't of this form or there is none.
 pub fn read_unit(lines: &mut Lines<'_>) -> Result<usize, CertFault>
-    ensures { Reads unit_format lines.old result lines.new }
+    ensures { ReadsOne unit_format lines.old result lines.new }
 {
     let line = lines.at();
     let Some(words) = lines.take() else {
@@ -58,7 +56,7 @@ pub fn read_operator_line(
     requires names { AreNames names.now }
     requires count { length names.now ≡ length sig.now.kinds }
     requires word { LacksByte 10 word.now }
-    ensures { Reads (operator_format sig.now names.now word.now) lines.old result lines.new }
+    ensures { ReadsOne (operator_format sig.now names.now word.now) lines.old result lines.new }
 {
     let line = lines.at();
     let Some(words) = lines.take() else {

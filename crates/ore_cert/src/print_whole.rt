@@ -3,22 +3,22 @@
 ghost use Rattle.std.specs.Prelude.{◌≡◌, ◌++◌, ◌∷◌, [], length, decimal, codes, IfOk, OnOk};
 ghost use Rattle.std.specs.List.{All, flat_map};
 ghost use Rattle.ore_ring.specs.Belongs.{Belongs};
-ghost use Rattle.ore_cert.specs.BlockText.{line, place, matrix_part, row_part, exact_text, outside_text};
-ghost use Rattle.ore_cert.specs.OfSignature.{RowOf, MatrixOf, ExactOf, OutsideOf, LinkOf, CertificateOf};
-ghost use Rattle.ore_cert.specs.WholeText.{choice_text, run_text, cause_words, plan_words, stop_words, report_text, link_text, links_text, operator_line, body_text, certificate_text, brief_text};
+ghost use Rattle.ore_parts.specs.BlockText.{line, place, matrix_part, row_part, exact_text, outside_text};
+ghost use Rattle.ore_parts.specs.OfSignature.{MatrixOf, IsExactOf, IsOutsideOf, IsLinkOf};
+ghost use Rattle.ore_cert.specs.CertificateOf.{AreLinksOf, IsCertificateOf};
+ghost use Rattle.ore_cert.specs.WholeText.{choice_text, run_text, cause_words, plan_words, stop_words, report_rest, side_word, generators_name, kind_text, link_text, operator_line, rest_text, certificate_text, brief_text};
 
-use crate::block::{ExactBlock, Link, Links, OutsideBlock};
 use crate::certificate::{Certificate, Side};
-use crate::matrix::append_matrix;
-use crate::print_block::{
-    append_count, append_exact, append_one, append_outside, append_row_part, append_skip,
-    append_two,
-};
 use crate::report::{Cause, Plan, Report, Stop};
-use ore_expr::{Names, append_operator};
 use ore_monomial::{NoMemory, Signature};
+use ore_parts::print_block::{append_count, append_one, append_skip, append_two};
+use ore_parts::{
+    ExactBlock, Link, Links, OutsideBlock, append_exact, append_matrix, append_outside,
+    append_row_part,
+};
 use ore_ring::Op;
 use ore_rows::{Choice, Choices, Matrix, Row, Runs};
+use ore_text::{Names, append_operator};
 use std::alloc::Global;
 
 /// The text of a certificate.
@@ -28,13 +28,14 @@ pub fn print_certificate(
     names: &Names,
     cert: &Certificate,
 ) -> Result<Vec<u8>, NoMemory>
-    requires of { CertificateOf sig.now cert.now }
+    requires of { IsCertificateOf sig.now cert.now }
     requires names { length names.now ≡ length sig.now.kinds }
     ensures { IfOk result (λ text. text.items ≡ certificate_text names.now sig.now.order cert.now) }
 {
     let mut text = Vec::new(alloc);
     text.extend_from_slice(b"certificate 1\n")?;
-    append_body(alloc, &mut text, sig, names, cert)?;
+    append_kind(&mut text, cert)?;
+    append_rest(alloc, &mut text, sig, names, cert)?;
     text.extend_from_slice(b"end\n")?;
     Ok(text)
 }
@@ -47,7 +48,7 @@ pub fn print_brief(
     names: &Names,
     cert: &Certificate,
 ) -> Result<Vec<u8>, NoMemory>
-    requires of { CertificateOf sig.now cert.now }
+    requires of { IsCertificateOf sig.now cert.now }
     requires names { length names.now ≡ length sig.now.kinds }
     ensures { IfOk result (λ text. text.items ≡ brief_text names.now sig.now.order cert.now) }
 {
@@ -93,7 +94,7 @@ fn print_autonomous(
     element: &Row,
     operator: &Op,
 ) -> Result<Vec<u8>, NoMemory>
-    requires element { RowOf sig.now element.now }
+    requires element { All (Belongs sig.now) element.now }
     requires operator { Belongs sig.now operator.now }
     requires names { length names.now ≡ length sig.now.kinds }
     ensures { IfOk result (λ text. text.items ≡ codes "autonomous-element\n" ++ (row_part names.now sig.now.order (codes "element") element.now
@@ -106,21 +107,52 @@ fn print_autonomous(
     Ok(text)
 }
 
-// Appends what stands between the first line and the last.
-fn append_body(
+// Appends the line of the kind of a certificate.
+fn append_kind(out: &mut Vec<u8>, cert: &Certificate) -> Result<(), NoMemory>
+    ensures { OnOk result (out.new.items ≡ out.old.items ++ kind_text cert.now) }
+{
+    match cert {
+        Certificate::Controllable { .. } => out.extend_from_slice(b"controllable\n")?,
+        Certificate::AutonomousElement { .. } => out.extend_from_slice(b"autonomous-element\n")?,
+        Certificate::LeftInverse { .. } => out.extend_from_slice(b"left-inverse\n")?,
+        Certificate::RightInverse { .. } => out.extend_from_slice(b"right-inverse\n")?,
+        Certificate::NoLeftInverse { .. } => out.extend_from_slice(b"no-left-inverse\n")?,
+        Certificate::NoRightInverse { .. } => out.extend_from_slice(b"no-right-inverse\n")?,
+        Certificate::Kernel { side, .. } => append_kernel(out, side)?,
+        Certificate::Resolution { links } => append_count(out, b"resolution", links.len())?,
+        Certificate::ExtZero { links, .. } => append_count(out, b"ext-zero", links.len())?,
+        Certificate::ExtNonzero { links, .. } => append_count(out, b"ext-nonzero", links.len())?,
+        Certificate::Halted { report } => append_cause(out, &report.cause)?,
+    }
+    Ok(())
+}
+
+// Appends the line of the kind of a kernel.
+fn append_kernel(out: &mut Vec<u8>, side: &Side) -> Result<(), NoMemory>
+    ensures { OnOk result (out.new.items ≡ out.old.items ++ line (codes "kernel" ∷ side_word side.now ∷ [])) }
+{
+    match side {
+        Side::Left => out.extend_from_slice(b"kernel left\n")?,
+        Side::Right => out.extend_from_slice(b"kernel right\n")?,
+    }
+    Ok(())
+}
+
+// Appends what stands between the line of the kind and the last line.
+fn append_rest(
     alloc: Global,
     out: &mut Vec<u8>,
     sig: &Signature,
     names: &Names,
     cert: &Certificate,
 ) -> Result<(), NoMemory>
-    requires of { CertificateOf sig.now cert.now }
+    requires of { IsCertificateOf sig.now cert.now }
     requires names { length names.now ≡ length sig.now.kinds }
-    ensures { OnOk result (out.new.items ≡ out.old.items ++ body_text names.now sig.now.order cert.now) }
+    ensures { OnOk result (out.new.items ≡ out.old.items ++ rest_text names.now sig.now.order cert.now) }
 {
     match cert {
         Certificate::Controllable { q, block } => {
-            append_with_exact(alloc, out, sig, names, b"controllable\n", b"Q", q, block)
+            append_with_exact(alloc, out, sig, names, b"Q", q, block)
         }
         Certificate::AutonomousElement {
             element,
@@ -128,56 +160,48 @@ fn append_body(
             cofactor,
             block,
         } => append_autonomous(alloc, out, sig, names, element, operator, cofactor, block),
-        Certificate::LeftInverse { s } => append_inverse(out, sig, names, b"left-inverse\n", s),
-        Certificate::RightInverse { s } => append_inverse(out, sig, names, b"right-inverse\n", s),
-        Certificate::NoLeftInverse { unit, block } => {
-            append_no_inverse(alloc, out, sig, names, b"no-left-inverse\n", *unit, block)
-        }
-        Certificate::NoRightInverse { unit, block } => {
-            append_no_inverse(alloc, out, sig, names, b"no-right-inverse\n", *unit, block)
-        }
+        Certificate::LeftInverse { s } => append_matrix(out, sig, names, b"S", s),
+        Certificate::RightInverse { s } => append_matrix(out, sig, names, b"S", s),
+        Certificate::NoLeftInverse { unit, block } | Certificate::NoRightInverse { unit, block } =>
+            { append_with_unit(alloc, out, sig, names, *unit, block) }
         Certificate::Kernel {
             side,
             generators,
             block,
-        } => append_kernel(alloc, out, sig, names, side, generators, block),
-        Certificate::Resolution { links } => {
-            append_links(alloc, out, sig, names, b"resolution", links)
-        }
+        } => append_generators(alloc, out, sig, names, side, generators, block),
+        Certificate::Resolution { links } => append_links(alloc, out, sig, names, links),
         Certificate::ExtZero { links, block } => {
-            append_links(alloc, out, sig, names, b"ext-zero", links)?;
-            append_exact(alloc, out, sig, names, block)
+            append_ext_zero(alloc, out, sig, names, links, block)
         }
         Certificate::ExtNonzero {
             links,
             element,
             block,
         } => append_ext_nonzero(alloc, out, sig, names, links, element, block),
-        Certificate::Halted { report } => append_report(out, report),
+        Certificate::Halted { report } => append_report_rest(out, report),
     }
 }
 
-// Appends the line of a kind, a matrix and a block.
+// Appends the matrix of a name, and a block.
 fn append_with_exact(
     alloc: Global,
     out: &mut Vec<u8>,
     sig: &Signature,
     names: &Names,
-    kind: &[u8],
     name: &[u8],
     matrix: &Matrix,
     block: &ExactBlock,
 ) -> Result<(), NoMemory>
     requires matrix { MatrixOf sig.now matrix.now }
-    requires block { ExactOf sig.now block.now }
+    requires block { IsExactOf sig.now block.now }
     requires names { length names.now ≡ length sig.now.kinds }
-    ensures { OnOk result (out.new.items ≡ out.old.items ++ (kind.now ++ (matrix_part names.now sig.now.order name.now matrix.now ++ exact_text names.now sig.now.order block.now))) }
+    ensures { OnOk result (out.new.items ≡ out.old.items ++ (matrix_part names.now sig.now.order name.now matrix.now ++ exact_text names.now sig.now.order block.now)) }
 {
-    out.extend_from_slice(kind)?;
     append_matrix(out, sig, names, name, matrix)?;
     append_exact(alloc, out, sig, names, block)
 }
 
+// Appends an element, the operator and the cofactor row, and a block.
 fn append_autonomous(
     alloc: Global,
     out: &mut Vec<u8>,
@@ -188,57 +212,39 @@ fn append_autonomous(
     cofactor: &Row,
     block: &OutsideBlock,
 ) -> Result<(), NoMemory>
-    requires element { RowOf sig.now element.now }
+    requires element { All (Belongs sig.now) element.now }
     requires operator { Belongs sig.now operator.now }
-    requires cofactor { RowOf sig.now cofactor.now }
-    requires block { OutsideOf sig.now block.now }
+    requires cofactor { All (Belongs sig.now) cofactor.now }
+    requires block { IsOutsideOf sig.now block.now }
     requires names { length names.now ≡ length sig.now.kinds }
-    ensures { OnOk result (out.new.items ≡ out.old.items ++ (codes "autonomous-element\n" ++ (row_part names.now sig.now.order (codes "element") element.now
-        ++ (operator_line names.now sig.now.order (codes "operator") operator.now ++ (row_part names.now sig.now.order (codes "cofactor") cofactor.now ++ outside_text names.now sig.now.order block.now))))) }
+    ensures { OnOk result (out.new.items ≡ out.old.items ++ (row_part names.now sig.now.order (codes "element") element.now
+        ++ (operator_line names.now sig.now.order (codes "operator") operator.now ++ (row_part names.now sig.now.order (codes "cofactor") cofactor.now ++ outside_text names.now sig.now.order block.now)))) }
 {
-    out.extend_from_slice(b"autonomous-element\n")?;
     append_row_part(out, sig, names, b"element", element)?;
     append_operator_line(out, sig, names, b"operator", operator)?;
     append_row_part(out, sig, names, b"cofactor", cofactor)?;
     append_outside(alloc, out, sig, names, block)
 }
 
-// Appends the line of a kind and the inverse.
-fn append_inverse(
-    out: &mut Vec<u8>,
-    sig: &Signature,
-    names: &Names,
-    kind: &[u8],
-    inverse: &Matrix,
-) -> Result<(), NoMemory>
-    requires of { MatrixOf sig.now inverse.now }
-    requires names { length names.now ≡ length sig.now.kinds }
-    ensures { OnOk result (out.new.items ≡ out.old.items ++ (kind.now ++ matrix_part names.now sig.now.order (codes "S") inverse.now)) }
-{
-    out.extend_from_slice(kind)?;
-    append_matrix(out, sig, names, b"S", inverse)
-}
-
-// Appends the line of a kind, the place of the unit row, and a block.
-fn append_no_inverse(
+// Appends the place of the unit row, and a block.
+fn append_with_unit(
     alloc: Global,
     out: &mut Vec<u8>,
     sig: &Signature,
     names: &Names,
-    kind: &[u8],
     unit: usize,
     block: &OutsideBlock,
 ) -> Result<(), NoMemory>
-    requires of { OutsideOf sig.now block.now }
+    requires of { IsOutsideOf sig.now block.now }
     requires names { length names.now ≡ length sig.now.kinds }
-    ensures { OnOk result (out.new.items ≡ out.old.items ++ (kind.now ++ (line (codes "unit" ∷ place unit ∷ []) ++ outside_text names.now sig.now.order block.now))) }
+    ensures { OnOk result (out.new.items ≡ out.old.items ++ (line (codes "unit" ∷ place unit ∷ []) ++ outside_text names.now sig.now.order block.now)) }
 {
-    out.extend_from_slice(kind)?;
     append_one(out, b"unit", unit)?;
     append_outside(alloc, out, sig, names, block)
 }
 
-fn append_kernel(
+// Appends the generators of a kernel, and a block.
+fn append_generators(
     alloc: Global,
     out: &mut Vec<u8>,
     sig: &Signature,
@@ -247,63 +253,33 @@ fn append_kernel(
     generators: &Matrix,
     block: &ExactBlock,
 ) -> Result<(), NoMemory>
-    requires of { CertificateOf sig.now (Certificate.Kernel side.now generators.now block.now) }
+    requires generators { MatrixOf sig.now generators.now }
+    requires block { IsExactOf sig.now block.now }
     requires names { length names.now ≡ length sig.now.kinds }
-    ensures { OnOk result (out.new.items ≡ out.old.items ++ body_text names.now sig.now.order (Certificate.Kernel side.now generators.now block.now)) }
+    ensures { OnOk result (out.new.items ≡ out.old.items ++ (matrix_part names.now sig.now.order (generators_name side.now) generators.now ++ exact_text names.now sig.now.order block.now)) }
+{
+    let name = generators_name(side);
+    append_with_exact(alloc, out, sig, names, name, generators, block)
+}
+
+// The name of the generators of a kernel.
+fn generators_name(side: &Side) -> &'static [u8]
+    ensures { result.now ≡ generators_name side.now }
 {
     match side {
-        Side::Left => {
-            append_with_exact(
-                alloc,
-                out,
-                sig,
-                names,
-                b"kernel left\n",
-                b"L",
-                generators,
-                block,
-            )
-        }
-        Side::Right => {
-            append_with_exact(
-                alloc,
-                out,
-                sig,
-                names,
-                b"kernel right\n",
-                b"Q",
-                generators,
-                block,
-            )
-        }
+        Side::Left => b"L",
+        Side::Right => b"Q",
     }
 }
 
-// Appends the line of a kind with the number of links, and the links.
 fn append_links(
     alloc: Global,
     out: &mut Vec<u8>,
     sig: &Signature,
     names: &Names,
-    kind: &[u8],
     links: &Links,
 ) -> Result<(), NoMemory>
-    requires of { All (LinkOf sig.now) links.now }
-    requires names { length names.now ≡ length sig.now.kinds }
-    ensures { OnOk result (out.new.items ≡ out.old.items ++ links_text names.now sig.now.order kind.now links.now) }
-{
-    append_count(out, kind, links.len())?;
-    append_each_link(alloc, out, sig, names, links)
-}
-
-fn append_each_link(
-    alloc: Global,
-    out: &mut Vec<u8>,
-    sig: &Signature,
-    names: &Names,
-    links: &Links,
-) -> Result<(), NoMemory>
-    requires of { All (LinkOf sig.now) links.now }
+    requires of { AreLinksOf sig.now links.now }
     requires names { length names.now ≡ length sig.now.kinds }
     ensures { OnOk result (out.new.items ≡ out.old.items ++ flat_map (link_text names.now sig.now.order) links.now) }
 {
@@ -320,14 +296,32 @@ fn append_link(
     names: &Names,
     link: &Link,
 ) -> Result<(), NoMemory>
-    requires of { LinkOf sig.now link.now }
+    requires of { IsLinkOf sig.now link.now }
     requires names { length names.now ≡ length sig.now.kinds }
     ensures { OnOk result (out.new.items ≡ out.old.items ++ link_text names.now sig.now.order link.now) }
 {
-    append_matrix(out, sig, names, b"L", &link.l)?;
-    append_exact(alloc, out, sig, names, &link.block)
+    append_with_exact(alloc, out, sig, names, b"L", &link.l, &link.block)
 }
 
+// Appends links, and a block.
+fn append_ext_zero(
+    alloc: Global,
+    out: &mut Vec<u8>,
+    sig: &Signature,
+    names: &Names,
+    links: &Links,
+    block: &ExactBlock,
+) -> Result<(), NoMemory>
+    requires links { AreLinksOf sig.now links.now }
+    requires block { IsExactOf sig.now block.now }
+    requires names { length names.now ≡ length sig.now.kinds }
+    ensures { OnOk result (out.new.items ≡ out.old.items ++ (flat_map (link_text names.now sig.now.order) links.now ++ exact_text names.now sig.now.order block.now)) }
+{
+    append_links(alloc, out, sig, names, links)?;
+    append_exact(alloc, out, sig, names, block)
+}
+
+// Appends links, an element, and a block.
 fn append_ext_nonzero(
     alloc: Global,
     out: &mut Vec<u8>,
@@ -337,14 +331,14 @@ fn append_ext_nonzero(
     element: &Row,
     block: &OutsideBlock,
 ) -> Result<(), NoMemory>
-    requires links { All (LinkOf sig.now) links.now }
-    requires element { RowOf sig.now element.now }
-    requires block { OutsideOf sig.now block.now }
+    requires links { AreLinksOf sig.now links.now }
+    requires element { All (Belongs sig.now) element.now }
+    requires block { IsOutsideOf sig.now block.now }
     requires names { length names.now ≡ length sig.now.kinds }
-    ensures { OnOk result (out.new.items ≡ out.old.items ++ (links_text names.now sig.now.order (codes "ext-nonzero") links.now
+    ensures { OnOk result (out.new.items ≡ out.old.items ++ (flat_map (link_text names.now sig.now.order) links.now
         ++ (row_part names.now sig.now.order (codes "element") element.now ++ outside_text names.now sig.now.order block.now))) }
 {
-    append_links(alloc, out, sig, names, b"ext-nonzero", links)?;
+    append_links(alloc, out, sig, names, links)?;
     append_row_part(out, sig, names, b"element", element)?;
     append_outside(alloc, out, sig, names, block)
 }
@@ -368,10 +362,10 @@ fn append_operator_line(
     Ok(())
 }
 
-fn append_report(out: &mut Vec<u8>, report: &Report) -> Result<(), NoMemory>
-    ensures { OnOk result (out.new.items ≡ out.old.items ++ report_text report.now) }
+// Appends the lines of a report but for that of its cause.
+fn append_report_rest(out: &mut Vec<u8>, report: &Report) -> Result<(), NoMemory>
+    ensures { OnOk result (out.new.items ≡ out.old.items ++ report_rest report.now) }
 {
-    append_cause(out, &report.cause)?;
     append_plan(out, &report.plan)?;
     append_runs(out, &report.runs)?;
     append_stop(out, &report.stop)

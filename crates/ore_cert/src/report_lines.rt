@@ -1,18 +1,17 @@
 //! The lines of the report of a stopped computation.
 
 ghost use Rattle.std.specs.Prelude.{◌≡◌, ◌≢◌, ℕ, ◌++◌, ◌∷◌, length, codes, MatchOption};
-ghost use Rattle.ore_cert.specs.BlockText.{place, is_place};
-ghost use Rattle.ore_cert.specs.Formats.{Reads, items};
-ghost use Rattle.ore_cert.specs.KindFormat.{Spells};
+ghost use Rattle.ore_parts.specs.BlockText.{place, is_place};
+ghost use Rattle.ore_parts.specs.Formats.{ReadsOne, items, Spells};
 ghost use Rattle.ore_cert.specs.WholeText.{IsWrittenChoice, IsWrittenPlan, IsWrittenStop};
 ghost use Rattle.ore_cert.specs.ReportFormats.{plan_line, IsNoPlainPlan, choice_words, stop_line, report_line_words, IsWrittenReportLine, plan_format, choice_format, report_line_format, next_format, runs_format, report_rest_format};
 
-use crate::count::count_in;
-use crate::fault::CertFault;
 use crate::kind::length_behind;
-use crate::lines::{Lines, cut_at};
 use crate::report::{Plan, Stop};
-use crate::sizes::{place_in, places_in};
+use ore_parts::count::count_in;
+use ore_parts::lines::cut_at;
+use ore_parts::sizes::{place_in, places_in};
+use ore_parts::{CertFault, Lines};
 use ore_rows::{Choice, Choices, Runs};
 use std::alloc::Global;
 
@@ -43,7 +42,7 @@ pub fn read_report_rest(
     alloc: Global,
     lines: &mut Lines<'_>,
 ) -> Result<(Plan, (Runs, Stop)), CertFault>
-    ensures { Reads report_rest_format lines.old result lines.new }
+    ensures { ReadsOne report_rest_format lines.old result lines.new }
 {
     let plan = read_plan(lines)?;
     let runs = read_runs(alloc, lines)?;
@@ -52,7 +51,7 @@ pub fn read_report_rest(
 
 // The runs up to the line that says where the computation stopped.
 fn read_runs(alloc: Global, lines: &mut Lines<'_>) -> Result<(Runs, Stop), CertFault>
-    ensures { Reads runs_format lines.old result lines.new }
+    ensures { ReadsOne runs_format lines.old result lines.new }
 {
     let mut runs = Vec::new(alloc);
     for _ in 0..lines.len() + 1 {
@@ -66,7 +65,7 @@ fn read_runs(alloc: Global, lines: &mut Lines<'_>) -> Result<(Runs, Stop), CertF
 
 // A run, or where the computation stopped.
 fn read_next(alloc: Global, lines: &mut Lines<'_>) -> Result<Next, CertFault>
-    ensures { Reads next_format lines.old result lines.new }
+    ensures { ReadsOne next_format lines.old result lines.new }
 {
     match read_report_line(lines)? {
         ReportLine::RunLine { count } => {
@@ -79,7 +78,7 @@ fn read_next(alloc: Global, lines: &mut Lines<'_>) -> Result<Next, CertFault>
 
 // So many choices.
 fn read_choices(alloc: Global, count: usize, lines: &mut Lines<'_>) -> Result<Choices, CertFault>
-    ensures { Reads (items choice_format count) lines.old result lines.new }
+    ensures { ReadsOne (items choice_format count) lines.old result lines.new }
 {
     let mut choices = Vec::new(alloc);
     for _ in 0..count {
@@ -91,7 +90,7 @@ fn read_choices(alloc: Global, count: usize, lines: &mut Lines<'_>) -> Result<Ch
 
 // The choice on the line that is due.
 fn read_choice(lines: &mut Lines<'_>) -> Result<Choice, CertFault>
-    ensures { Reads choice_format lines.old result lines.new }
+    ensures { ReadsOne choice_format lines.old result lines.new }
 {
     let line = lines.at();
     let Some(words) = lines.take() else {
@@ -105,7 +104,7 @@ fn read_choice(lines: &mut Lines<'_>) -> Result<Choice, CertFault>
 
 // The plan on the line that is due.
 fn read_plan(lines: &mut Lines<'_>) -> Result<Plan, CertFault>
-    ensures { Reads plan_format lines.old result lines.new }
+    ensures { ReadsOne plan_format lines.old result lines.new }
 {
     let line = lines.at();
     let Some(words) = lines.take() else {
@@ -119,7 +118,7 @@ fn read_plan(lines: &mut Lines<'_>) -> Result<Plan, CertFault>
 
 // The line of a run, or the last line of a report.
 fn read_report_line(lines: &mut Lines<'_>) -> Result<ReportLine, CertFault>
-    ensures { Reads report_line_format lines.old result lines.new }
+    ensures { ReadsOne report_line_format lines.old result lines.new }
 {
     let line = lines.at();
     let Some(words) = lines.take() else {

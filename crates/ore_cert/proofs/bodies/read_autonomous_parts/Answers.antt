@@ -1,10 +1,10 @@
 use Rattle.std.proofs.Common.{refl}
 use Rattle.std.specs.Prelude.{codes}
-use Rattle.ore_cert.specs.PartFormats.{row_format}
+use Rattle.ore_parts.specs.PartFormats.{row_format}
 use Rattle.ore_cert.specs.WholeFormats.{with_operator, autonomous_parts}
-use Rattle.ore_cert.proofs.MatrixLaws.{row_is}
+use Rattle.ore_parts.proofs.MatrixLaws.{row_is}
 use Rattle.ore_cert.proofs.WholeLaws.{with_operator_is}
-use Rattle.ore_cert.proofs.FormatReads.{finds_both, first_fault, second_fault, reads_err}
+use Rattle.ore_parts.proofs.FormatReads.{finds_both, first_fault, second_fault, reads_err}
 use Rattle.ore_cert.proofs.bodies.read_autonomous_parts.Goals as goal
 
 pub returns-in_err-element : goal.returns-in_err-element

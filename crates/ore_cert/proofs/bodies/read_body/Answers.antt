@@ -2,17 +2,17 @@ use Rattle.std.proofs.Common.{◌≡◌, Result, sym, subst}
 use Rattle.ore_monomial.specs.Signature.{Signature}
 use Rattle.std.proofs.Common.{List, ℕ}
 use Rattle.ore_cert.specs.declared.certificate.Certificate.{Certificate}
-use Rattle.ore_cert.specs.declared.fault.CertFault.{CertFault}
+use Rattle.ore_parts.specs.declared.fault.CertFault.{CertFault}
 use Rattle.ore_cert.specs.declared.kind.Kind.{Kind}
 use Rattle.ore_cert.specs.declared.kind.Kind.TheVariants.{Controllable, AutonomousElement, LeftInverse, RightInverse, NoLeftInverse, NoRightInverse, KernelLeft, KernelRight, Resolution, ExtZero, ExtNonzero, Halted}
-use Rattle.ore_cert.specs.Formats.{Reads}
-use Rattle.ore_cert.specs.Lines.{Unread}
+use Rattle.ore_parts.specs.Formats.{ReadsOne}
+use Rattle.ore_parts.specs.Lines.{Unread}
 use Rattle.ore_cert.specs.WholeFormats.{body_format}
 use Rattle.ore_cert.proofs.bodies.read_body.Goals as goal
 
 -- the kind that was matched is the one that was asked for
-of_kind : (s : Signature) (names : List (List ℕ)) (k l : Kind) (old new : Unread) (r : Result Certificate CertFault) → k ≡ l → Reads (body_format s names l) old r new → Reads (body_format s names k) old r new
-of_kind s names k l old new r e h = subst (λ m. Reads (body_format s names m) old r new) (sym e) h
+of_kind : (s : Signature) (names : List (List ℕ)) (k l : Kind) (old new : Unread) (r : Result Certificate CertFault) → k ≡ l → ReadsOne (body_format s names l) old r new → ReadsOne (body_format s names k) old r new
+of_kind s names k l old new r e h = subst (λ m. ReadsOne (body_format s names m) old r new) (sym e) h
 
 pub returns-in-Controllable : goal.returns-in-Controllable
 returns-in-Controllable c = of_kind c.args.sig.now c.args.names.now c.args.kind Controllable c.args.lines.now c.read_controllable.new.lines c.read_controllable.result c.in-Controllable.is c.read_controllable.ensures

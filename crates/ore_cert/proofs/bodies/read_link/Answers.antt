@@ -1,10 +1,10 @@
 use Rattle.std.proofs.Common.{refl}
 use Rattle.std.specs.Prelude.{codes}
-use Rattle.ore_cert.specs.PartFormats.{matrix_format, exact_format}
+use Rattle.ore_parts.specs.PartFormats.{matrix_format, exact_format}
 use Rattle.ore_cert.specs.WholeFormats.{link_format}
-use Rattle.ore_cert.proofs.BlockLaws.{exact_is}
-use Rattle.ore_cert.proofs.FormatReads.{reads_both, first_fails, second_fails}
-use Rattle.ore_cert.proofs.MatrixLaws.{matrix_is}
+use Rattle.ore_parts.proofs.BlockLaws.{exact_is}
+use Rattle.ore_parts.proofs.FormatReads.{reads_both, first_fails, second_fails}
+use Rattle.ore_parts.proofs.MatrixLaws.{matrix_is}
 use Rattle.ore_cert.proofs.WholeLaws.{link_names}
 use Rattle.ore_cert.proofs.bodies.read_link.Goals as goal
 

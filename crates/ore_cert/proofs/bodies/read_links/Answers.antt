@@ -1,7 +1,7 @@
 use Rattle.std.proofs.Common.{◌≡◌, ◌<◌, sym, subst, arith}
-use Rattle.ore_cert.specs.Formats.{Finds, items}
+use Rattle.ore_parts.specs.Formats.{Finds, items}
 use Rattle.ore_cert.specs.WholeFormats.{link_format}
-use Rattle.ore_cert.proofs.FormatReads.{finds_none, finds_more, items_fault, reads_err}
+use Rattle.ore_parts.proofs.FormatReads.{finds_none, finds_more, items_fault, reads_err}
 use Rattle.ore_cert.proofs.WholeLaws.{link_is}
 use Rattle.ore_cert.proofs.bodies.read_links.Goals as goal
 

@@ -1,4 +1,4 @@
-use Rattle.ore_cert.specs.Formats.{Finds, items}
+use Rattle.ore_parts.specs.Formats.{Finds, items}
 use Rattle.ore_cert.specs.WholeFormats.{link_format}
 use Rattle.ore_cert.proofs.bodies.read_links.Given as goal
 

@@ -1,8 +1,8 @@
-use Rattle.ore_cert.specs.PartFormats.{exact_format}
+use Rattle.ore_parts.specs.PartFormats.{exact_format}
 use Rattle.ore_cert.specs.WholeFormats.{links_format, links_exact}
-use Rattle.ore_cert.proofs.BlockLaws.{exact_is}
+use Rattle.ore_parts.proofs.BlockLaws.{exact_is}
 use Rattle.ore_cert.proofs.WholeLaws.{links_is}
-use Rattle.ore_cert.proofs.FormatReads.{finds_both, first_fault, second_fault, reads_err}
+use Rattle.ore_parts.proofs.FormatReads.{finds_both, first_fault, second_fault, reads_err}
 use Rattle.ore_cert.proofs.bodies.read_links_exact.Goals as goal
 
 pub returns-in_err-links : goal.returns-in_err-links

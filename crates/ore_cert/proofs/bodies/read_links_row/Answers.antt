@@ -2,7 +2,7 @@ use Rattle.std.proofs.Common.{refl}
 use Rattle.std.specs.Prelude.{codes}
 use Rattle.ore_cert.specs.WholeFormats.{links_format, with_row, links_row}
 use Rattle.ore_cert.proofs.WholeLaws.{links_is, with_row_is}
-use Rattle.ore_cert.proofs.FormatReads.{finds_both, first_fault, second_fault, reads_err}
+use Rattle.ore_parts.proofs.FormatReads.{finds_both, first_fault, second_fault, reads_err}
 use Rattle.ore_cert.proofs.bodies.read_links_row.Goals as goal
 
 pub returns-in_err-links : goal.returns-in_err-links

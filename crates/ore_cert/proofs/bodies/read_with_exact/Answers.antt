@@ -1,8 +1,8 @@
-use Rattle.ore_cert.specs.PartFormats.{matrix_format, exact_format}
+use Rattle.ore_parts.specs.PartFormats.{matrix_format, exact_format}
 use Rattle.ore_cert.specs.WholeFormats.{with_exact}
-use Rattle.ore_cert.proofs.MatrixLaws.{matrix_is}
-use Rattle.ore_cert.proofs.BlockLaws.{exact_is}
-use Rattle.ore_cert.proofs.FormatReads.{finds_both, first_fault, second_fault, reads_err}
+use Rattle.ore_parts.proofs.MatrixLaws.{matrix_is}
+use Rattle.ore_parts.proofs.BlockLaws.{exact_is}
+use Rattle.ore_parts.proofs.FormatReads.{finds_both, first_fault, second_fault, reads_err}
 use Rattle.ore_cert.proofs.bodies.read_with_exact.Goals as goal
 
 pub returns-in_err-matrix : goal.returns-in_err-matrix

@@ -2,7 +2,7 @@ use Rattle.std.proofs.Common.{refl}
 use Rattle.std.specs.Prelude.{codes}
 use Rattle.ore_cert.specs.WholeFormats.{operator_format, with_row, with_operator}
 use Rattle.ore_cert.proofs.WholeLaws.{operator_is, with_row_is}
-use Rattle.ore_cert.proofs.FormatReads.{finds_both, first_fault, second_fault, reads_err}
+use Rattle.ore_parts.proofs.FormatReads.{finds_both, first_fault, second_fault, reads_err}
 use Rattle.ore_cert.proofs.bodies.read_with_operator.Goals as goal
 
 pub returns-in_err-operator : goal.returns-in_err-operator

@@ -1,8 +1,8 @@
-use Rattle.ore_cert.specs.PartFormats.{row_format, outside_format}
+use Rattle.ore_parts.specs.PartFormats.{row_format, outside_format}
 use Rattle.ore_cert.specs.WholeFormats.{with_row}
-use Rattle.ore_cert.proofs.MatrixLaws.{row_is}
-use Rattle.ore_cert.proofs.BlockLaws.{outside_is}
-use Rattle.ore_cert.proofs.FormatReads.{finds_both, first_fault, second_fault, reads_err}
+use Rattle.ore_parts.proofs.MatrixLaws.{row_is}
+use Rattle.ore_parts.proofs.BlockLaws.{outside_is}
+use Rattle.ore_parts.proofs.FormatReads.{finds_both, first_fault, second_fault, reads_err}
 use Rattle.ore_cert.proofs.bodies.read_with_row.Goals as goal
 
 pub returns-in_err-row : goal.returns-in_err-row

@@ -1,8 +1,8 @@
-use Rattle.ore_cert.specs.PartFormats.{outside_format}
+use Rattle.ore_parts.specs.PartFormats.{outside_format}
 use Rattle.ore_cert.specs.WholeFormats.{unit_format, with_unit}
-use Rattle.ore_cert.proofs.BlockLaws.{outside_is}
+use Rattle.ore_parts.proofs.BlockLaws.{outside_is}
 use Rattle.ore_cert.proofs.WholeLaws.{unit_is}
-use Rattle.ore_cert.proofs.FormatReads.{finds_both, first_fault, second_fault, reads_err}
+use Rattle.ore_parts.proofs.FormatReads.{finds_both, first_fault, second_fault, reads_err}
 use Rattle.ore_cert.proofs.bodies.read_with_unit.Goals as goal
 
 pub returns-in_err-unit : goal.returns-in_err-unit

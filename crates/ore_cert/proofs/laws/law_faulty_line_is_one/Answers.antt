@@ -1,5 +1,5 @@
 use Rattle.ore_cert.specs.WholeText.{IsCertificate}
-use Rattle.ore_cert.proofs.FaultyLines.{one_faulty_line}
+use Rattle.ore_parts.proofs.FaultyLines.{one_faulty_line}
 use Rattle.ore_cert.proofs.laws.law_faulty_line_is_one.Goals as goal
 
 pub returns : goal.returns

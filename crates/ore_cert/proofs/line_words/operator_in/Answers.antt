@@ -1,6 +1,6 @@
 use Rattle.std.proofs.Common.{[], ◌∷◌, ◌++◌, ap, ◌∙◌}
-use Rattle.ore_expr.specs.CanonicalText.{operator_text}
-use Rattle.ore_expr.proofs.RowEntries.{is_front, not_front}
+use Rattle.ore_text.specs.CanonicalText.{operator_text}
+use Rattle.ore_text.proofs.RowEntries.{is_front, not_front}
 use Rattle.ore_cert.proofs.WholeLaws.{operator_spelled}
 use Rattle.ore_cert.proofs.line_words.operator_in.Goals as goal
 

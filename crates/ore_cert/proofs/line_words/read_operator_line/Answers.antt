@@ -1,8 +1,8 @@
 use Rattle.std.proofs.Common.{subst}
-use Rattle.ore_cert.specs.KindFormat.{Spells}
+use Rattle.ore_parts.specs.Formats.{Spells}
 use Rattle.ore_cert.specs.WholeFormats.{operator_words}
 use Rattle.ore_cert.specs.WholeText.{IsWrittenOperator}
-use Rattle.ore_cert.proofs.FormatReads.{finds_line, no_line_fault, other_line_fault}
+use Rattle.ore_parts.proofs.FormatReads.{finds_line, no_line_fault, other_line_fault}
 use Rattle.ore_cert.proofs.WholeLaws.{operator_words_are}
 use Rattle.ore_cert.proofs.line_words.read_operator_line.Goals as goal
 

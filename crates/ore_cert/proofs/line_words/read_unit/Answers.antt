@@ -1,7 +1,7 @@
 use Rattle.std.proofs.Common.{ℕ, List, ◌++◌}
 use Rattle.std.specs.Prelude.{codes}
-use Rattle.ore_cert.specs.BlockText.{place, is_place}
-use Rattle.ore_cert.proofs.FormatReads.{finds_line, no_line_fault, other_line_fault}
+use Rattle.ore_parts.specs.BlockText.{place, is_place}
+use Rattle.ore_parts.proofs.FormatReads.{finds_line, no_line_fault, other_line_fault}
 use Rattle.ore_cert.proofs.WholeLaws.{unit_words_are}
 use Rattle.ore_cert.proofs.line_words.read_unit.Goals as goal
 

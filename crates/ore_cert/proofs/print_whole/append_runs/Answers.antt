@@ -1,5 +1,5 @@
 use Rattle.ore_cert.specs.WholeText.{run_text}
-use Rattle.ore_cert.proofs.PrintedItems.{printed_more}
+use Rattle.ore_parts.proofs.PrintedItems.{printed_more}
 use Rattle.ore_cert.proofs.print_whole.append_runs.Goals as goal
 
 pub loop-k-preserved : goal.loop-k-preserved

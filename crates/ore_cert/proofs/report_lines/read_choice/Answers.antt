@@ -1,6 +1,6 @@
 use Rattle.ore_cert.specs.ReportFormats.{choice_words}
 use Rattle.ore_cert.specs.WholeText.{IsWrittenChoice}
-use Rattle.ore_cert.proofs.FormatReads.{finds_line, no_line_fault, other_line_fault}
+use Rattle.ore_parts.proofs.FormatReads.{finds_line, no_line_fault, other_line_fault}
 use Rattle.ore_cert.proofs.ReportLaws.{choice_words_are}
 use Rattle.ore_cert.proofs.report_lines.read_choice.Goals as goal
 

@@ -1,7 +1,7 @@
 use Rattle.std.proofs.Common.{◌≡◌, ◌<◌, sym, subst, arith}
-use Rattle.ore_cert.specs.Formats.{Finds, items}
+use Rattle.ore_parts.specs.Formats.{Finds, items}
 use Rattle.ore_cert.specs.ReportFormats.{choice_format}
-use Rattle.ore_cert.proofs.FormatReads.{finds_none, finds_more, items_fault, reads_err}
+use Rattle.ore_parts.proofs.FormatReads.{finds_none, finds_more, items_fault, reads_err}
 use Rattle.ore_cert.proofs.ReportLaws.{choice_is}
 use Rattle.ore_cert.proofs.report_lines.read_choices.Goals as goal
 

@@ -1,4 +1,4 @@
-use Rattle.ore_cert.specs.Formats.{Finds, items}
+use Rattle.ore_parts.specs.Formats.{Finds, items}
 use Rattle.ore_cert.specs.ReportFormats.{choice_format}
 use Rattle.ore_cert.proofs.report_lines.read_choices.Given as goal
 

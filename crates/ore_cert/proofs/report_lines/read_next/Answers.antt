@@ -1,8 +1,8 @@
 use Rattle.std.proofs.Common.{[], subst}
 use Rattle.ore_cert.specs.declared.report_lines.ReportLine.TheVariants.{RunLine, StopLine}
-use Rattle.ore_cert.specs.Formats.{Finds}
+use Rattle.ore_parts.specs.Formats.{Finds}
 use Rattle.ore_cert.specs.ReportFormats.{report_line_format, choice_format, next_format}
-use Rattle.ore_cert.proofs.FormatReads.{finds_none, reads_both, first_fails, second_fails}
+use Rattle.ore_parts.proofs.FormatReads.{finds_none, reads_both, first_fails, second_fails}
 use Rattle.ore_cert.proofs.ReportLaws.{choices_of, choices_behind, choice_is, choices_are, report_line_is, next_from, next_names}
 use Rattle.ore_cert.proofs.report_lines.read_next.Goals as goal
 

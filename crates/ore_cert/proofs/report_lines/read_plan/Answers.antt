@@ -1,6 +1,6 @@
 use Rattle.ore_cert.specs.ReportFormats.{plan_line}
 use Rattle.ore_cert.specs.WholeText.{IsWrittenPlan}
-use Rattle.ore_cert.proofs.FormatReads.{finds_line, no_line_fault, other_line_fault}
+use Rattle.ore_parts.proofs.FormatReads.{finds_line, no_line_fault, other_line_fault}
 use Rattle.ore_cert.proofs.ReportLaws.{plan_words_are}
 use Rattle.ore_cert.proofs.report_lines.read_plan.Goals as goal
 

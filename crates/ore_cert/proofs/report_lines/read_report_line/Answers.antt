@@ -1,6 +1,6 @@
 use Rattle.ore_cert.specs.ReportFormats.{report_line_words}
 use Rattle.ore_cert.specs.ReportFormats.{IsWrittenReportLine}
-use Rattle.ore_cert.proofs.FormatReads.{finds_line, no_line_fault, other_line_fault}
+use Rattle.ore_parts.proofs.FormatReads.{finds_line, no_line_fault, other_line_fault}
 use Rattle.ore_cert.proofs.ReportLaws.{report_words_are}
 use Rattle.ore_cert.proofs.report_lines.read_report_line.Goals as goal
 

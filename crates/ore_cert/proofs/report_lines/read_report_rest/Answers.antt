@@ -1,5 +1,5 @@
 use Rattle.ore_cert.specs.ReportFormats.{plan_format, runs_format, report_rest_format}
-use Rattle.ore_cert.proofs.FormatReads.{finds_both, first_fault, second_fault, reads_err}
+use Rattle.ore_parts.proofs.FormatReads.{finds_both, first_fault, second_fault, reads_err}
 use Rattle.ore_cert.proofs.ReportLaws.{plan_is}
 use Rattle.ore_cert.proofs.RunsLaws.{runs_is}
 use Rattle.ore_cert.proofs.report_lines.read_report_rest.Goals as goal

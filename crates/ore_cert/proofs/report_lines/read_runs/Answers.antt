@@ -1,8 +1,7 @@
-use Rattle.std.proofs.Common.{◌≡◌, ◌+◌, ◌<◌, ◌≤◌, length, sym, subst, arith}
-use Rattle.ore_cert.specs.Formats.{Finds, items}
+use Rattle.std.proofs.Common.{sym, subst, arith}
+use Rattle.ore_parts.specs.Formats.{Finds, items}
 use Rattle.ore_cert.specs.ReportFormats.{next_format, runs_format}
-use Rattle.ore_cert.specs.declared.report_lines.Next.TheVariants.{Run, End}
-use Rattle.ore_cert.proofs.FormatReads.{finds_none, finds_more, reads_err}
+use Rattle.ore_parts.proofs.FormatReads.{finds_none, finds_more, reads_err}
 use Rattle.ore_cert.proofs.RunsLaws.{run_item, run_is, finds_run, runs_found, runs_fault, shorter}
 use Rattle.ore_cert.proofs.report_lines.read_runs.Goals as goal
 

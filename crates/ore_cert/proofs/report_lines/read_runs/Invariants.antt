@@ -1,5 +1,5 @@
 use Rattle.std.proofs.Common.{◌+◌, ◌≤◌, length}
-use Rattle.ore_cert.specs.Formats.{Finds, items}
+use Rattle.ore_parts.specs.Formats.{Finds, items}
 use Rattle.ore_cert.proofs.RunsLaws.{run_item}
 use Rattle.ore_cert.proofs.report_lines.read_runs.Given as goal
 

@@ -1,13 +1,12 @@
 use Rattle.std.proofs.Common.{[], sym, ap, subst, ◌∙◌, append-nil}
-use Rattle.ore_cert.specs.declared.fault.CertFault.{CertFault}
-use Rattle.ore_cert.specs.Lines.{Unread}
-use Rattle.ore_cert.specs.Reading.{IsFaultOf}
+use Rattle.ore_parts.specs.Lines.{Unread}
+use Rattle.ore_parts.specs.Reading.{IsFaultOf}
 use Rattle.ore_cert.specs.WholeFormats.{certificate_format}
 use Rattle.ore_cert.specs.WholeText.{certificate_text, IsCertificate}
-use Rattle.ore_cert.proofs.Steps.{if_err}
-use Rattle.ore_cert.proofs.FormatReads.{whole_fault, more_fault}
+use Rattle.ore_parts.proofs.Steps.{if_err}
+use Rattle.ore_parts.proofs.FormatReads.{whole_fault, more_fault}
 use Rattle.ore_cert.proofs.WholeLaws.{certificate_is}
-use Rattle.ore_cert.proofs.WrittenOf.{certificate_of}
+use Rattle.ore_cert.proofs.WrittenCertificates.{certificate_of}
 use Rattle.ore_cert.proofs.whole.read_certificate.Goals as goal
 
 pub returns-in_err-cert-clause-faulty : goal.returns-in_err-cert-clause-faulty
@@ -15,19 +14,19 @@ returns-in_err-cert-clause-faulty c =
     let s = c.args.sig.now in
     let names = c.args.names.now in
     let e = c.in_err-cert.field-0.0 in
-    if_err c.from_residual.result e (IsFaultOf (IsCertificate s names) c.args.text.now c.args.first) c.from_residual.ensures.1
-    (subst (λ (u : Unread). IsFaultOf (IsCertificate s names) u.left u.at e) c.new-lines.ensures
-    (whole_fault (certificate_format s names) (certificate_is s names c.requires.names c.requires.count) c.new-lines.result e c.in_err-cert.ensures))
+    if_err c.from_residual.result e (IsFaultOf (IsCertificate s names) c.args.text.now) c.from_residual.ensures.1
+    (subst (λ (u : Unread). IsFaultOf (IsCertificate s names) u.left e) c.new-lines.ensures
+    (whole_fault (certificate_format s names) (certificate_is s names c.requires.names c.requires.count) c.new-lines.result e (ap (λ (u : Unread). u.at) c.new-lines.ensures) c.in_err-cert.ensures))
 
 pub returns-in_err-expect_end-clause-faulty : goal.returns-in_err-expect_end-clause-faulty
 returns-in_err-expect_end-clause-faulty c =
     let s = c.args.sig.now in
     let names = c.args.names.now in
     let e = c.in_err-expect_end.field-0.0 in
-    let more = more_fault (certificate_format s names) (certificate_is s names c.requires.names c.requires.count) c.new-lines.result c.read_headed.new.lines c.in_ok-cert.cert c.in_ok-cert.ensures c.in_err-expect_end.ensures.err.1 in
-    if_err c.from_residual-in_err-expect_end.result e (IsFaultOf (IsCertificate s names) c.args.text.now c.args.first) c.from_residual-in_err-expect_end.ensures.1
-    (subst (λ (u : Unread). IsFaultOf (IsCertificate s names) u.left u.at e) c.new-lines.ensures
-    (subst (IsFaultOf (IsCertificate s names) c.new-lines.result.left c.new-lines.result.at) (sym c.in_err-expect_end.ensures.err.0) more))
+    let more = more_fault (certificate_format s names) (certificate_is s names c.requires.names c.requires.count) c.new-lines.result c.read_headed.new.lines c.in_ok-cert.cert (ap (λ (u : Unread). u.at) c.new-lines.ensures) c.in_ok-cert.ensures c.in_err-expect_end.ensures.err.1 in
+    if_err c.from_residual-in_err-expect_end.result e (IsFaultOf (IsCertificate s names) c.args.text.now) c.from_residual-in_err-expect_end.ensures.1
+    (subst (λ (u : Unread). IsFaultOf (IsCertificate s names) u.left e) c.new-lines.ensures
+    (subst (IsFaultOf (IsCertificate s names) c.new-lines.result.left) (sym c.in_err-expect_end.ensures.err.0) more))
 
 pub returns-clause-only : goal.returns-clause-only
 returns-clause-only c other h e =

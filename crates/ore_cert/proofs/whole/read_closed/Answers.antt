@@ -1,7 +1,7 @@
 use Rattle.std.proofs.Common.{refl}
 use Rattle.std.specs.Prelude.{codes}
 use Rattle.ore_cert.specs.WholeFormats.{body_format, closed_format}
-use Rattle.ore_cert.proofs.FormatReads.{finds_fixed, fixed_fault, reads_both, first_fails, second_fails}
+use Rattle.ore_parts.proofs.FormatReads.{finds_fixed, fixed_fault, reads_both, first_fails, second_fails}
 use Rattle.ore_cert.proofs.WholeLaws.{body_is, last, last_is, closed_names}
 use Rattle.ore_cert.proofs.whole.read_closed.Goals as goal
 

@@ -1,7 +1,7 @@
 use Rattle.std.proofs.Common.{refl}
 use Rattle.std.specs.Prelude.{codes}
 use Rattle.ore_cert.specs.WholeFormats.{kinds_format, certificate_format}
-use Rattle.ore_cert.proofs.FormatReads.{finds_fixed, fixed_fault, first_fails, reads_last}
+use Rattle.ore_parts.proofs.FormatReads.{finds_fixed, fixed_fault, first_fails, reads_last}
 use Rattle.ore_cert.proofs.WholeLaws.{head, head_is, kinds_is, certificate_names}
 use Rattle.ore_cert.proofs.whole.read_headed.Goals as goal
 

@@ -1,7 +1,7 @@
 use Rattle.std.proofs.Common.{refl}
 use Rattle.ore_cert.specs.KindFormat.{kind_format}
 use Rattle.ore_cert.specs.WholeFormats.{closed_format, kinds_format}
-use Rattle.ore_cert.proofs.FormatReads.{first_fails, reads_last}
+use Rattle.ore_parts.proofs.FormatReads.{first_fails, reads_last}
 use Rattle.ore_cert.proofs.KindLaws.{kind_is}
 use Rattle.ore_cert.proofs.WholeLaws.{closed_is, kinds_names}
 use Rattle.ore_cert.proofs.whole.read_of_kind.Goals as goal

@@ -1,6 +1,0 @@
-use Rattle.ore_cert.specs.Formats.{Finds, items}
-use Rattle.ore_cert.specs.PartFormats.{entry_format}
-use Rattle.ore_cert.proofs.pairs.read_entries.Given as goal
-
-abbrev pub invariant-loop : goal.invariant-loop
-invariant-loop l = Finds (items (entry_format l.sig l.names) l.counter) l.initial.lines l.entries.items l.lines

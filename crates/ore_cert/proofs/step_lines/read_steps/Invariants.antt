@@ -1,6 +1,0 @@
-use Rattle.ore_cert.specs.Formats.{Finds, items}
-use Rattle.ore_cert.specs.PartFormats.{step_format}
-use Rattle.ore_cert.proofs.step_lines.read_steps.Given as goal
-
-abbrev pub invariant-loop : goal.invariant-loop
-invariant-loop l = Finds (items (step_format l.sig l.names) l.counter) l.initial.lines l.steps.items l.lines

@@ -1,0 +1,16 @@
+pub mod Bytes
+pub mod FaultyLines
+pub mod FormatLaws
+pub mod FormatFaults
+pub mod FormatReads
+pub mod PartLaws
+pub mod OneTerm
+pub mod RowTexts
+pub mod MatrixLaws
+pub mod FiveParts
+pub mod BlockLaws
+pub mod Numbers
+pub mod MatrixTexts
+pub mod PrintedItems
+pub mod WrittenOf
+pub mod Steps

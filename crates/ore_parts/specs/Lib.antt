@@ -1,0 +1,10 @@
+pub mod Lines
+pub mod FaultyLine
+pub mod CertificateText
+pub mod Reading
+pub mod Formats
+pub mod BlockCode
+pub mod EachPart
+pub mod BlockText
+pub mod PartFormats
+pub mod OfSignature

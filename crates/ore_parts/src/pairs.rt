@@ -1,0 +1,139 @@
+//! The pairs of a basis, each with its steps.
+
+ghost use Rattle.std.specs.Prelude.{◌≡◌, ◌≢◌, ℕ, ◌<◌, ◌∷◌, ◌++◌, length, MatchOption, codes, decimal};
+ghost use Rattle.ore_text.specs.Names.{AreNames};
+ghost use Rattle.ore_parts.specs.BlockText.{place, is_place};
+ghost use Rattle.ore_parts.specs.CertificateText.{number_bound};
+ghost use Rattle.ore_parts.specs.Formats.{ReadsOne, Spells, items};
+ghost use Rattle.ore_parts.specs.PartFormats.{entry_words, IsWrittenLine, entry_line_format, entry_format, pairs_format};
+
+use crate::block::{PairEntry, Pairs};
+use crate::count::read_count;
+use crate::fault::CertFault;
+use crate::lines::Lines;
+use crate::sizes::{number_in, place_in, places_in};
+use crate::step_lines::read_steps;
+use ore_monomial::Signature;
+use ore_text::Names;
+use std::alloc::Global;
+
+/// The line of a pair. Places count from 0.
+#[derive(Clone, Copy, Drop)]
+pub enum EntryLine {
+    /// So many steps follow.
+    PairLine { i: usize, j: usize, count: usize },
+    /// No step follows.
+    SkipLine { i: usize, j: usize, via: usize },
+}
+
+/// The pairs behind a line with their number. There is a name for each variable of the signature.
+///
+/// # Errors
+/// The faulty line of the text that is left, whatever were to follow; and want of memory. Then the lines may stand
+/// anywhere.
+pub fn read_pairs(
+    alloc: Global,
+    sig: &Signature,
+    names: &Names,
+    lines: &mut Lines<'_>,
+) -> Result<Pairs, CertFault>
+    requires names { AreNames names.now }
+    requires count { length names.now ≡ length sig.now.kinds }
+    ensures { ReadsOne (pairs_format sig.now names.now) lines.old result lines.new }
+{
+    let count = read_count(lines, b"pairs")?;
+    read_entries(alloc, sig, names, count, lines)
+}
+
+// So many pairs.
+fn read_entries(
+    alloc: Global,
+    sig: &Signature,
+    names: &Names,
+    count: usize,
+    lines: &mut Lines<'_>,
+) -> Result<Pairs, CertFault>
+    requires names { AreNames names.now }
+    requires count { length names.now ≡ length sig.now.kinds }
+    ensures { ReadsOne (items (entry_format sig.now names.now) count) lines.old result lines.new }
+{
+    let mut entries = Vec::new(alloc);
+    for _ in 0..count {
+        let entry = read_entry(alloc, sig, names, lines)?;
+        entries.push(entry)?;
+    }
+    Ok(Pairs::from_vec(entries))
+}
+
+// A pair with its steps, or skipped.
+fn read_entry(
+    alloc: Global,
+    sig: &Signature,
+    names: &Names,
+    lines: &mut Lines<'_>,
+) -> Result<PairEntry, CertFault>
+    requires names { AreNames names.now }
+    requires count { length names.now ≡ length sig.now.kinds }
+    ensures { ReadsOne (entry_format sig.now names.now) lines.old result lines.new }
+{
+    match read_entry_line(lines)? {
+        EntryLine::PairLine { i, j, count } => {
+            let steps = read_steps(alloc, sig, names, count, lines)?;
+            Ok(PairEntry::Pair { i, j, steps })
+        }
+        EntryLine::SkipLine { i, j, via } => Ok(PairEntry::Skip { i, j, via }),
+    }
+}
+
+// The line of a pair that is due.
+fn read_entry_line(lines: &mut Lines<'_>) -> Result<EntryLine, CertFault>
+    ensures { ReadsOne entry_line_format lines.old result lines.new }
+{
+    let line = lines.at();
+    let Some(words) = lines.take() else {
+        return Err(CertFault::Malformed { line })
+    };
+    match entry_line_in(words) {
+        Some(entry) => Ok(entry),
+        None => Err(CertFault::Malformed { line }),
+    }
+}
+
+// The line of a pair that these words are.
+fn entry_line_in(words: &[u8]) -> Option<EntryLine>
+    ensures { Spells entry_words IsWrittenLine words.now result }
+{
+    match words.strip_prefix(b"pair ") {
+        Some(numbers) => pair_line_in(numbers),
+        None => match words.strip_prefix(b"skip ") {
+            Some(numbers) => skip_line_in(numbers),
+            None => None,
+        },
+    }
+}
+
+fn pair_line_in(numbers: &[u8]) -> Option<EntryLine>
+    ensures { MatchOption result ((i j count : ℕ) → is_place i → is_place j → count < number_bound → numbers.now ≢ place i ++ 32 ∷ (place j ++ 32 ∷ decimal count))
+        (λ e. IsWrittenLine e × (codes "pair " ++ numbers.now ≡ entry_words e)) }
+{
+    let Some((i, j, rest)) = places_in(numbers) else {
+        return None
+    };
+    let Some(count) = number_in(rest) else {
+        return None
+    };
+    Some(EntryLine::PairLine { i, j, count })
+}
+
+fn skip_line_in(numbers: &[u8]) -> Option<EntryLine>
+    ensures { MatchOption result ((i j via : ℕ) → is_place i → is_place j → is_place via → numbers.now ≢ place i ++ 32 ∷ (place j ++ 32 ∷ place via))
+        (λ e. IsWrittenLine e × (codes "skip " ++ numbers.now ≡ entry_words e)) }
+{
+    let Some((i, j, rest)) = places_in(numbers) else {
+        return None
+    };
+    let Some(via) = place_in(rest) else {
+        return None
+    };
+    Some(EntryLine::SkipLine { i, j, via })
+}
