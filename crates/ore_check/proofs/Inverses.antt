@@ -1,4 +1,5 @@
 -- Inverses of matrices, and unit rows.
+--     of_adjoints              the adjoints of a row of a signature are of it
 --     of_adjoint_rows          the transposed adjoint of a matrix of a signature is of it
 --     adjoint-identity         the identity is its own transposed adjoint
 --     no_left_inverse          where a unit row isn't in the row module there is no left inverse
@@ -22,13 +23,13 @@ use Rattle.ore_rows.proofs.RowLaws as Rows
 use Rattle.ore_rows.proofs.UnitRows.{length-identity_rows, row-identity_rows, column-identity_rows}
 use Rattle.ore_pairs.proofs.RowSums.{of_entry}
 use Rattle.ore_pairs.proofs.Syzygies.{row-matrix_times}
-use Rattle.ore_check.specs.CheckBlock.{Plain}
-use Rattle.ore_check.specs.Meaning.{RowsOf, HasLeftInverse, HasRightInverse, turned}
+use Rattle.ore_blocks.specs.CheckBlock.{Plain}
+use Rattle.ore_check.specs.Meaning.{RowsOf, HasLeftInverse, HasRightInverse, transposed_adjoint}
 
 module _ (s : Signature) where
   -- ---- the transposed adjoint
 
-  of_adjoints : (r : Row rationals) → RowOf rationals s r → RowOf rationals s (map (adjoint rationals s) r)
+  pub of_adjoints : (r : Row rationals) → RowOf rationals s r → RowOf rationals s (map (adjoint rationals s) r)
   of_adjoints [] h = tt
   of_adjoints (f ∷ r) h = (of_adjoint rationals s f h.0, of_adjoints r h.1)
 
@@ -89,7 +90,7 @@ module _ (s : Signature) where
       here : i < length m
       here = subst (λ n. i < n) (sym lm) h
 
-  left_inverse_of : (r : Plain) → AreLong rationals r.cols r.rows → HasRightInverse s r → HasLeftInverse s (turned s r)
+  left_inverse_of : (r : Plain) → AreLong rationals r.cols r.rows → HasRightInverse s r → HasLeftInverse s (transposed_adjoint s r)
   left_inverse_of r long (m, of, (lm, wide, e)) = (
     transpose_adjoint rationals s (length r.rows) m,
     of_adjoint_rows (length r.rows) m of,
@@ -100,5 +101,5 @@ module _ (s : Signature) where
     ),
   )
 
-  pub no_right_inverse : (r : Plain) → AreLong rationals r.cols r.rows → (i : ℕ) → i < length r.rows → ¬ InRowModule rationals s (length r.rows) (turned s r).rows (unit_row rationals (length r.rows) i) → ¬ HasRightInverse s r
-  no_right_inverse r long i h outside right = no_left_inverse (turned s r) i h outside (left_inverse_of r long right)
+  pub no_right_inverse : (r : Plain) → AreLong rationals r.cols r.rows → (i : ℕ) → i < length r.rows → ¬ InRowModule rationals s (length r.rows) (transposed_adjoint s r).rows (unit_row rationals (length r.rows) i) → ¬ HasRightInverse s r
+  no_right_inverse r long i h outside right = no_left_inverse (transposed_adjoint s r) i h outside (left_inverse_of r long right)

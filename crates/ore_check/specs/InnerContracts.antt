@@ -1,37 +1,27 @@
--- What the contracts of inner functions speak of, beside the conditions.
---     lead_of                a lead, where one was found, as a term
---     left_of                what is left of a row, which stands for itself before the first step
---     IsTreatable            the rows of a treated pair and of its steps are there, and its common multiple fits
---     count_at               how many leads a map counts in a column
-use Rattle.std.specs.Prelude.{ℕ, ◌<◌, ◌≤◌, List, length}
-use Rattle.std.specs.BTreeMap.{BTreeMap, get}
-use Rattle.std.specs.Option.{unwrap_or}
-use Rattle.std.specs.Ordering.{nat_cmp}
-use Rattle.std.specs.List.{All}
-use Rattle.std.specs.declared.option.Option.{Option}
-use Rattle.std.specs.declared.option.Option.TheVariants.{None, Some}
-use Rattle.ore_monomial.specs.Monomial.{Monomial, degree}
-use Rattle.ore_monomial.specs.Term.{Term}
-use Rattle.ore_ring.specs.Ordered.{Ordered}
-use Rattle.ore_pairs.specs.Steps.{pair_term}
-use Rattle.ore_cert.specs.declared.block.PairEntry.{PairEntry}
-use Rattle.ore_cert.specs.declared.block.PairEntry.TheVariants.{Pair, Skip}
+-- What the contracts of inner functions speak of, beside the conditions and the lines.
+--     IsLow         the lines of a layout are so low that sums of a few of them fit into 128 bits
+--     place_of      the place that a refusal names
+use Rattle.std.specs.Prelude.{◌+◌, ◌<◌, ◌^◌}
+use Rattle.ore_blocks.specs.declared.place.Place.{Place}
+use Rattle.ore_blocks.specs.declared.place.Place.TheVariants.{End}
+use Rattle.ore_blocks.specs.declared.refusal.Refusal.{Refusal}
+use Rattle.ore_blocks.specs.declared.refusal.Refusal.TheVariants as refusal
+use Rattle.ore_check.specs.declared.layout.Layout.{Layout}
 
--- a column and a monomial as a term
-abbrev pub lead_of : Option (ℕ × Monomial) → Option Term
-lead_of None = None
-lead_of (Some t) = Some (record { monomial = t.1; column = t.0 })
+-- the lines before the pairs are far below those behind them
+pub record IsLow (l : Layout) : Type 0 where
+  pub claim : l.claim < 2 ^ 70
+  pub block : l.block < 2 ^ 70
+  pub from : l.from < 2 ^ 70
+  pub to : l.to < 2 ^ 70
+  pub pairs : l.pairs < 2 ^ 70
+  pub inside : l.inside < 2 ^ 127 + 2 ^ 71
+  pub steps : l.steps < 2 ^ 127 + 2 ^ 71
+  pub rest : l.rest < 2 ^ 127 + 2 ^ 72
 
--- the row that steps left, or w where no step was taken
-abbrev pub left_of : Option (List Ordered) → List Ordered → List Ordered
-left_of None w = w
-left_of (Some r) w = r
-
--- a pair of basis rows with these leads, whose common multiple may be formed, and whose steps name basis rows
-abbrev pub IsTreatable : List Term → PairEntry → Type 0
-IsTreatable leads (Pair i j steps) = (i < j) × (j < length leads) × (degree (pair_term leads i j).monomial ≤ 32767) × All (λ t. t.index < length leads) steps
-IsTreatable leads (Skip i j via) = i < j
-
--- how many leads a map counts in a column
-abbrev pub count_at : BTreeMap ℕ ℕ → ℕ → ℕ
-count_at counts column = unwrap_or (get nat_cmp counts column) 0
+-- want of memory has no place
+abbrev pub place_of : Refusal → Place
+place_of (refusal.Fails place reason) = place
+place_of (refusal.Overflow place) = place
+place_of (refusal.Degree place) = place
+place_of refusal.Memory = End

@@ -1,10 +1,6 @@
-pub mod Same
-pub mod Conditions
-pub mod LineConditions
-pub mod CheckBlock
+pub mod Layout
+pub mod Parts
 pub mod Check
-pub mod Belongs
 pub mod Meaning
 pub mod Laws
-pub mod Judging
 pub mod InnerContracts

@@ -3,8 +3,9 @@
 --     RowsOf                      some rows are of a signature
 --     IsLeftInverse, IsRightInverse       a matrix times r, or r times it, is the identity
 --     HasLeftInverse, HasRightInverse     some matrix of the signature is such an inverse
---     turned                      the transposed adjoint
---     IsExactFor                  the rows that take a matrix to zeros are just the combinations of some rows
+--     transposed_adjoint          the transposed adjoint
+--     IsExactFor                  the rows that take a matrix to zeros are just the combinations of some rows, each with an
+--                                 entry for each row of the matrix
 --     IsResolution                each matrix generates what takes the one before it to zeros
 --     Means                       what a certificate says
 use Rattle.std.specs.Prelude.{◌≡◌, ◌≢◌, List, [], ◌∷◌, length}
@@ -13,13 +14,14 @@ use Rattle.ore_algebra.specs.Free.{none}
 use Rattle.ore_rational.proofs.FractionLaws.{rationals}
 use Rattle.ore_monomial.specs.Monomial.{plain_cmp}
 use Rattle.ore_monomial.specs.Signature.{Signature}
-use Rattle.ore_rows.specs.Rows.{Row, RowOf, AreLong, zero_row, row_scale, combine, identity_rows, matrix_times, transpose_adjoint, InRowModule, IsExact}
+use Rattle.ore_rows.specs.Rows.{Row, RowOf, AreLong, zero_row, row_scale, combine, identity_rows, matrix_times, transpose_adjoint, InRowModule, IsExact, IsTorsionFree}
 use Rattle.ore_rows.specs.Stored.{sums_of, rows_of}
-use Rattle.ore_cert.specs.declared.block.Link.{Link}
+use Rattle.ore_parts.specs.declared.block.Link.{Link}
+use Rattle.ore_cert.specs.EachKind.{IsLength}
 use Rattle.ore_cert.specs.declared.certificate.Side.TheVariants.{Left, Right}
 use Rattle.ore_cert.specs.declared.certificate.Certificate.{Certificate}
 use Rattle.ore_cert.specs.declared.certificate.Certificate.TheVariants.{Controllable, AutonomousElement, LeftInverse, RightInverse, NoLeftInverse, NoRightInverse, Kernel, Resolution, ExtZero, ExtNonzero, Halted}
-use Rattle.ore_check.specs.CheckBlock.{Plain, plain}
+use Rattle.ore_blocks.specs.CheckBlock.{Plain, plain}
 
 module _ (s : Signature) where
   -- each row is of the signature
@@ -43,10 +45,10 @@ module _ (s : Signature) where
   HasRightInverse r = (m : List (Row rationals)) × RowsOf m × IsRightInverse r m
 
   -- the transpose with each entry replaced by its adjoint: a row for each column, and a column for each row
-  abbrev pub turned : Plain → Plain
-  turned m = record { cols = length m.rows; rows = transpose_adjoint rationals s m.cols m.rows }
+  abbrev pub transposed_adjoint : Plain → Plain
+  transposed_adjoint m = record { cols = length m.rows; rows = transpose_adjoint rationals s m.cols m.rows }
 
-  -- the rows that take a to zeros are just the combinations of these rows
+  -- the rows that take a to zeros are just the combinations of these rows, which have an entry for each row of a
   abbrev pub IsExactFor : Plain → List (Row rationals) → Type 0
   IsExactFor a rows = IsExact rationals s a.cols a.rows rows
 
@@ -57,18 +59,20 @@ module _ (s : Signature) where
 
   -- kind by kind, of the matrix r; of the two verdicts only what is printed in brief is looked at
   abbrev pub Means : Plain → Certificate → Type 0
-  Means r (Controllable q block) = (length q.rows ≡ r.cols) × IsExactFor (plain q) r.rows
+  -- the rows of q parametrise what r describes, and so nothing is torsion
+  Means r (Controllable q block) = (length q.rows ≡ r.cols) × IsExactFor (plain q) r.rows × IsTorsionFree rationals s r.cols r.rows
   Means r (AutonomousElement element operator cofactor block) = (operator.sum ≢ none rationals plain_cmp)
       × InRowModule rationals s r.cols r.rows (row_scale rationals s operator.sum (sums_of element)) × ¬ InRowModule rationals s r.cols r.rows (sums_of element)
   Means r (LeftInverse m) = IsLeftInverse r (rows_of m)
   Means r (RightInverse m) = IsRightInverse r (rows_of m)
   Means r (NoLeftInverse unit block) = ¬ HasLeftInverse r
   Means r (NoRightInverse unit block) = ¬ HasRightInverse r
-  Means r (Kernel Left generators block) = AreLong rationals (length r.rows) (rows_of generators) × IsExactFor r (rows_of generators)
-  Means r (Kernel Right generators block) = (length generators.rows ≡ r.cols) × IsExactFor (turned r) (turned (plain generators)).rows
-  Means r (Resolution links) = IsResolution r r links (λ before last. Unit {0})
-  Means r (ExtZero links block) = IsResolution r r links (λ before last. IsExactFor (turned last) (turned before).rows)
-  Means r (ExtNonzero links element block) = IsResolution r r links (λ before last. (combine rationals s (length last.rows) (sums_of element) (turned last).rows ≡ zero_row rationals (length last.rows))
-      × ¬ InRowModule rationals s (length before.rows) (turned before).rows (sums_of element))
+  Means r (Kernel Left generators block) = IsExactFor r (rows_of generators)
+  Means r (Kernel Right generators block) = (length generators.rows ≡ r.cols) × IsExactFor (transposed_adjoint r) (transposed_adjoint (plain generators)).rows
+  Means r (Resolution links) = IsLength (length links) × IsResolution r r links (λ before last. Unit {0})
+  Means r (ExtZero links block) = IsLength (length links) × IsResolution r r links (λ before last. IsExactFor (transposed_adjoint last) (transposed_adjoint before).rows)
+  Means r (ExtNonzero links element block) = IsLength (length links) × IsResolution r r links (λ before last. (length element ≡ length before.rows)
+      × (combine rationals s (length last.rows) (sums_of element) (transposed_adjoint last).rows ≡ zero_row rationals (length last.rows))
+      × ¬ InRowModule rationals s (length before.rows) (transposed_adjoint before).rows (sums_of element))
   -- reports have no meaning yet, so none is true
   Means r (Halted report) = ⊥

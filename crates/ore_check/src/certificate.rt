@@ -1,32 +1,41 @@
 //! Whole certificates, and blocks of their own.
 
-ghost use Rattle.std.specs.Prelude.{◌≡◌, not, length};
+ghost use Rattle.std.specs.Prelude.{◌≡◌, ◌≢◌, ℕ, not, length};
 ghost use Rattle.ore_algebra.specs.Free.{none};
 ghost use Rattle.ore_rational.proofs.FractionLaws.{rationals};
 ghost use Rattle.ore_monomial.specs.Monomial.{plain_cmp};
-ghost use Rattle.ore_check.specs.Same.{operator_discrete};
+ghost use Rattle.ore_parts.specs.OfSignature.{IsExactOf, IsOutsideOf, MatrixOf};
+ghost use Rattle.ore_cert.specs.CertificateOf.{IsCertificateOf};
+ghost use Rattle.ore_blocks.specs.Same.{operator_discrete};
 ghost use Rattle.std.specs.List.{All};
 ghost use Rattle.ore_algebra.specs.Limits.{program};
 ghost use Rattle.ore_ring.specs.Belongs.{Belongs};
 ghost use Rattle.ore_rows.specs.Stored.{sums_of};
-ghost use Rattle.ore_check.specs.Belongs.{IsCertificateOf, IsExactOf, IsOutsideOf, MatrixOf};
-ghost use Rattle.ore_check.specs.Check.{Answers, IsBuilt, capped, check};
-ghost use Rattle.ore_check.specs.CheckBlock.{check_exact, check_outside, plain};
-ghost use Rattle.ore_check.specs.Conditions as conditions;
-ghost use Rattle.ore_check.specs.Judging.{Judges};
+ghost use Rattle.ore_rows.specs.Rows.{InRowModule, IsExact};
+ghost use Rattle.ore_rows.specs.Stored.{rows_of};
+ghost use Rattle.ore_check.specs.Check.{Answers, IsBuilt, IsNoReport, capped, check};
+ghost use Rattle.ore_check.specs.InnerContracts.{place_of};
+ghost use Rattle.ore_check.specs.Meaning.{Means};
+ghost use Rattle.ore_check.specs.Layout.{exact_line, line_in, outside_line};
+ghost use Rattle.ore_blocks.specs.CheckBlock.{check_exact, check_outside, plain};
+ghost use Rattle.ore_blocks.specs.Conditions as conditions;
+ghost use Rattle.ore_blocks.specs.Judging.{Judges, Refuses};
 
-use crate::answer::{Checked, Reason};
-use crate::block::{exact_block, outside_block};
-use crate::equal::{are_same, have_same_rows};
-use crate::formed::{combined, multiplied, scaled, turned};
-use crate::given::rows_give;
-use crate::refusal::{Refusal, required};
+use crate::answer::Checked;
+use crate::formed::{scaled, transposed_adjoint};
+use crate::layout::{exact_line, line_in, outside_line};
+use ore_blocks::equal::{are_same, have_same_rows};
+use ore_blocks::formed::{combined, multiplied};
+use ore_blocks::products::rows_give;
+use ore_blocks::refusal::required;
+use ore_blocks::{Name, Place, Reason, Refusal, Section, exact_block, outside_block};
 use ore_cert::{Certificate, ExactBlock, OutsideBlock, Side};
 use ore_ring::{Op, OreRing};
 use ore_rows::{Matrix, Row, identity, unit_row};
 use std::alloc::Global;
 
-/// Whether a certificate of the matrix `r` is valid, or the first line of its text that isn't right, from 1.
+/// Whether a certificate of the matrix `r` is valid, or the first line of its text that isn't right, from 1: the line of
+/// the first place whose condition fails, or of which an operation stops. Where it is valid, what it says of `r` is true.
 ///
 /// The operators of both are of the signature of the ring. A resolution, a certificate of an extension module and a
 /// report must not be handed in: their check isn't built yet. The certificate may have any sizes: that they fit `r` is
@@ -35,13 +44,18 @@ pub fn check<R: OreRing>(ring: &R, alloc: Global, r: &Matrix, cert: &Certificate
     requires of { All (All (Belongs (R.signature_of ring.now))) r.now.rows }
     requires cert_of { IsCertificateOf (R.signature_of ring.now) cert.now }
     requires built { IsBuilt cert.now }
-    ensures { Answers result (check program (R.signature_of ring.now) (plain r.now) cert.now) }
+    ensures answers { (claims : IsNoReport cert.now) → Answers (line_in cert.now) result (check program (R.signature_of ring.now) (plain r.now) cert.now claims) }
+    ensures valid { result ≡ Checked.Valid → Means (R.signature_of ring.now) (plain r.now) cert.now }
 {
-    answer(whole(ring, alloc, r, cert))
+    let _cols = r.cols();
+    let Err(refusal) = whole(ring, alloc, r, cert) else {
+        return Checked::Valid
+    };
+    answer(refusal, line_in(alloc, cert, place_of(refusal)))
 }
 
 /// Whether an exact block, whose line `block exact` has the number `first`, shows that the rows which take `a` to zeros
-/// are the row module of `l`, or the first line that isn't right.
+/// are the row module of `l`, or the first line that isn't right. Where it is valid, that is so.
 ///
 /// `l` has a column for each row of `a`; the block may have any sizes. All operators are of the signature of the ring.
 pub fn check_exact<R: OreRing>(
@@ -56,13 +70,19 @@ pub fn check_exact<R: OreRing>(
     requires a_of { All (All (Belongs (R.signature_of ring.now))) a.now.rows }
     requires l_of { All (All (Belongs (R.signature_of ring.now))) l.now.rows }
     requires block_of { IsExactOf (R.signature_of ring.now) block.now }
-    ensures { Answers result (check_exact program (R.signature_of ring.now) first (plain a.now) (plain l.now) block.now) }
+    ensures answers { Answers (exact_line first block.now) result (check_exact program (R.signature_of ring.now) Section.Body (plain a.now) (plain l.now) block.now) }
+    ensures exact { result ≡ Checked.Valid → IsExact rationals (R.signature_of ring.now) a.now.cols (rows_of a.now) (rows_of l.now) }
 {
-    answer(exact_block(ring, alloc, a, l, block, first as u128))
+    let _cols = a.cols();
+    let _columns = l.cols();
+    match exact_block(ring, alloc, a, l, block, Section::Body) {
+        Ok(()) => Checked::Valid,
+        Err(refusal) => answer(refusal, exact_line(first as u128, block, place_of(refusal))),
+    }
 }
 
 /// Whether an outside block, whose line `block outside` has the number `first`, shows that `w` is not in the row module
-/// of `a`, or the first line that isn't right.
+/// of `a`, or the first line that isn't right. Where it is valid, that is so.
 ///
 /// `w` has an entry for each column of `a`; the block may have any sizes. All operators are of the signature of the
 /// ring.
@@ -78,24 +98,43 @@ pub fn check_outside<R: OreRing>(
     requires a_of { All (All (Belongs (R.signature_of ring.now))) a.now.rows }
     requires w_of { All (Belongs (R.signature_of ring.now)) w.now }
     requires block_of { IsOutsideOf (R.signature_of ring.now) block.now }
-    ensures { Answers result (check_outside program (R.signature_of ring.now) first (plain a.now) (sums_of w.now) block.now) }
+    ensures answers { Answers (outside_line first block.now) result (check_outside program (R.signature_of ring.now) (plain a.now) (sums_of w.now) block.now) }
+    ensures outside { result ≡ Checked.Valid → ¬ InRowModule rationals (R.signature_of ring.now) a.now.cols (rows_of a.now) (sums_of w.now) }
 {
-    answer(outside_block(ring, alloc, a, w, block, first as u128))
+    match outside_block(ring, alloc, a, w, block) {
+        Ok(()) => Checked::Valid,
+        Err(refusal) => answer(
+            refusal,
+            outside_line(first as u128, block, place_of(refusal)),
+        ),
+    }
 }
 
-// The answer by the first line that isn't right.
-fn answer(judged: Result<(), Refusal>) -> Checked
-    ensures { (given : conditions.Checked (Unit {0})) → Judges (λ u. u) judged given → Answers result given }
+// The answer to a refusal, whose place has that line.
+fn answer(refusal: Refusal, line: u128) -> Checked
+    ensures fails { result ≢ Checked.Valid }
+    ensures answers { (at : Place → ℕ) (given : conditions.Checked (Unit {0})) → line ≡ at (place_of refusal) → Refuses refusal given → Answers at result given }
 {
-    match judged {
-        Ok(()) => Checked::Valid,
-        Err(Refusal::Fails { line, reason }) => Checked::Invalid {
+    match refusal {
+        Refusal::Fails { reason, .. } => Checked::Invalid {
             line: capped(line),
             reason,
         },
-        Err(Refusal::Overflow { line }) => Checked::Overflow { line: capped(line) },
-        Err(Refusal::Degree { line }) => Checked::Degree { line: capped(line) },
-        Err(Refusal::Memory) => Checked::Memory,
+        Refusal::Overflow { .. } => Checked::Overflow { line: capped(line) },
+        Refusal::Degree { .. } => Checked::Degree { line: capped(line) },
+        Refusal::Memory => Checked::Memory,
+    }
+}
+
+// The place that a refusal names; want of memory has none.
+fn place_of(refusal: Refusal) -> Place
+    ensures { result ≡ place_of refusal }
+{
+    match refusal {
+        Refusal::Fails { place, .. } => place,
+        Refusal::Overflow { place } => place,
+        Refusal::Degree { place } => place,
+        Refusal::Memory => Place::End,
     }
 }
 
@@ -115,7 +154,7 @@ fn whole<R: OreRing>(ring: &R, alloc: Global, r: &Matrix, cert: &Certificate) ->
     requires of { All (All (Belongs (R.signature_of ring.now))) r.now.rows }
     requires cert_of { IsCertificateOf (R.signature_of ring.now) cert.now }
     requires built { IsBuilt cert.now }
-    ensures { Judges (λ u. u) result (check program (R.signature_of ring.now) (plain r.now) cert.now) }
+    ensures { (claims : IsNoReport cert.now) → Judges (λ u. u) result (check program (R.signature_of ring.now) (plain r.now) cert.now claims) }
 {
     match cert {
         Certificate::Controllable { q, block } => controllable(ring, alloc, r, q, block),
@@ -132,15 +171,10 @@ fn whole<R: OreRing>(ring: &R, alloc: Global, r: &Matrix, cert: &Certificate) ->
             ring, alloc, r, *unit, block,
         ),
         Certificate::Kernel {
-            side: Side::Left,
+            side,
             generators,
             block,
-        } => left_kernel(ring, alloc, r, generators, block),
-        Certificate::Kernel {
-            side: Side::Right,
-            generators,
-            block,
-        } => right_kernel(ring, alloc, r, generators, block),
+        } => kernel(ring, alloc, r, *side, generators, block),
         Certificate::Resolution { .. } => unreachable!(),
         Certificate::ExtZero { .. } => unreachable!(),
         Certificate::ExtNonzero { .. } => unreachable!(),
@@ -148,7 +182,7 @@ fn whole<R: OreRing>(ring: &R, alloc: Global, r: &Matrix, cert: &Certificate) ->
     }
 }
 
-#[tactic(auto, using(crate::proofs::Refusals::refuses_on), unfolding(crate::specs::Check::check))]
+#[tactic(auto, using(ore_blocks::proofs::Refusals::refuses_on), unfolding(crate::specs::Check::check))]
 fn controllable<R: OreRing>(
     ring: &R,
     alloc: Global,
@@ -159,13 +193,17 @@ fn controllable<R: OreRing>(
     requires of { All (All (Belongs (R.signature_of ring.now))) r.now.rows }
     requires q_of { MatrixOf (R.signature_of ring.now) q.now }
     requires block_of { IsExactOf (R.signature_of ring.now) block.now }
-    ensures { Judges (λ u. u) result (check program (R.signature_of ring.now) (plain r.now) (Certificate.Controllable q.now block.now)) }
+    ensures { Judges (λ u. u) result (check program (R.signature_of ring.now) (plain r.now) (Certificate.Controllable q.now block.now) tt) }
 {
-    required(3, Reason::Shape, q.rows() == r.cols())?;
-    exact_block(ring, alloc, q, r, block, 4 + q.rows() as u128)
+    required(
+        Place::Header(Section::Body, Name::Generators),
+        Reason::Shape,
+        q.rows() == r.cols(),
+    )?;
+    exact_block(ring, alloc, q, r, block, Section::Body)
 }
 
-#[tactic(auto, using(crate::proofs::Refusals::refuses_on), unfolding(crate::specs::Check::check))]
+#[tactic(auto, using(ore_blocks::proofs::Refusals::refuses_on), unfolding(crate::specs::Check::check))]
 fn autonomous<R: OreRing>(
     ring: &R,
     alloc: Global,
@@ -180,15 +218,24 @@ fn autonomous<R: OreRing>(
     requires operator_of { Belongs (R.signature_of ring.now) operator.now }
     requires cofactor_of { All (Belongs (R.signature_of ring.now)) cofactor.now }
     requires block_of { IsOutsideOf (R.signature_of ring.now) block.now }
-    ensures { Judges (λ u. u) result (check program (R.signature_of ring.now) (plain r.now) (Certificate.AutonomousElement element.now operator.now cofactor.now block.now)) }
+    ensures { Judges (λ u. u) result (check program (R.signature_of ring.now) (plain r.now) (Certificate.AutonomousElement element.now operator.now cofactor.now block.now) tt) }
 {
-    required(3, Reason::Shape, element.len() == r.cols())?;
-    required(5, Reason::ZeroOperator, is_nonzero(operator))?;
-    required(6, Reason::Shape, cofactor.len() == r.rows())?;
-    let left = scaled(ring, alloc, 7, operator, element)?;
-    let right = combined(ring, alloc, 7, cofactor, r)?;
-    required(7, Reason::Cofactor, are_same(ring, &left, &right))?;
-    outside_block(ring, alloc, r, element, block, 8)
+    required(
+        Place::Header(Section::Body, Name::Element),
+        Reason::Shape,
+        element.len() == r.cols(),
+    )?;
+    required(Place::Operator, Reason::ZeroOperator, is_nonzero(operator))?;
+    required(
+        Place::Header(Section::Body, Name::Cofactor),
+        Reason::Shape,
+        cofactor.len() == r.rows(),
+    )?;
+    let place = Place::Row(Section::Body, Name::Cofactor, 0);
+    let left = scaled(ring, alloc, place, operator, element)?;
+    let right = combined(ring, alloc, place, cofactor, r)?;
+    required(place, Reason::Cofactor, are_same(ring, &left, &right))?;
+    outside_block(ring, alloc, r, element, block)
 }
 
 // Whether an operator isn't zero.
@@ -198,43 +245,51 @@ fn is_nonzero(operator: &Op) -> bool
     !operator.is_zero()
 }
 
-#[tactic(auto, using(crate::proofs::Refusals::refuses_on), unfolding(crate::specs::Check::check))]
+#[tactic(auto, using(ore_blocks::proofs::Refusals::refuses_on), unfolding(crate::specs::Check::check))]
 fn left_inverse<R: OreRing>(ring: &R, alloc: Global, r: &Matrix, s: &Matrix) -> Result<(), Refusal>
     requires of { All (All (Belongs (R.signature_of ring.now))) r.now.rows }
     requires s_of { MatrixOf (R.signature_of ring.now) s.now }
-    ensures { Judges (λ u. u) result (check program (R.signature_of ring.now) (plain r.now) (Certificate.LeftInverse s.now)) }
+    ensures { Judges (λ u. u) result (check program (R.signature_of ring.now) (plain r.now) (Certificate.LeftInverse s.now) tt) }
 {
     required(
-        3,
+        Place::Header(Section::Body, Name::Inverse),
         Reason::Shape,
         s.rows() == r.cols() && s.cols() == r.rows(),
     )?;
     let wanted = identity(alloc, ring.signature(), r.cols())?;
-    rows_give(ring, alloc, Reason::Identity, r, 4, s, &wanted)
+    rows_give(
+        ring,
+        alloc,
+        Reason::Identity,
+        r,
+        Section::Body,
+        Name::Inverse,
+        s,
+        &wanted,
+    )
 }
 
-#[tactic(auto, using(crate::proofs::Refusals::refuses_on), unfolding(crate::specs::Check::check))]
+#[tactic(auto, using(ore_blocks::proofs::Refusals::refuses_on), unfolding(crate::specs::Check::check))]
 fn right_inverse<R: OreRing>(ring: &R, alloc: Global, r: &Matrix, s: &Matrix) -> Result<(), Refusal>
     requires of { All (All (Belongs (R.signature_of ring.now))) r.now.rows }
     requires s_of { MatrixOf (R.signature_of ring.now) s.now }
-    ensures { Judges (λ u. u) result (check program (R.signature_of ring.now) (plain r.now) (Certificate.RightInverse s.now)) }
+    ensures { Judges (λ u. u) result (check program (R.signature_of ring.now) (plain r.now) (Certificate.RightInverse s.now) tt) }
 {
     required(
-        3,
+        Place::Header(Section::Body, Name::Inverse),
         Reason::Shape,
         s.rows() == r.cols() && s.cols() == r.rows(),
     )?;
-    let line = 4 + s.rows() as u128;
-    let product = multiplied(ring, alloc, line, r, s)?;
+    let product = multiplied(ring, alloc, Place::End, r, s)?;
     let wanted = identity(alloc, ring.signature(), r.rows())?;
     required(
-        line,
+        Place::End,
         Reason::Identity,
         have_same_rows(ring, &product, &wanted),
     )
 }
 
-#[tactic(auto, using(crate::proofs::Refusals::refuses_on), unfolding(crate::specs::Check::check))]
+#[tactic(auto, using(ore_blocks::proofs::Refusals::refuses_on), unfolding(crate::specs::Check::check))]
 fn no_left_inverse<R: OreRing>(
     ring: &R,
     alloc: Global,
@@ -244,14 +299,14 @@ fn no_left_inverse<R: OreRing>(
 ) -> Result<(), Refusal>
     requires of { All (All (Belongs (R.signature_of ring.now))) r.now.rows }
     requires block_of { IsOutsideOf (R.signature_of ring.now) block.now }
-    ensures { Judges (λ u. u) result (check program (R.signature_of ring.now) (plain r.now) (Certificate.NoLeftInverse unit block.now)) }
+    ensures { Judges (λ u. u) result (check program (R.signature_of ring.now) (plain r.now) (Certificate.NoLeftInverse unit block.now) tt) }
 {
-    required(3, Reason::Unit, unit < r.cols())?;
+    required(Place::Unit, Reason::Unit, unit < r.cols())?;
     let row = unit_row(alloc, ring.signature(), r.cols(), unit)?;
-    outside_block(ring, alloc, r, &row, block, 4)
+    outside_block(ring, alloc, r, &row, block)
 }
 
-#[tactic(auto, using(crate::proofs::Refusals::refuses_on), unfolding(crate::specs::Check::check))]
+#[tactic(auto, using(ore_blocks::proofs::Refusals::refuses_on), unfolding(crate::specs::Check::check))]
 fn no_right_inverse<R: OreRing>(
     ring: &R,
     alloc: Global,
@@ -261,15 +316,35 @@ fn no_right_inverse<R: OreRing>(
 ) -> Result<(), Refusal>
     requires of { All (All (Belongs (R.signature_of ring.now))) r.now.rows }
     requires block_of { IsOutsideOf (R.signature_of ring.now) block.now }
-    ensures { Judges (λ u. u) result (check program (R.signature_of ring.now) (plain r.now) (Certificate.NoRightInverse unit block.now)) }
+    ensures { Judges (λ u. u) result (check program (R.signature_of ring.now) (plain r.now) (Certificate.NoRightInverse unit block.now) tt) }
 {
-    required(3, Reason::Unit, unit < r.rows())?;
-    let turned = turned(ring, alloc, 4, r)?;
+    required(Place::Unit, Reason::Unit, unit < r.rows())?;
+    let adjoint = transposed_adjoint(ring, alloc, Place::Block(Section::Body), r)?;
     let row = unit_row(alloc, ring.signature(), r.rows(), unit)?;
-    outside_block(ring, alloc, &turned, &row, block, 4)
+    outside_block(ring, alloc, &adjoint, &row, block)
 }
 
-#[tactic(auto, using(crate::proofs::Refusals::refuses_on), unfolding(crate::specs::Check::check))]
+// A kernel, by its side.
+fn kernel<R: OreRing>(
+    ring: &R,
+    alloc: Global,
+    r: &Matrix,
+    side: Side,
+    generators: &Matrix,
+    block: &ExactBlock,
+) -> Result<(), Refusal>
+    requires of { All (All (Belongs (R.signature_of ring.now))) r.now.rows }
+    requires generators_of { MatrixOf (R.signature_of ring.now) generators.now }
+    requires block_of { IsExactOf (R.signature_of ring.now) block.now }
+    ensures { Judges (λ u. u) result (check program (R.signature_of ring.now) (plain r.now) (Certificate.Kernel side generators.now block.now) tt) }
+{
+    match side {
+        Side::Left => left_kernel(ring, alloc, r, generators, block),
+        Side::Right => right_kernel(ring, alloc, r, generators, block),
+    }
+}
+
+#[tactic(auto, using(ore_blocks::proofs::Refusals::refuses_on), unfolding(crate::specs::Check::check))]
 fn left_kernel<R: OreRing>(
     ring: &R,
     alloc: Global,
@@ -280,20 +355,17 @@ fn left_kernel<R: OreRing>(
     requires of { All (All (Belongs (R.signature_of ring.now))) r.now.rows }
     requires generators_of { MatrixOf (R.signature_of ring.now) generators.now }
     requires block_of { IsExactOf (R.signature_of ring.now) block.now }
-    ensures { Judges (λ u. u) result (check program (R.signature_of ring.now) (plain r.now) (Certificate.Kernel Side.Left generators.now block.now)) }
+    ensures { Judges (λ u. u) result (check program (R.signature_of ring.now) (plain r.now) (Certificate.Kernel Side.Left generators.now block.now) tt) }
 {
-    required(3, Reason::Shape, generators.cols() == r.rows())?;
-    exact_block(
-        ring,
-        alloc,
-        r,
-        generators,
-        block,
-        4 + generators.rows() as u128,
-    )
+    required(
+        Place::Header(Section::Body, Name::Generators),
+        Reason::Shape,
+        generators.cols() == r.rows(),
+    )?;
+    exact_block(ring, alloc, r, generators, block, Section::Body)
 }
 
-#[tactic(auto, using(crate::proofs::Refusals::refuses_on), unfolding(crate::specs::Check::check))]
+#[tactic(auto, using(ore_blocks::proofs::Refusals::refuses_on), unfolding(crate::specs::Check::check))]
 fn right_kernel<R: OreRing>(
     ring: &R,
     alloc: Global,
@@ -304,11 +376,22 @@ fn right_kernel<R: OreRing>(
     requires of { All (All (Belongs (R.signature_of ring.now))) r.now.rows }
     requires generators_of { MatrixOf (R.signature_of ring.now) generators.now }
     requires block_of { IsExactOf (R.signature_of ring.now) block.now }
-    ensures { Judges (λ u. u) result (check program (R.signature_of ring.now) (plain r.now) (Certificate.Kernel Side.Right generators.now block.now)) }
+    ensures { Judges (λ u. u) result (check program (R.signature_of ring.now) (plain r.now) (Certificate.Kernel Side.Right generators.now block.now) tt) }
 {
-    required(3, Reason::Shape, generators.rows() == r.cols())?;
-    let line = 4 + generators.rows() as u128;
-    let turned_matrix = turned(ring, alloc, line, r)?;
-    let turned_generators = turned(ring, alloc, line, generators)?;
-    exact_block(ring, alloc, &turned_matrix, &turned_generators, block, line)
+    required(
+        Place::Header(Section::Body, Name::Generators),
+        Reason::Shape,
+        generators.rows() == r.cols(),
+    )?;
+    let place = Place::Block(Section::Body);
+    let matrix_adjoint = transposed_adjoint(ring, alloc, place, r)?;
+    let generators_adjoint = transposed_adjoint(ring, alloc, place, generators)?;
+    exact_block(
+        ring,
+        alloc,
+        &matrix_adjoint,
+        &generators_adjoint,
+        block,
+        Section::Body,
+    )
 }

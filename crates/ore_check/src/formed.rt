@@ -1,340 +1,64 @@
-//! Operations that a line calls for.
+//! Operations that a place of a kind calls for.
 
-ghost use Rattle.std.specs.Prelude.{◌≡◌, ◌<◌, ◌≤◌, length, IfOk, IfErr};
+ghost use Rattle.std.specs.Prelude.{◌≡◌, length, IfOk};
 ghost use Rattle.std.specs.List.{All};
 ghost use Rattle.ore_adjoint.specs.AdjointMatrix.{transpose_adjoint_within};
 ghost use Rattle.ore_algebra.specs.Limits.{program};
-ghost use Rattle.ore_rational.proofs.FractionLaws.{rationals};
-ghost use Rattle.ore_monomial.specs.Gives.{Gives};
-ghost use Rattle.ore_monomial.specs.Monomial.{degree};
-ghost use Rattle.ore_monomial.specs.Signature.{MonomialOf};
-ghost use Rattle.ore_monomial.specs.declared.stop.RingStop.TheVariants.{Memory};
 ghost use Rattle.ore_ring.specs.Belongs.{Belongs};
-ghost use Rattle.ore_rows.specs.Arithmetic.{within};
-ghost use Rattle.ore_rows.specs.Reduction.{less_multiple, step_operator};
-ghost use Rattle.ore_rows.specs.RowsWithin.{combine_within, difference_within, matrix_times_within, scale_within};
+ghost use Rattle.ore_rows.specs.RowsWithin.{scale_within};
 ghost use Rattle.ore_rows.specs.Stored.{rows_of, sums_of};
-ghost use Rattle.ore_pairs.specs.Steps.{pair_term};
-ghost use Rattle.ore_check.specs.Belongs.{AreStepsOf};
-ghost use Rattle.ore_check.specs.Conditions.{formed};
-ghost use Rattle.ore_check.specs.Judging.{Judges};
-ghost use Rattle.ore_check.specs.LineConditions.{raised_less, less_step, less_steps};
+ghost use Rattle.ore_blocks.specs.Conditions.{formed};
+ghost use Rattle.ore_blocks.specs.Judging.{Judges};
 
-use crate::refusal::{Refusal, stopped};
 use ore_adjoint::transpose_adjoint;
-use ore_leads::Leads;
-use ore_monomial::RingStop;
-use ore_pairs::multiples::{common_multiple, multiples_less, multiplier};
+use ore_blocks::refusal::stopped;
+use ore_blocks::{Place, Refusal};
 use ore_ring::{Op, OreRing};
-use ore_rows::{Matrix, Row, Step, Steps, combine, row_sub, scale, times};
+use ore_rows::{Matrix, Row, scale};
 use std::alloc::Global;
 
-/// A row times a matrix, at a line. The matrix has a row for each entry of the row.
+/// An operator times each entry of a row, at a place.
 ///
 /// # Errors
-/// The stop of the first product or sum that stops, with the line; and want of memory.
-#[tactic(auto, using(crate::proofs::Refusals::stopped_refuses))]
-pub fn combined<R: OreRing>(
-    ring: &R,
-    alloc: Global,
-    line: u128,
-    c: &Row,
-    m: &Matrix,
-) -> Result<Row, Refusal>
-    requires rows { length c.now ≡ length m.now.rows }
-    requires c_of { All (Belongs (R.signature_of ring.now)) c.now }
-    requires m_of { All (All (Belongs (R.signature_of ring.now))) m.now.rows }
-    ensures judges { Judges sums_of result (formed line (combine_within program (R.signature_of ring.now) m.now.cols (sums_of c.now) (rows_of m.now))) }
-    ensures of { IfOk result (All (Belongs (R.signature_of ring.now))) }
-    ensures width { IfOk result (λ r. length r ≡ m.now.cols) }
-{
-    match combine(ring, alloc, c, m) {
-        Ok(row) => Ok(row),
-        Err(stop) => Err(stopped(line, stop)),
-    }
-}
-
-/// The product of two matrices, at a line. The first has a column for each row of the second.
-///
-/// # Errors
-/// The stop of the first row that stops, with the line; and want of memory.
-#[tactic(auto, using(crate::proofs::Refusals::stopped_refuses))]
-pub fn multiplied<R: OreRing>(
-    ring: &R,
-    alloc: Global,
-    line: u128,
-    a: &Matrix,
-    b: &Matrix,
-) -> Result<Matrix, Refusal>
-    requires fits { a.now.cols ≡ length b.now.rows }
-    requires a_of { All (All (Belongs (R.signature_of ring.now))) a.now.rows }
-    requires b_of { All (All (Belongs (R.signature_of ring.now))) b.now.rows }
-    ensures judges { Judges rows_of result (formed line (matrix_times_within program (R.signature_of ring.now) b.now.cols (rows_of a.now) (rows_of b.now))) }
-    ensures of { IfOk result (λ m. All (All (Belongs (R.signature_of ring.now))) m.rows) }
-{
-    match times(ring, alloc, a, b) {
-        Ok(product) => Ok(product),
-        Err(stop) => Err(stopped(line, stop)),
-    }
-}
-
-/// An operator times each entry of a row, at a line.
-///
-/// # Errors
-/// The stop of the first product that stops, with the line; and want of memory.
-#[tactic(auto, using(crate::proofs::Refusals::stopped_refuses))]
+/// The stop of the first product that stops, with the place; and want of memory.
+#[tactic(auto, using(ore_blocks::proofs::Refusals::stopped_refuses))]
 pub fn scaled<R: OreRing>(
     ring: &R,
     alloc: Global,
-    line: u128,
+    place: Place,
     f: &Op,
     row: &Row,
 ) -> Result<Row, Refusal>
     requires f_of { Belongs (R.signature_of ring.now) f.now }
     requires row_of { All (Belongs (R.signature_of ring.now)) row.now }
-    ensures judges { Judges sums_of result (formed line (scale_within program (R.signature_of ring.now) f.now.sum (sums_of row.now))) }
+    ensures judges { Judges sums_of result (formed place (scale_within program (R.signature_of ring.now) f.now.sum (sums_of row.now))) }
     ensures of { IfOk result (All (Belongs (R.signature_of ring.now))) }
 {
     match scale(ring, alloc, f, row) {
         Ok(multiple) => Ok(multiple),
-        Err(stop) => Err(stopped(line, stop)),
+        Err(stop) => Err(stopped(place, stop)),
     }
 }
 
-/// A row less another of the same length, at a line.
+/// The transposed adjoint of a matrix, at a place: a row for each column, and a column for each row.
 ///
 /// # Errors
-/// The stop of the first difference that stops, with the line; and want of memory.
-#[tactic(auto, using(crate::proofs::Refusals::stopped_refuses))]
-pub fn difference<R: OreRing>(
+/// The stop of the first adjoint that stops, with the place; and want of memory.
+#[tactic(auto, using(ore_blocks::proofs::Refusals::stopped_refuses))]
+pub fn transposed_adjoint<R: OreRing>(
     ring: &R,
     alloc: Global,
-    line: u128,
-    a: &Row,
-    b: &Row,
-) -> Result<Row, Refusal>
-    requires lengths { length a.now ≡ length b.now }
-    requires a_of { All (Belongs (R.signature_of ring.now)) a.now }
-    requires b_of { All (Belongs (R.signature_of ring.now)) b.now }
-    ensures judges { Judges sums_of result (formed line (difference_within program (sums_of a.now) (sums_of b.now))) }
-    ensures of { IfOk result (All (Belongs (R.signature_of ring.now))) }
-{
-    match row_sub(ring, alloc, a, b) {
-        Ok(row) => Ok(row),
-        Err(stop) => Err(stopped(line, stop)),
-    }
-}
-
-/// The transposed adjoint of a matrix, at a line: a row for each column, and a column for each row.
-///
-/// # Errors
-/// The stop of the first adjoint that stops, with the line; and want of memory.
-#[tactic(auto, using(crate::proofs::Refusals::stopped_refuses))]
-pub fn turned<R: OreRing>(
-    ring: &R,
-    alloc: Global,
-    line: u128,
+    place: Place,
     m: &Matrix,
 ) -> Result<Matrix, Refusal>
     requires of { All (All (Belongs (R.signature_of ring.now))) m.now.rows }
-    ensures judges { Judges rows_of result (formed line (transpose_adjoint_within program (R.signature_of ring.now) m.now.cols (rows_of m.now))) }
+    ensures judges { Judges rows_of result (formed place (transpose_adjoint_within program (R.signature_of ring.now) m.now.cols (rows_of m.now))) }
     ensures cols { IfOk result (λ t. t.cols ≡ length m.now.rows) }
     ensures count { IfOk result (λ t. length t.rows ≡ m.now.cols) }
     ensures of { IfOk result (λ t. All (All (Belongs (R.signature_of ring.now))) t.rows) }
 {
     match transpose_adjoint(ring, alloc, m) {
         Ok(matrix) => Ok(matrix),
-        Err(stop) => Err(stopped(line, stop)),
+        Err(stop) => Err(stopped(place, stop)),
     }
-}
-
-/// Row `i` of `m` less row `j`, both raised to the common multiple of the leads there, at a line. `m` has a row for
-/// each lead, and the degree of the common multiple is at most 32,767.
-///
-/// # Errors
-/// The stop of the first product or difference that stops, with the line; and want of memory.
-#[tactic(auto, using(crate::proofs::Refusals::stopped_refuses))]
-pub fn raised_less_at<R: OreRing>(
-    ring: &R,
-    alloc: Global,
-    line: u128,
-    leads: &Leads,
-    m: &Matrix,
-    i: usize,
-    j: usize,
-) -> Result<Row, Refusal>
-    requires first { i < length leads.now }
-    requires second { j < length leads.now }
-    requires rows { length m.now.rows ≡ length leads.now }
-    requires fits { degree (pair_term leads.now i j).monomial ≤ 32767 }
-    requires leads_of { All (λ t. MonomialOf (R.signature_of ring.now) t.monomial) leads.now }
-    requires m_of { All (All (Belongs (R.signature_of ring.now))) m.now.rows }
-    ensures judges { Judges sums_of result (formed line (raised_less program (R.signature_of ring.now) leads.now (rows_of m.now) i j)) }
-    ensures of { IfOk result (All (Belongs (R.signature_of ring.now))) }
-    ensures width { IfOk result (λ r. length r ≡ m.now.cols) }
-{
-    match raised_less(ring, alloc, leads, m, i, j) {
-        Ok(row) => Ok(row),
-        Err(stop) => Err(stopped(line, stop)),
-    }
-}
-
-/// A row less a step times its row of `m`, at a line. The row has an entry for each column of `m`, and the step names a
-/// row of `m`.
-///
-/// # Errors
-/// The stop of the first product or difference that stops, with the line; and want of memory.
-#[tactic(auto, using(crate::proofs::Refusals::stopped_refuses))]
-pub fn less_step_at<R: OreRing>(
-    ring: &R,
-    alloc: Global,
-    line: u128,
-    m: &Matrix,
-    row: &Row,
-    step: &Step,
-) -> Result<Row, Refusal>
-    requires place { step.now.index < length m.now.rows }
-    requires width { length row.now ≡ m.now.cols }
-    requires step_of { MonomialOf (R.signature_of ring.now) step.now.monomial }
-    requires row_of { All (Belongs (R.signature_of ring.now)) row.now }
-    requires m_of { All (All (Belongs (R.signature_of ring.now))) m.now.rows }
-    ensures judges { Judges sums_of result (formed line (less_step program (R.signature_of ring.now) (rows_of m.now) step.now (sums_of row.now))) }
-    ensures of { IfOk result (All (Belongs (R.signature_of ring.now))) }
-    ensures width { IfOk result (λ r. length r ≡ m.now.cols) }
-{
-    match less_step(ring, alloc, m, row, step) {
-        Ok(left) => Ok(left),
-        Err(stop) => Err(stopped(line, stop)),
-    }
-}
-
-/// A row less each step times its row of `m`, in order, at a line. The row has an entry for each column of `m`, and
-/// each step names a row of `m`.
-///
-/// # Errors
-/// The stop of the first product or difference that stops, with the line; and want of memory.
-#[tactic(auto, using(crate::proofs::Refusals::stopped_refuses))]
-pub fn less_steps_at<R: OreRing>(
-    ring: &R,
-    alloc: Global,
-    line: u128,
-    m: &Matrix,
-    row: Row,
-    steps: &Steps,
-) -> Result<Row, Refusal>
-    requires places { All (λ t. t.index < length m.now.rows) steps.now }
-    requires width { length row ≡ m.now.cols }
-    requires steps_of { AreStepsOf (R.signature_of ring.now) steps.now }
-    requires row_of { All (Belongs (R.signature_of ring.now)) row }
-    requires m_of { All (All (Belongs (R.signature_of ring.now))) m.now.rows }
-    ensures judges { Judges sums_of result (formed line (less_steps program (R.signature_of ring.now) (rows_of m.now) steps.now (sums_of row))) }
-    ensures of { IfOk result (All (Belongs (R.signature_of ring.now))) }
-{
-    match less_steps(ring, alloc, m, row, steps) {
-        Ok(left) => Ok(left),
-        Err(stop) => Err(stopped(line, stop)),
-    }
-}
-
-// Row `i` of `m` less row `j`, both raised to the common multiple of the leads there.
-fn raised_less<R: OreRing>(
-    ring: &R,
-    alloc: Global,
-    leads: &Leads,
-    m: &Matrix,
-    i: usize,
-    j: usize,
-) -> Result<Row, RingStop>
-    requires first { i < length leads.now }
-    requires second { j < length leads.now }
-    requires rows { length m.now.rows ≡ length leads.now }
-    requires fits { degree (pair_term leads.now i j).monomial ≤ 32767 }
-    requires leads_of { All (λ t. MonomialOf (R.signature_of ring.now) t.monomial) leads.now }
-    requires m_of { All (All (Belongs (R.signature_of ring.now))) m.now.rows }
-    ensures gives { Gives sums_of result (raised_less program (R.signature_of ring.now) leads.now (rows_of m.now) i j) }
-    ensures of { IfOk result (All (Belongs (R.signature_of ring.now))) }
-    ensures width { IfOk result (λ r. length r ≡ m.now.cols) }
-{
-    let Ok(multiple) = common_multiple(leads, i, j) else {
-        unreachable!()
-    };
-    let first = multiplier(ring, alloc, leads, i, &multiple)?;
-    let second = multiplier(ring, alloc, leads, j, &multiple)?;
-    multiples_less(ring, alloc, &first, m.row(i), &second, m.row(j))
-}
-
-// A row less each step times its row of `m`, in order.
-fn less_steps<R: OreRing>(
-    ring: &R,
-    alloc: Global,
-    m: &Matrix,
-    row: Row,
-    steps: &Steps,
-) -> Result<Row, RingStop>
-    requires places { All (λ t. t.index < length m.now.rows) steps.now }
-    requires width { length row ≡ m.now.cols }
-    requires steps_of { AreStepsOf (R.signature_of ring.now) steps.now }
-    requires row_of { All (Belongs (R.signature_of ring.now)) row }
-    requires m_of { All (All (Belongs (R.signature_of ring.now))) m.now.rows }
-    ensures gives { Gives sums_of result (less_steps program (R.signature_of ring.now) (rows_of m.now) steps.now (sums_of row)) }
-    ensures of { IfOk result (All (Belongs (R.signature_of ring.now))) }
-{
-    let mut left = row;
-    for k in 0..steps.len() {
-        left = less_step(ring, alloc, m, &left, steps.get(k))?;
-    }
-    Ok(left)
-}
-
-// A row less a step times its row of `m`.
-fn less_step<R: OreRing>(
-    ring: &R,
-    alloc: Global,
-    m: &Matrix,
-    row: &Row,
-    step: &Step,
-) -> Result<Row, RingStop>
-    requires place { step.now.index < length m.now.rows }
-    requires width { length row.now ≡ m.now.cols }
-    requires step_of { MonomialOf (R.signature_of ring.now) step.now.monomial }
-    requires row_of { All (Belongs (R.signature_of ring.now)) row.now }
-    requires m_of { All (All (Belongs (R.signature_of ring.now))) m.now.rows }
-    ensures gives { Gives sums_of result (less_step program (R.signature_of ring.now) (rows_of m.now) step.now (sums_of row.now)) }
-    ensures of { IfOk result (All (Belongs (R.signature_of ring.now))) }
-    ensures width { IfOk result (λ r. length r ≡ m.now.cols) }
-{
-    let term = step_term(ring, alloc, step)?;
-    row_less(ring, alloc, row, &term, m.row(step.index))
-}
-
-// The operator that a step multiplies with.
-fn step_term<R: OreRing>(ring: &R, alloc: Global, step: &Step) -> Result<Op, RingStop>
-    requires { MonomialOf (R.signature_of ring.now) step.now.monomial }
-    ensures value { IfOk result (λ f. f.sum ≡ step_operator rationals step.now) }
-    ensures of { IfOk result (Belongs (R.signature_of ring.now)) }
-    ensures memory { IfErr result (λ e. e ≡ Memory) }
-{
-    let order = ring.signature().order();
-    Ok(Op::term(alloc, order, step.exps, step.coef)?)
-}
-
-// A row less the multiple of another.
-#[tactic(auto, unfolding(ore_rows::specs::Reduction::less_multiple))]
-fn row_less<R: OreRing>(
-    ring: &R,
-    alloc: Global,
-    row: &Row,
-    term: &Op,
-    other: &Row,
-) -> Result<Row, RingStop>
-    requires width { length row.now ≡ length other.now }
-    requires row_of { All (Belongs (R.signature_of ring.now)) row.now }
-    requires term_of { Belongs (R.signature_of ring.now) term.now }
-    requires other_of { All (Belongs (R.signature_of ring.now)) other.now }
-    ensures gives { Gives sums_of result (less_multiple rationals (within program (R.signature_of ring.now)) term.now.sum (sums_of other.now) (sums_of row.now)) }
-    ensures of { IfOk result (All (Belongs (R.signature_of ring.now))) }
-    ensures width { IfOk result (λ r. length r ≡ length row.now) }
-{
-    let multiple = scale(ring, alloc, term, other)?;
-    row_sub(ring, alloc, row, &multiple)
 }

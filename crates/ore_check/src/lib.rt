@@ -1,43 +1,29 @@
 //! The checker of certificates.
 //!
-//! A certificate is checked line by line: each line has conditions, which are identities of rows and comparisons of
-//! leads, in the order in which its operations are formed. The first line whose condition fails, or of which an
-//! operation stops, decides. What one line asks stands in `specs/LineConditions.antt`, what lists of lines and blocks
-//! ask in `specs/CheckBlock.antt`, and what each kind of certificate asks in `specs/Check.antt`.
+//! A certificate is checked place by place: each place has conditions, in the order in which its operations are formed.
+//! The first place whose condition fails, or of which an operation stops, decides, and its line in the text is answered.
+//! What each kind of certificate asks stands in `specs/Check.antt`, what its blocks ask in
+//! `ore_blocks/specs/CheckBlock.antt`, and which line a place has in `specs/Layout.antt`, alone.
 //!
 //! [`check`] answers just that for a whole certificate, but for the kinds that aren't built yet (`IsBuilt` of
-//! `specs/Check.antt`), [`check_exact`] and [`check_outside`] for a block. The laws of [`laws`] say what follows, over
+//! `specs/Check.antt`; of a report there is nothing to answer), [`check_exact`] and [`check_outside`] for a block. Where
+//! a block is valid their clauses say what it shows. The laws of [`laws`] say what follows for whole certificates, over
 //! numbers of any size: a valid certificate is true by its meaning (`specs/Meaning.antt`), which speaks of rows alone.
 //!
-//! Inside, each function answers a value or a refusal, which names its line (`specs/Judging.antt`). Lines are counted
-//! in 128 bits, which no certificate in memory passes, and the answer has 2^64 - 1 for any greater. A call that forms
-//! the value of several conditions goes through them in the order of the definition, so that the refusal is the first.
-//! A function that checks one line has the name of its condition. The functions ask that all operators that they are
-//! handed are of the signature of the ring.
+//! Inside, each function answers a value or a refusal, which names its place (`ore_blocks/specs/Judging.antt`). Lines
+//! are counted in 128 bits, which no certificate in memory passes, and the answer has 2^64 - 1 for any greater. The
+//! functions ask that all operators that they are handed are of the signature of the ring.
 //!
-//! Not proved, but how the check is built: it copies no row of a certificate, forms each row once, and counts the pairs
-//! of a basis column by column in an ordered map.
-//!
-//! The crate stands on `ore_cert` for certificates, on `ore_adjoint` for transposed adjoints, on `ore_pairs` for the
-//! rule and the multiples of a pair and for what valid blocks show, and on `ore_rows` and below for arithmetic.
+//! The crate stands on `ore_cert` for certificates, on `ore_blocks` for the check of blocks and for refusals, on
+//! `ore_adjoint` for transposed adjoints, and on `ore_rows` and below for arithmetic.
 #![tactic(auto)]
 
 pub mod answer;
-mod block;
 pub mod certificate;
-mod count;
-mod equal;
 mod formed;
-mod given;
-mod inside;
 pub mod laws;
-mod monic;
-mod pairs;
-mod refusal;
-mod taken;
+mod layout;
 
-pub use answer::{Checked, Reason};
+pub use answer::Checked;
 pub use certificate::{check, check_exact, check_outside};
-
-#[cfg(test)]
-mod tests;
+pub use ore_blocks::Reason;

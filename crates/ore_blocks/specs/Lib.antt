@@ -1,0 +1,6 @@
+pub mod Same
+pub mod Conditions
+pub mod PlaceConditions
+pub mod CheckBlock
+pub mod Judging
+pub mod InnerContracts

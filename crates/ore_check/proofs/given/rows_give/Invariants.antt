@@ -1,9 +1,0 @@
-use Rattle.std.proofs.Common.{◌≡◌, ◌+◌, drop}
-use Rattle.ore_algebra.specs.Limits.{program}
-use Rattle.ore_rows.specs.Stored.{rows_of}
-use Rattle.ore_check.specs.CheckBlock.{rows_give}
-use Rattle.ore_check.proofs.given.rows_give.Given as goal
-
-abbrev pub invariant-loop-k : goal.invariant-loop-k
-invariant-loop-k g l = rows_give program (g.R.OreRing.signature_of l.ring) l.reason l.m.cols (rows_of l.m) (l.line + l.k) (drop l.k (rows_of l.rows)) (drop l.k (rows_of l.wanted))
-    ≡ rows_give program (g.R.OreRing.signature_of l.ring) l.reason l.m.cols (rows_of l.m) l.line (rows_of l.rows) (rows_of l.wanted)
