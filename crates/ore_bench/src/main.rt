@@ -1,51 +1,20 @@
 //! The bench: it reads a linear system over an Ore algebra, and what is claimed of it.
 //!
-//! The program is one call, `bench`: it takes the words of the command line, a source of bytes and
-//! a sink, and answers a status. Its contract says which status and which text come for which words
-//! and bytes, over every source and every sink. `main` hands it the arguments and the standard
-//! streams, and ends with the status as a number.
+//! `main` hands the program's arguments and the standard streams to `bench` of `ore_commands`, and ends with its status
+//! as a number. What the program answers is the contract of that call.
 //!
-//! One command is built, `check`: the input is a problem, that is a system as a matrix of operators,
-//! and behind it the text of a certificate, which claims something of that matrix. The reply says
-//! whether the certificate is valid, or which line has a fault or fails a condition, or that a number
-//! or a degree leaves the program's range. Certificates of resolutions, of extension modules and of
-//! stopped computations are read and not checked yet.
-//!
-//!  * `args`: the words.
-//!  * `input`, `output`: the loops that read the source and write to the sink.
-//!  * `reply`, `fault`: a reply with its text; the words of the faults of a problem.
-//!  * `kind`, `condition`: the words of the kinds of certificates and of their conditions.
-//!  * `verify`: the reply to a certificate, checked in the ring that the signature has.
-//!  * `check`: the reply to the bytes.
-//!  * `top`: the top call.
-//!
-//! `specs/Answer.antt` says what the program answers.
-//!
-//! The program stands on `ore_io` for sources and sinks, on `ore_problem` and `ore_expr` for problems and the faults of
-//! their entries, on `ore_cert` and `ore_check` for certificates and their check, on `ore_commutative`, `ore_weyl` and
-//! `ore_mixed` for rings, and on `itoa` for numbers.
+//! The program stands on `ore_commands` for the top call, on `ore_reply` for the words and the status, and on `ore_io`
+//! for the streams.
 #![tactic(auto)]
 
-mod args;
-mod check;
-mod condition;
-mod fault;
-mod input;
-mod kind;
-mod output;
-mod reply;
-mod status;
-mod top;
-mod verify;
-
-use args::ArgList;
+use ore_commands::bench;
 use ore_io::{StreamSink, StreamSource};
 use ore_monomial::NoMemory;
-use status::Status;
+use ore_reply::{ArgList, Status};
 use std::env;
+use std::io::ErrorKind;
 use std::process::ExitCode;
 use std::rt::Env;
-use top::bench;
 
 fn main(rt: HostRuntime) -> ExitCode {
     let status = match words(&rt) {
@@ -59,11 +28,22 @@ fn main(rt: HostRuntime) -> ExitCode {
     ExitCode::from(status as u8)
 }
 
-// The program's arguments, without its name.
+// The program's arguments, without its name. Where one isn't UTF-8, a word that no command has stands for them.
 fn words(rt: &(impl Env + AllocGlobal)) -> Result<ArgList, NoMemory> {
     let mut words = ArgList::new(rt.alloc());
-    for word in env::args(rt).map_err(|_| NoMemory)?.skip(1) {
+    let arguments = match env::args(rt) {
+        Ok(arguments) => arguments,
+        Err(error) if error.kind() == ErrorKind::InvalidData => {
+            words.push(b"\xff")?;
+            return Ok(words);
+        }
+        Err(_) => return Err(NoMemory),
+    };
+    for word in arguments.skip(1) {
         words.push(word.as_bytes())?;
     }
     Ok(words)
 }
+
+#[cfg(test)]
+mod tests;

@@ -1,6 +1,0 @@
-pub mod Pieces
-pub mod Reading
-pub mod KnownWords
-pub mod Written
-pub mod Verdicts
-pub mod OneVerdict

@@ -1,4 +1,0 @@
-pub mod InputEnd
-pub mod Prefix
-pub mod Answer
-pub mod MadeReply

@@ -1,0 +1,36 @@
+-- The answer of the program, for all commands.
+--     IsReplyOf        the own reply of a command to the bytes that it is given
+--     IsTrueOf         what a command says of these bytes is true
+--     IsDueTo          the reply that a command is to give
+--     IsDue            the reply that words are to get
+--     TellsTruth       what was said is true of the input, where the source tells it
+use Rattle.std.specs.Prelude.{◌≡◌, ◌⊎◌, ℕ, List, IfSome}
+use Rattle.std.specs.declared.option.Option.{Option}
+use Rattle.ore_reply.specs.Replies.{Reply, unknown_words}
+use Rattle.ore_reply.specs.Answered.{IsDueFrom, given_input}
+use Rattle.ore_commands.specs.declared.command.Command.{Command}
+use Rattle.ore_commands.specs.declared.command.Command.TheVariants.{Check}
+use Rattle.ore_commands.specs.Commands.{words_of, IsKnown, input_limit}
+use Rattle.ore_commands.specs.Verdict.{IsVerdict, HoldsCertificate}
+
+-- of `check`, the verdict
+abbrev pub IsReplyOf : Command → List ℕ → Reply → Type 0
+IsReplyOf Check bytes reply = IsVerdict bytes reply
+
+-- Of `check`, the bytes are a problem and a certificate of the kind that is named. What this says of the matrix is true,
+-- over numbers of any size.
+abbrev pub IsTrueOf : Command → List ℕ → List ℕ → Type 0
+IsTrueOf Check said bytes = HoldsCertificate said bytes
+
+-- by what a source has left before and after
+abbrev pub IsDueTo : Command → Option (List ℕ) → Option (List ℕ) → Reply → Type 0
+IsDueTo c before after reply = IsDueFrom (IsReplyOf c) (input_limit c) before after reply
+
+-- words that are no command are answered whatever the input
+abbrev pub IsDue : List (List ℕ) → Option (List ℕ) → Option (List ℕ) → Reply → Type 0
+IsDue words before after reply =
+    ((¬ IsKnown words) × (reply ≡ unknown_words)) ⊎ ((c : Command) × (words ≡ words_of c) × IsDueTo c before after reply)
+
+-- of the bytes that the command is given
+abbrev pub TellsTruth : Command → List ℕ → Option (List ℕ) → Type 0
+TellsTruth c said before = IfSome (given_input (input_limit c) before) (IsTrueOf c said)

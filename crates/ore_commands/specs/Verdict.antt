@@ -1,0 +1,120 @@
+-- The reply of `check` to the bytes of an input, and what it says.
+--     kind_word, reason_word         the word of a kind of certificates; the word of a condition that fails
+--     trouble_reply, checked_reply   the reply to a line that isn't right; the reply to what a check gives
+--     matrix_of                      the matrix of a problem
+--     IsCheckedReply                 the reply to a certificate
+--     IsCertificateReply             the reply to the text behind a problem
+--     IsVerdict                      the reply to the bytes of an input
+--     HasOneVerdict, LacksNoVerdict  each input has one reply alone; none lacks one
+--     IsValidCertificate             a text is that of a certificate, and what it says of the matrix is true
+--     SaysValid, HoldsCertificate    there is such a certificate, and a text names its kind
+use Rattle.std.specs.Prelude.{◌≡◌, ◌⊎◌, ℕ, ◌+◌, List, drop, codes}
+use Rattle.std.specs.declared.result.Result.TheVariants.{Ok, Err}
+use Rattle.ore_algebra.specs.Limits.{program}
+use Rattle.ore_problem.specs.Accepted.{AcceptedFront}
+use Rattle.ore_problem.specs.Problems.{System, prefix_sizes}
+use Rattle.ore_cert.specs.declared.certificate.Certificate.{Certificate}
+use Rattle.ore_cert.specs.declared.certificate.Certificate.TheVariants as kind
+use Rattle.ore_cert.specs.WholeText.{certificate_text, IsWrittenCertificate, IsCertificate}
+use Rattle.ore_parts.specs.FaultyLine.{IsFaultyLine}
+use Rattle.ore_blocks.specs.declared.place.Place.{Place}
+use Rattle.ore_blocks.specs.declared.reason.Reason.{Reason}
+use Rattle.ore_blocks.specs.declared.reason.Reason.TheVariants as condition
+use Rattle.ore_blocks.specs.Conditions.{Trouble, Fails, Stops, Checked}
+use Rattle.ore_blocks.specs.CheckBlock.{Plain}
+use Rattle.ore_check.specs.Check.{check, capped, IsBuilt, IsNoReport}
+use Rattle.ore_check.specs.Layout.{line_in}
+use Rattle.ore_check.specs.Meaning.{Means}
+use Rattle.ore_reply.specs.Replies.{Reply, valid, invalid_at, malformed_at, stopped_at}
+use Rattle.ore_reply.specs.Answered.{IsReplyToRead}
+
+-- the first word of the second line
+abbrev pub kind_word : Certificate → List ℕ
+kind_word (kind.Controllable q block) = codes "controllable"
+kind_word (kind.AutonomousElement element operator cofactor block) = codes "autonomous-element"
+kind_word (kind.LeftInverse s) = codes "left-inverse"
+kind_word (kind.RightInverse s) = codes "right-inverse"
+kind_word (kind.NoLeftInverse unit block) = codes "no-left-inverse"
+kind_word (kind.NoRightInverse unit block) = codes "no-right-inverse"
+kind_word (kind.Kernel side generators block) = codes "kernel"
+kind_word (kind.Resolution links) = codes "resolution"
+kind_word (kind.ExtZero links block) = codes "ext-zero"
+kind_word (kind.ExtNonzero links element block) = codes "ext-nonzero"
+kind_word (kind.Halted report) = codes "halted"
+
+-- the word of a condition, as it stands behind the number of the line
+abbrev pub reason_word : Reason → List ℕ
+reason_word condition.Shape = codes "shape"
+reason_word condition.ZeroOperator = codes "zero-operator"
+reason_word condition.Cofactor = codes "cofactor"
+reason_word condition.Identity = codes "identity"
+reason_word condition.Unit = codes "unit"
+reason_word condition.NotInKernel = codes "not-in-kernel"
+reason_word condition.NotMonic = codes "not-monic"
+reason_word condition.FromRow = codes "from"
+reason_word condition.ToRow = codes "to"
+reason_word condition.Pairs = codes "pairs"
+reason_word condition.Pair = codes "pair"
+reason_word condition.Remainder = codes "remainder"
+reason_word condition.Step = codes "step"
+reason_word condition.StepTooHigh = codes "step-too-high"
+reason_word condition.Skip = codes "skip"
+reason_word condition.Inside = codes "inside"
+reason_word condition.Rest = codes "rest"
+reason_word condition.Reducible = codes "reducible"
+reason_word condition.Run = codes "run"
+reason_word condition.Treat = codes "treat"
+reason_word condition.Stop = codes "stop"
+
+-- a condition of the line fails, or an operation that it calls for stops
+abbrev pub trouble_reply : ℕ → Trouble → Reply
+trouble_reply line (Fails why) = invalid_at line (reason_word why)
+trouble_reply line (Stops c) = stopped_at line c
+
+-- the lines of the certificate count on from those of the problem; their own count rises to 2^64 - 1 and stays there
+abbrev pub checked_reply : (Place → ℕ) → ℕ → List ℕ → Checked (Unit {0}) → Reply
+checked_reply line lines word (Ok x) = valid word
+checked_reply line lines word (Err failing) = trouble_reply (lines + capped (line failing.place)) failing.trouble
+
+-- as the check takes it: the number of columns, and the rows of plain operators
+abbrev pub matrix_of : System → Plain
+matrix_of p = record { cols = p.cols; rows = p.rows }
+
+-- a certificate of a kind that is built is checked; another is refused at the line of its kind
+abbrev pub IsCheckedReply : System → ℕ → Certificate → Reply → Type 0
+IsCheckedReply p lines c reply =
+    (IsBuilt c × (claims : IsNoReport c) × (reply ≡ checked_reply (line_in c) lines (kind_word c) (check program p.signature (matrix_of p) c claims)))
+    ⊎ ((¬ IsBuilt c) × (reply ≡ malformed_at (lines + 2) (codes "not-built")))
+
+-- the text behind a problem of so many lines
+abbrev pub IsCertificateReply : System → ℕ → List ℕ → Reply → Type 0
+IsCertificateReply p lines bytes reply =
+    ((c : Certificate) × IsWrittenCertificate p.signature p.names c × (bytes ≡ certificate_text p.names p.signature.order c) × IsCheckedReply p lines c reply)
+    ⊎ ((line : ℕ) × IsFaultyLine (IsCertificate p.signature p.names) bytes line × (reply ≡ malformed_at (lines + line) (codes "certificate")))
+
+-- to a problem and what stands behind it, or to the first faulty line of the problem
+abbrev pub IsVerdict : List ℕ → Reply → Type 0
+IsVerdict bytes reply = IsReplyToRead (λ x. IsCertificateReply x.0 x.1.1 (drop x.1.0 bytes)) (prefix_sizes bytes) reply
+
+-- the reply is a function of the bytes
+abbrev pub HasOneVerdict : Type 0
+HasOneVerdict = (bytes : List ℕ) (a b : Reply) → IsVerdict bytes a → IsVerdict bytes b → a ≡ b
+
+-- no bytes are without a reply; this is said twice negated, since no definition finds out whether a text is that of a certificate
+abbrev pub LacksNoVerdict : Type 0
+LacksNoVerdict = (bytes : List ℕ) → ¬ ((reply : Reply) → ¬ IsVerdict bytes reply)
+
+-- The text is that of the certificate. What this says of the matrix is true, over numbers of any size.
+pub record IsValidCertificate (p : System) (bytes : List ℕ) (c : Certificate) : Type 0 where
+  pub built : IsBuilt c
+  pub written : IsWrittenCertificate p.signature p.names c
+  pub certificate : bytes ≡ certificate_text p.names p.signature.order c
+  pub means : Means p.signature (matrix_of p) c
+
+-- such a text stands behind the problem, and what is said names its kind
+abbrev pub SaysValid : System → List ℕ → List ℕ → Type 0
+SaysValid p bytes said = (c : Certificate) × IsValidCertificate p bytes c × (said ≡ (valid (kind_word c)).text)
+
+-- the bytes are those of an accepted problem, and then such a text
+abbrev pub HoldsCertificate : List ℕ → List ℕ → Type 0
+HoldsCertificate said bytes = (p : System) × (front : List ℕ) × (rest : List ℕ) × AcceptedFront bytes p front rest × SaysValid p rest said

@@ -1,0 +1,83 @@
+//! The reply to a certificate of a problem.
+
+ghost use Rattle.std.specs.Prelude.{◌≡◌, IfOk};
+ghost use Rattle.ore_algebra.specs.Limits.{program};
+ghost use Rattle.ore_cert.specs.CertificateOf.{IsCertificateOf};
+ghost use Rattle.ore_check.specs.Check.{check as check_of, Answers, IsBuilt, IsNoReport};
+ghost use Rattle.ore_check.specs.Layout.{line_in};
+ghost use Rattle.ore_blocks.specs.CheckBlock.{plain};
+ghost use Rattle.ore_check.specs.Meaning.{Means};
+ghost use Rattle.ore_problem.specs.Stored.{system_of, IsProblem};
+ghost use Rattle.ore_reply.specs.Replies as replies;
+ghost use Rattle.ore_reply.specs.MadeReply.{reply_of};
+ghost use Rattle.ore_commands.specs.Verdict as verdict;
+
+use crate::condition::answer_reply;
+use crate::kind::{is_built, kind_word};
+use ore_cert::Certificate;
+use ore_check::{Checked, check};
+use ore_commutative::CommutativeRing;
+use ore_mixed::MixedRing;
+use ore_monomial::NoMemory;
+use ore_problem::Problem;
+use ore_reply::reply::malformed_at;
+use ore_reply::{Reply, Status};
+use ore_ring::OreRing;
+use ore_weyl::WeylRing;
+use std::alloc::Global;
+
+/// The reply to a certificate of a problem that has so many lines.
+///
+/// The problem is as it is read, and the certificate of its signature.
+///
+/// # Errors
+/// Want of memory.
+pub fn certificate_reply(
+    alloc: Global,
+    problem: &Problem,
+    lines: usize,
+    cert: &Certificate,
+) -> Result<Reply, NoMemory>
+    requires problem { IsProblem problem.now }
+    requires of { IsCertificateOf problem.now.signature cert.now }
+    ensures reply { IfOk result (λ r. verdict.IsCheckedReply (system_of problem.now) lines cert.now (reply_of r)) }
+    ensures valid { IfOk result (λ r. r.status ≡ Status.Done → IsBuilt cert.now
+        × Means problem.now.signature (plain problem.now.matrix) cert.now × (r.text.items ≡ (replies.valid (verdict.kind_word cert.now)).text)) }
+{
+    if !is_built(cert) {
+        return malformed_at(alloc, lines as u128 + 2, b"not-built");
+    }
+    let answer = checked(alloc, problem, cert);
+    answer_reply(alloc, lines, kind_word(cert), answer)
+}
+
+// The answer of the check, in the ring with the simplest body that the signature has. Where it is that the certificate is
+// valid, what it says is true.
+fn checked(alloc: Global, problem: &Problem, cert: &Certificate) -> Checked
+    requires problem { IsProblem problem.now }
+    requires of { IsCertificateOf problem.now.signature cert.now }
+    requires built { IsBuilt cert.now }
+    ensures answers { (claims : IsNoReport cert.now) × Answers (line_in cert.now) result (check_of program problem.now.signature (plain problem.now.matrix) cert.now claims) }
+    ensures means { result ≡ Checked.Valid → Means problem.now.signature (plain problem.now.matrix) cert.now }
+{
+    let signature = &problem.signature;
+    if let Some(ring) = CommutativeRing::new(signature.copy()) {
+        return checked_in(&ring, alloc, problem, cert);
+    }
+    if let Some(ring) = WeylRing::new(signature.copy()) {
+        return checked_in(&ring, alloc, problem, cert);
+    }
+    checked_in(&MixedRing::new(signature.copy()), alloc, problem, cert)
+}
+
+// The answer of the check, by the operations of a ring of the problem's signature.
+fn checked_in<R: OreRing>(ring: &R, alloc: Global, problem: &Problem, cert: &Certificate) -> Checked
+    requires same { R.signature_of ring.now ≡ problem.now.signature }
+    requires problem { IsProblem problem.now }
+    requires of { IsCertificateOf problem.now.signature cert.now }
+    requires built { IsBuilt cert.now }
+    ensures answers { (claims : IsNoReport cert.now) × Answers (line_in cert.now) result (check_of program problem.now.signature (plain problem.now.matrix) cert.now claims) }
+    ensures means { result ≡ Checked.Valid → Means problem.now.signature (plain problem.now.matrix) cert.now }
+{
+    check(ring, alloc, &problem.matrix, cert)
+}

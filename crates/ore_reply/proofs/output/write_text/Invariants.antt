@@ -1,0 +1,14 @@
+-- The front of the text was written, up to `done`.
+use Rattle.std.proofs.Common.{◌≡◌, ◌≤◌, ◌-◌, length, take}
+use Rattle.std.specs.Io.KnownBytes.{append_known}
+use Rattle.ore_reply.proofs.output.write_text.Given as goal
+
+abbrev pub invariant-loop-done : goal.invariant-loop-done
+invariant-loop-done g l = record {
+  within : l.done ≤ length l.text;
+  so_far : g.K.Sink.written l.sink ≡ append_known (g.K.Sink.written l.initial.sink) (take l.done l.text);
+  stands : g.K.Sink.faults l.sink ≡ g.K.Sink.faults l.initial.sink;
+}
+
+abbrev pub decreases-loop-done : goal.decreases-loop-done
+decreases-loop-done g l = length l.text - l.done
