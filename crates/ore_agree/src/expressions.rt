@@ -6,11 +6,12 @@ ghost use Rattle.ore_expr.specs.Evaluation.{IsOf};
 
 use crate::operators::{Term, commuting, mixed, operator};
 use ore_commutative::CommutativeRing;
-use ore_expr::{Instruction, Names, TextFault, evaluate, read_operator};
+use ore_expr::{Instruction, TextFault, evaluate, read_operator};
 use ore_mixed::MixedRing;
 use ore_monomial::{Order, RingStop};
 use ore_rational::Rational;
 use ore_ring::OreRing;
+use ore_text::Names;
 use std::alloc::Global;
 use std::test::Fail;
 

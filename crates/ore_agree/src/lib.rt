@@ -16,18 +16,15 @@
 //! `division` one for lead reduction.
 //! `expressions` has values and faults of texts that `ore_expr` reads. `pairs` has the calls of `ore_pairs`, and `runs`
 //! has runs with the live chooser of `ore_report`, one or two in each kind of algebra, two whose budget is spent, and a
-//! pair that is skipped; their rows are given as texts. `certificates` has texts of certificates of every kind and of
-//! their parts, which are read and printed again, and faulty lines.
+//! pair that is skipped; their rows are given as texts.
 //!
 //! The crate has nothing but tests, and promises nothing. It stands on the rings, on `ore_report`, `ore_groebner`,
-//! `ore_cert`, `ore_pairs`, `ore_division`, `ore_adjoint`, `ore_rows` and `ore_expr`, and on `ore_ring`, `ore_monomial`,
+//! `ore_pairs`, `ore_division`, `ore_adjoint`, `ore_rows` and `ore_expr`, and on `ore_ring`, `ore_monomial`,
 //! `ore_rational` and `ore_algebra` for operators and signatures.
 #![tactic(auto)]
 
 #[cfg(test)]
 mod adjoint;
-#[cfg(test)]
-mod certificates;
 #[cfg(test)]
 mod division;
 #[cfg(test)]

@@ -8,9 +8,10 @@ ghost use Rattle.ore_rows.specs.Reduction.{AreMonic};
 ghost use Rattle.ore_rows.specs.StoredBasis.{AllBelong, monics};
 
 use crate::division::add;
-use ore_expr::{Names, read_operator};
+use ore_expr::read_operator;
 use ore_ring::OreRing;
 use ore_rows::{Basis, Matrix, Row};
+use ore_text::Names;
 use std::alloc::Global;
 use std::test::Fail;
 

@@ -8,13 +8,12 @@ use ore_groebner::run::run;
 use ore_groebner::{Event, Events, Halt};
 use ore_mixed::MixedRing;
 use ore_report::LiveChooser;
-use ore_rows::Matrix;
+use ore_rows::{Choice, Matrix};
 
 /// How many pairs a run may treat.
 const BUDGET: u32 = 100_000;
 
-/// Runs on the rows of a matrix, and prints the numbers of the run in a line. The live chooser skips no pair, so each
-/// event, and each choice, is a treated pair.
+/// Runs on the rows of a matrix, and prints the numbers of the run in a line.
 ///
 /// The entries of the matrix are of the signature of the ring.
 ///
@@ -26,11 +25,13 @@ pub fn print_run(rt: &HostRuntime, ring: &MixedRing, name: &str, a: &Matrix) -> 
     let mut chooser = LiveChooser::new(rt.alloc(), BUDGET);
     match run(ring, rt.alloc(), a, &mut chooser) {
         Ok(finished) => {
+            let skips = skipped(&finished.events);
             println!(rt;
-                "{}: basis rows {}, treated pairs {}, steps {}, syzygies {}",
+                "{}: basis rows {}, treated pairs {}, skipped pairs {}, steps {}, syzygies {}",
                 name,
                 finished.basis.len(),
-                finished.events.len(),
+                finished.events.len().saturating_sub(skips),
+                skips,
                 steps(&finished.events),
                 finished.syzygies.rows()
             )?;
@@ -47,6 +48,17 @@ pub fn print_run(rt: &HostRuntime, ring: &MixedRing, name: &str, a: &Matrix) -> 
     Ok(())
 }
 
+// How many pairs were skipped.
+fn skipped(events: &Events) -> usize {
+    let mut count: usize = 0;
+    for k in 0..events.len() {
+        if let Event::Skipped { .. } = events.get(k) {
+            count = count.saturating_add(1);
+        }
+    }
+    count
+}
+
 // How many steps the reductions of all events took.
 fn steps(events: &Events) -> usize {
     let mut count: usize = 0;
@@ -58,13 +70,20 @@ fn steps(events: &Events) -> usize {
     count
 }
 
-// How many pairs were chosen in the first run, including the one at which it stopped.
+// How many pairs were to be treated in the first run, including the one at which it stopped.
 fn treated(chooser: LiveChooser) -> usize {
     let runs = chooser.into_runs();
     if runs.len() == 0 {
         return 0;
     }
-    runs.get(0).len()
+    let choices = runs.get(0);
+    let mut count: usize = 0;
+    for k in 0..choices.len() {
+        if let Choice::Treat { .. } = choices.get(k) {
+            count = count.saturating_add(1);
+        }
+    }
+    count
 }
 
 // Why a run stopped.

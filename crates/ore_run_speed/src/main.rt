@@ -2,8 +2,8 @@
 //!
 //! The program reads a problem from the standard input and runs twice with the live chooser: on the rows of the
 //! matrix, and on those of its transposed adjoint. For each run it prints how many rows the basis has, how many pairs
-//! were treated, how many steps their reductions took, and how many syzygies there are; or why the run stopped, and
-//! after how many treated pairs, including the one at which it stopped. The live chooser skips no pair.
+//! were treated and how many skipped, how many steps the reductions took, and how many syzygies there are; or why the
+//! run stopped, and after how many treated pairs, including the one at which it stopped.
 //!
 //!  * `count`: the numbers of a run.
 //!  * `fault`: why the program ends early.

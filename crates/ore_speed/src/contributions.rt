@@ -2,7 +2,7 @@
 
 use ore_mixed::MixedRing;
 use ore_monomial::{Exps, RingStop};
-use ore_ring::{Op, Pass};
+use ore_ring::{MonomialProduct, Op};
 use std::alloc::Global;
 
 /// The sum, over all pairs of terms, of the numbers of terms of the products of their monomials.

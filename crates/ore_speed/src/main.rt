@@ -15,8 +15,8 @@
 //! same operator.
 //!
 //! A contribution is one whole number of the product of two monomials, once for each pair of terms of the
-//! factors. Each is multiplied by the fractions of its pair and added to a sum that is kept by its
-//! monomials in a sorted map. So the last column, the time of a contribution divided by the logarithm of
+//! factors. Each is multiplied by the fractions of its pair, and all are sorted by their monomials before
+//! they are added. So the last column, the time of a contribution divided by the logarithm of
 //! the number of terms of the product, doesn't grow with the number of contributions where the time is at
 //! most that number times the logarithm. Beside a logarithm the time of a contribution has a fixed part,
 //! so in small products the last column is larger.

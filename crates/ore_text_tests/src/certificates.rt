@@ -1,15 +1,15 @@
 //! Texts of certificates and of their parts, read and printed. There are no variables, so the operators are numbers.
 
 ghost use Rattle.std.specs.Prelude.{◌≡◌, length};
-ghost use Rattle.ore_expr.specs.Names.{AreNames};
-ghost use Rattle.ore_cert.specs.OfSignature.{CertificateOf};
+ghost use Rattle.ore_text.specs.Names.{AreNames};
+ghost use Rattle.ore_cert.specs.CertificateOf.{IsCertificateOf};
 
 use ore_cert::{
     CertFault, Certificate, Lines, print_brief, print_certificate, print_exact, print_matrix,
     print_outside, read_certificate, read_exact, read_matrix, read_outside,
 };
-use ore_expr::Names;
 use ore_monomial::{Order, Signature};
+use ore_text::Names;
 use std::alloc::Global;
 use std::test::Fail;
 
@@ -42,7 +42,7 @@ fn prints_as(
     cert: &Certificate,
     text: &[u8],
 ) -> Result<bool, Fail>
-    requires of { CertificateOf sig.now cert.now }
+    requires of { IsCertificateOf sig.now cert.now }
     requires count { length names.now ≡ length sig.now.kinds }
 {
     let printed = print_certificate(alloc, sig, names, cert)?;
@@ -59,7 +59,7 @@ fn is_printed_again(
     requires names { AreNames names.now }
     requires count { length names.now ≡ length sig.now.kinds }
 {
-    match read_certificate(alloc, sig, names, text, 1) {
+    match read_certificate(alloc, sig, names, text) {
         Ok(cert) => prints_as(alloc, sig, names, &cert, text),
         Err(_) => Ok(false),
     }
@@ -85,7 +85,7 @@ fn is_in_brief(
     cert: &Certificate,
     brief: &[u8],
 ) -> Result<bool, Fail>
-    requires of { CertificateOf sig.now cert.now }
+    requires of { IsCertificateOf sig.now cert.now }
     requires count { length names.now ≡ length sig.now.kinds }
 {
     let printed = print_brief(alloc, sig, names, cert)?;
@@ -96,7 +96,7 @@ fn is_in_brief(
 fn has_brief(alloc: Global, text: &str, brief: &str) -> Result<bool, Fail> {
     let sig = Signature::new(&[], Order::DegLex)?;
     let names = Names::new(alloc);
-    match read_certificate(alloc, &sig, &names, text.as_bytes(), 1) {
+    match read_certificate(alloc, &sig, &names, text.as_bytes()) {
         Ok(cert) => is_in_brief(alloc, &sig, &names, &cert, brief.as_bytes()),
         Err(_) => Ok(false),
     }
@@ -106,7 +106,7 @@ fn has_brief(alloc: Global, text: &str, brief: &str) -> Result<bool, Fail> {
 fn faulty_line(alloc: Global, text: &str) -> Result<Option<u64>, Fail> {
     let sig = Signature::new(&[], Order::DegLex)?;
     let names = Names::new(alloc);
-    match read_certificate(alloc, &sig, &names, text.as_bytes(), 1) {
+    match read_certificate(alloc, &sig, &names, text.as_bytes()) {
         Ok(_) => Ok(None),
         Err(CertFault::Malformed { line }) => Ok(Some(line)),
         Err(CertFault::Memory) => Err(Fail::new("no memory")),
@@ -208,7 +208,7 @@ fn numbers_out_of_range(rt: HostRuntime) -> Result<(), Fail> {
 fn matrix_is_printed(alloc: Global, text: &[u8]) -> Result<bool, Fail> {
     let sig = Signature::new(&[], Order::DegLex)?;
     let names = Names::new(alloc);
-    let mut lines = Lines::new(text, 1);
+    let mut lines = Lines::new(text);
     let matrix = read_matrix(alloc, &sig, &names, &mut lines, b"M")?;
     let printed = print_matrix(alloc, &sig, &names, b"M", &matrix)?;
     Ok(printed.as_slice() == text)
@@ -217,7 +217,7 @@ fn matrix_is_printed(alloc: Global, text: &[u8]) -> Result<bool, Fail> {
 fn exact_is_printed(alloc: Global, text: &[u8]) -> Result<bool, Fail> {
     let sig = Signature::new(&[], Order::DegLex)?;
     let names = Names::new(alloc);
-    let mut lines = Lines::new(text, 1);
+    let mut lines = Lines::new(text);
     let block = read_exact(alloc, &sig, &names, &mut lines)?;
     let printed = print_exact(alloc, &sig, &names, &block)?;
     Ok(printed.as_slice() == text)
@@ -226,7 +226,7 @@ fn exact_is_printed(alloc: Global, text: &[u8]) -> Result<bool, Fail> {
 fn outside_is_printed(alloc: Global, text: &[u8]) -> Result<bool, Fail> {
     let sig = Signature::new(&[], Order::DegLex)?;
     let names = Names::new(alloc);
-    let mut lines = Lines::new(text, 1);
+    let mut lines = Lines::new(text);
     let block = read_outside(alloc, &sig, &names, &mut lines)?;
     let printed = print_outside(alloc, &sig, &names, &block)?;
     Ok(printed.as_slice() == text)
