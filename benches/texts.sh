@@ -27,10 +27,50 @@ def certificate(rows):
     return matrix(1, 1) + b"row 0\nend\ncertificate 1\nright-inverse\nmatrix S %d 1\n" % rows + b"row 1/2*t^2*d + d - 3\n" * rows + b"end\n"
 
 
+def joined(signs, terms):
+    """A row whose entry is a sum of these terms, with these signs in turn, in a text of the size."""
+    front, back = matrix(1, 1) + b"row 0", b"\nend\n"
+    room = SIZE - len(front) - len(back)
+    pieces = []
+    for k, term in enumerate(terms):
+        piece = signs[k % len(signs)] + term
+        room -= len(piece)
+        if room < 0:
+            break
+        pieces.append(piece)
+    return front, pieces, back
+
+
+def degrees(count):
+    """The first monomials in two letters, from the least up."""
+    for degree in range(1, count):
+        for power in range(degree + 1):
+            yield b"t^%d*d^%d" % (power, degree - power)
+
+
+def sums():
+    """Sums of many parts in one entry."""
+    front, pieces, back = joined([b"+"], degrees(32000))
+    yield "a sum upwards", front + b"".join(pieces) + back
+    yield "a sum downwards", front + b"".join(reversed(pieces)) + back
+    front, pieces, back = joined([b"+", b"-"], degrees(32000))
+    yield "alternating signs", front + b"".join(pieces) + back
+    half = pieces[: len(pieces) // 2]
+    turned = [(b"-" if piece[:1] == b"+" else b"+") + piece[1:] for piece in half]
+    yield "a sum, taken away again", front + b"".join(half + turned) + back
+    yield "one term again", filled(front, b"+t^2*d", back)
+    yield "zeros", filled(front, b"+t-t", back)
+    yield "zeros as numbers", filled(front, b"+0*t", back)
+    yield "sums of two in a sum", filled(front, b"+(t-d)", back)
+    yield "products in a sum", filled(front, b"+(t+1)*(d+2)", back)
+    yield "nested products", filled(front, b"+" + b"(" * 20 + b"t" + b"*d+1)" * 20, back)
+
+
 def texts():
     yield "comments", filled(b"", b"#\n", FRAME + b"matrix 0 0\nend\n")
     yield "one comment", filled(b"#", b"x", b"\n" + FRAME + b"matrix 0 0\nend\n")
     yield "a sum", filled(matrix(1, 1) + b"row 0", b"+t", b"\nend\n")
+    yield from sums()
     yield "a product of numbers", filled(matrix(1, 1) + b"row 1", b"*1", b"\nend\n")
     yield "spaces in a row", filled(matrix(1, 1) + b"row t", b" ", b"\nend\n")
     yield "digits of one number", filled(matrix(1, 1) + b"row ", b"0", b"1\nend\n")
