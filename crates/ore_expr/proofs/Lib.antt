@@ -18,5 +18,4 @@ pub mod DigitLemmas
 pub mod QuotientFits
 pub mod StepLaws
 pub mod MadeOf
-pub mod CanonicalUnique
 pub mod TermSums

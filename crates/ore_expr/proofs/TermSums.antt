@@ -4,7 +4,7 @@
 --     all_passes, passes_all     the test of all terms says so
 --     goes_on, stops_here        the first term fits, or it doesn't
 --     term_added, term_stops     adding the first term leaves the others to be added, or stops as the sum does
---     first_left, rest_distinct, none_missing      the terms of a stored operator from a place on
+--     first_left, none_missing                    the terms of a stored operator from a place on
 --     next_told, stop_told       the first of these is added, or it stops
 --     gathered_is, gathered_stops      all terms of an operator are added to zero
 --     added_belongs              so the sum is of the signature

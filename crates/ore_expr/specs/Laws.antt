@@ -4,18 +4,12 @@
 --     FindsFaults          a fault that is found is that of the table, and the fault of the table is found
 --     IsStorableTerm, IsStorable, IsPrintable    what can be printed (ore_text)
 --     CanonicalIsRead      the canonical text of an operator of the signature is an expression whose value is the operator
---     CanonicalIsUnique    no text is the canonical text of two operators
-use Rattle.std.specs.Prelude.{◌≡◌, ◌≤◌, ◌<◌, ◌^◌, ℕ, List, length, nat_abs}
-use Rattle.std.specs.List.{AllByRecursion}
+use Rattle.std.specs.Prelude.{◌≡◌, ℕ, List}
 use Rattle.std.specs.declared.result.Result.TheVariants.{Ok, Err}
-use Rattle.ore_algebra.specs.Free.{terms}
 use Rattle.ore_algebra.specs.Limits.{Limits, program}
 use Rattle.ore_rational.proofs.FractionLaws.{rationals}
-use Rattle.ore_monomial.specs.Monomial.{degree, plain_cmp}
 use Rattle.ore_monomial.specs.Signature.{Signature}
 use Rattle.ore_monomial.specs.LetterRule.{Operator}
-use Rattle.ore_ring.specs.Belongs.{OperatorOf}
-use Rattle.ore_ring.specs.Terms.{Term}
 use Rattle.ore_expr.specs.declared.fault.TextFault.{TextFault}
 use Rattle.ore_expr.specs.declared.instruction.Instruction.{Instruction}
 pub use Rattle.ore_text.specs.Printable.{IsStorableTerm, IsStorable, IsPrintable}
@@ -25,7 +19,6 @@ use Rattle.ore_expr.specs.Values.{expression_value}
 use Rattle.ore_expr.specs.Parsing.{parse}
 use Rattle.ore_expr.specs.Evaluation.{value_of}
 use Rattle.ore_text.specs.CanonicalText.{operator_text}
-use Rattle.ore_text.specs.Names.{AreNames}
 
 -- the instructions have the value of the expression
 abbrev pub HaveValue : List (List ℕ) → List Instruction → Expression → Type 0
@@ -45,7 +38,3 @@ pub record FindsFaults : Type 0 where
 abbrev pub CanonicalIsRead : Type 0
 CanonicalIsRead = (s : Signature) (names : List (List ℕ)) (f : Operator rationals) → IsPrintable s names f →
     (e : Expression) × IsExpression names (operator_text names s.order f) e × (expression_value program s names e ≡ Ok f)
-
--- two operators that can be printed with one text are the same
-abbrev pub CanonicalIsUnique : Type 0
-CanonicalIsUnique = (s : Signature) (names : List (List ℕ)) (f g : Operator rationals) → IsPrintable s names f → IsPrintable s names g → operator_text names s.order f ≡ operator_text names s.order g → f ≡ g

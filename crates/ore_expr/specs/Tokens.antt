@@ -7,10 +7,9 @@
 --     Lexeme                  a token and the place of its first byte
 --     lexemes_from, lexemes   the tokens of a text; some bytes of a token are passed over first
 --     tokens_of               the tokens of some lexemes
-use Rattle.std.specs.Prelude.{◌≡◌, ℕ, zero, suc, ◌-◌, ◌≤◌, Bool, true, ◌||◌, nat_eq, if◌then◌else◌, List, [], ◌∷◌, length, map, take_while}
+use Rattle.std.specs.Prelude.{ℕ, zero, suc, ◌-◌, nat_eq, if◌then◌else◌, List, [], ◌∷◌, length, map, take_while}
 pub use Rattle.ore_text.specs.Names.{is_name_byte, IsName}
-use Rattle.std.specs.Char.{is_ascii_digit, is_ascii_alphabetic, is_ascii_alphanumeric}
-use Rattle.std.specs.List.{AllPass}
+use Rattle.std.specs.Char.{is_ascii_digit, is_ascii_alphabetic}
 
 -- a number and a name with their bytes; the symbols `+ - * / ^ ( )`; a byte that begins no token
 pub data Token : Type 0 where

@@ -20,7 +20,7 @@ use std::marker::Model;
 enum Form {
     // From the greatest down.
     Finished(Op),
-    // In a sorted map, so that adding a term costs a descent of a tree.
+    // In a sorted map, so that adding a term costs the logarithm of their number.
     Sum(Gather),
 }
 

@@ -4,7 +4,7 @@
 --     bytes_line, raw_lines-line  the lines of a text that begins with a whole line
 --     IsWhole, join-lines         a text is so many whole lines; these are the text
 --     whole_none, whole_line, whole_append     no line, one line, and two such texts
---     past_all, take_past, same_take, got, at_take     the first items of lists
+--     past_all, take_past         the first items of lists
 --     begins                      a text whose first lines are those of whole lines begins with these
 --     Stray                       as many lines as this come before the faulty one
 --     stray_faulty, faulty_stray     so the next line is faulty; and the other way round
@@ -12,12 +12,10 @@
 --     stray_same                  sets with the same texts
 --     stray_end                   the first line is faulty, where the set has the empty text alone
 --     one_faulty_line             a text has at most one faulty line, and none where it is in the set
-use Rattle.std.proofs.Common.{◌≡◌, ◌≤◌, ◌⊎◌, inl, inr, ℕ, zero, suc, ◌+◌, ◌-◌, ◌<◌, Bool, true, false, true≢false, not, ◌&&◌, if◌then◌else◌, List, [], ◌∷◌, ◌++◌, length, take, drop, refl, sym, ap, subst, ◌∙◌, append_assoc, append-nil, arith}
-use Rattle.std.specs.Prelude.{nat_eq, slice_get}
+use Rattle.std.proofs.Common.{◌≡◌, ℕ, suc, ◌+◌, Bool, true, false, true≢false, not, ◌&&◌, if◌then◌else◌, List, [], ◌∷◌, ◌++◌, length, take, drop, refl, sym, ap, subst, ◌∙◌, append_assoc, append-nil, arith}
+use Rattle.std.specs.Prelude.{nat_eq}
 use Rattle.std.specs.List.{list_all}
 use Rattle.std.proofs.lemmas.List.{append_cancel_left, length-append, take-append-drop}
-use Rattle.std.proofs.lemmas.Bool.{cases_lt}
-use Rattle.std.proofs.lemmas.Option.{none-some, same_Some}
 use Rattle.ore_text.proofs.FaultyLines as of_lines
 use Rattle.ore_parts.specs.Lines.{LacksByte, IsLine, onto_first, raw_lines}
 use Rattle.ore_parts.specs.FaultyLine.{IsFaultyLine, HasOneFaultyLine}

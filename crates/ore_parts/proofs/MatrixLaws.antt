@@ -21,7 +21,7 @@ use Rattle.ore_ring.specs.Ordered.{Ordered}
 use Rattle.ore_ring.proofs.Belonging.{of_none}
 use Rattle.ore_rows.specs.Rows.{Row}
 use Rattle.ore_rows.specs.Stored.{OperatorMatrix, sums_of, rows_of}
-use Rattle.ore_expr.specs.Laws.{IsPrintable}
+use Rattle.ore_text.specs.Printable.{IsPrintable}
 use Rattle.ore_text.specs.Names.{AreNames}
 use Rattle.ore_text.specs.RowText.{row_text}
 use Rattle.ore_parts.specs.declared.fault.CertFault.TheVariants.{Malformed}

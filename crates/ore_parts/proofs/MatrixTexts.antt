@@ -25,7 +25,7 @@ use Rattle.ore_ring.proofs.Belonging.{of_none}
 use Rattle.ore_ring.proofs.Falls.{falls_none}
 use Rattle.ore_rows.specs.Rows.{Row}
 use Rattle.ore_text.specs.CanonicalText.{operator_text}
-use Rattle.ore_expr.specs.Laws.{IsPrintable, IsStorableTerm}
+use Rattle.ore_text.specs.Printable.{IsPrintable, IsStorableTerm}
 use Rattle.ore_text.specs.Names.{AreNames}
 use Rattle.ore_text.specs.RowParts.{is_stop, LacksStops}
 use Rattle.ore_text.specs.RowText.{listed, row_text}

@@ -27,7 +27,7 @@ use Rattle.ore_ring.proofs.Falls.{single_falling}
 use Rattle.ore_text.specs.CanonicalParts.{IsPrintableTerm}
 use Rattle.ore_text.specs.CanonicalText.{operator_text}
 use Rattle.ore_text.specs.Names.{AreNames}
-use Rattle.ore_expr.proofs.CanonicalUnique.{canonical_is_unique}
+use Rattle.ore_text.proofs.CanonicalUnique.{canonical_is_unique}
 use Rattle.ore_text.proofs.PrintableTerms.{variables_of, storable_of}
 use Rattle.ore_rows.specs.Reduction.{Step, step_operator}
 use Rattle.ore_parts.specs.declared.block.PairEntry.{PairEntry}

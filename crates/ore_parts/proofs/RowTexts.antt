@@ -21,11 +21,11 @@ use Rattle.ore_ring.specs.Ordered.{Ordered}
 use Rattle.ore_rows.specs.Rows.{Row}
 use Rattle.ore_rows.specs.Stored.{sums_of}
 use Rattle.ore_text.specs.CanonicalText.{operator_text}
-use Rattle.ore_expr.specs.Laws.{IsPrintable}
+use Rattle.ore_text.specs.Printable.{IsPrintable}
 use Rattle.ore_text.specs.Names.{AreNames}
 use Rattle.ore_text.specs.RowParts.{is_stop, LacksStops}
 use Rattle.ore_text.specs.RowText.{listed, row_text}
-use Rattle.ore_expr.proofs.CanonicalUnique.{canonical_is_unique}
+use Rattle.ore_text.proofs.CanonicalUnique.{canonical_is_unique}
 use Rattle.ore_text.proofs.RowBytes.{LacksStops-operator}
 use Rattle.ore_parts.specs.CertificateText.{IsRowOf}
 use Rattle.ore_parts.proofs.Bytes.{heads}

@@ -18,7 +18,7 @@ use Rattle.ore_monomial.specs.Signature.{Signature}
 use Rattle.ore_ring.specs.Belongs.{Belongs}
 use Rattle.ore_ring.specs.Ordered.{Ordered}
 use Rattle.ore_text.specs.CanonicalText.{operator_text}
-use Rattle.ore_expr.specs.Laws.{IsPrintable}
+use Rattle.ore_text.specs.Printable.{IsPrintable}
 use Rattle.ore_rows.specs.Reduction.{Step, step_operator}
 use Rattle.ore_rows.specs.Stored.{OperatorMatrix, sums_of, rows_of}
 use Rattle.ore_parts.specs.CertificateText.{number_bound, matrix_text, IsRowOf, IsWritten}

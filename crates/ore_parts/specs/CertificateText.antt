@@ -10,7 +10,7 @@ use Rattle.ore_rational.proofs.FractionLaws.{rationals}
 use Rattle.ore_monomial.specs.declared.order.Order.{Order}
 use Rattle.ore_monomial.specs.Signature.{Signature}
 use Rattle.ore_text.specs.RowText.{row_text}
-use Rattle.ore_expr.specs.Laws.{IsPrintable}
+use Rattle.ore_text.specs.Printable.{IsPrintable}
 use Rattle.ore_rows.specs.Rows.{Row}
 
 -- sizes and counts are below 2^63, and so are places as they are written

@@ -5,7 +5,7 @@ ghost use Rattle.ore_algebra.specs.Free.{single};
 ghost use Rattle.ore_rational.proofs.FractionLaws.{rationals};
 ghost use Rattle.ore_monomial.specs.Monomial.{plain_cmp};
 ghost use Rattle.ore_text.specs.CanonicalText.{operator_text};
-ghost use Rattle.ore_expr.specs.Laws.{IsPrintable};
+ghost use Rattle.ore_text.specs.Printable.{IsPrintable};
 ghost use Rattle.ore_text.specs.Names.{AreNames};
 ghost use Rattle.ore_parts.specs.BlockText.{IsWrittenStep};
 ghost use Rattle.ore_parts.specs.Formats.{ReadsOne, Spells, items};

@@ -8,6 +8,8 @@
 --                                         is left out
 --     IsNumerator, IsDenominator          a number and a length of text are the numerator, or the denominator, of the
 --                                         term, and what it takes
+--     denominator_end                     what follows a numerator ends it
+--     no_digit, one_parts                 a letter is no digit; the numbers of a magnitude 1
 --     IsRead                              a number and a length of text are this number, and what stands before the
 --                                         rest
 --     numerator_read, denominator_read    what is read there
@@ -99,20 +101,20 @@ IsDenominator names t tail rest r = (r.0 ≡ t.1.den) × ((bare : Bool) × (drop
 abbrev pub IsRead : ℕ → List ℕ → List ℕ → ℕ × ℕ → Type 0
 IsRead n text tail r = (r.0 ≡ n) × (drop r.1 text ≡ tail)
 
-denominator_end : (d : ℕ) (more : List ℕ) → IsFactorEnd more → IsWordEnd (denominator_text d ++ more)
+pub denominator_end : (d : ℕ) (more : List ℕ) → IsFactorEnd more → IsWordEnd (denominator_text d ++ more)
 denominator_end d more h = by (nat_eq d 1)
   where
     by : (b : Bool) → IsWordEnd (cond b [] (47 ∷ decimal d) ++ more)
     by true = FactorEnd-WordEnd more h
     by false = refl
 
-no_digit : (b : ℕ) → is_ascii_alphabetic b ≡ true → is_ascii_digit b ≡ false
+pub no_digit : (b : ℕ) → is_ascii_alphabetic b ≡ true → is_ascii_digit b ≡ false
 no_digit b h = grind (arith, nat_tests)
 
 no_slash : (b : ℕ) → is_ascii_alphabetic b ≡ true → b ≢ 47
 no_slash b h e = grind (arith, nat_tests)
 
-one_parts : (q : Fraction) → is_one q ≡ true → (nat_abs q.num ≡ 1) × (q.den ≡ 1)
+pub one_parts : (q : Fraction) → is_one q ≡ true → (nat_abs q.num ≡ 1) × (q.den ≡ 1)
 one_parts q h = by (nat_abs q.num) q.den h
   where
     by : (n d : ℕ) → (nat_eq n 1 && nat_eq d 1) ≡ true → (n ≡ 1) × (d ≡ 1)

@@ -11,3 +11,4 @@ pub mod Printing
 pub mod RowBytes
 pub mod RowEntries
 pub mod Walking
+pub mod CanonicalUnique

@@ -1,8 +1,11 @@
 -- The walk over a canonical text, term by term.
 --     Left                     of the terms of an operator some are added, and the text of the others is left
 --     term_first, later_end    a term begins with a name byte; behind a term stands a space or nothing
+--     later_filled             a term behind another has some text
 --     below_others             of falling terms each is below those before it
 --     IsTaken                  a term was added, and its text was passed
+--     zero_term, zero_text, zero_good
+--                              the term 0, whose text is `0`, and which may be printed
 --     IsFirst, first_term      the walk begins with the first term, or with 0
 --     IsNext, next_term        and goes on with the next
 --     no_others                to the end, where all terms are added
@@ -59,7 +62,7 @@ later_end names (t ∷ ts) = by t.1.num
     by (pos n) = refl
     by (negsuc n) = refl
 
-later_filled : (names : List (List ℕ)) (t : Term) (ts : Terms) → 0 < length (flat_map (later_text names) (t ∷ ts))
+pub later_filled : (names : List (List ℕ)) (t : Term) (ts : Terms) → 0 < length (flat_map (later_text names) (t ∷ ts))
 later_filled names t ts = by t.1.num
   where
     by : (z : ℤ) → 0 < length ((sign_text z (codes " + ") (codes " - ") ++ term_text names t) ++ flat_map (later_text names) ts)
@@ -143,7 +146,7 @@ same_operator o f g e = sym (collect-falling g.by g.sum) ∙ ap (collect rationa
 
 -- ---- the first term
 
-abbrev zero_term : Term
+abbrev pub zero_term : Term
 zero_term = (unit, whole (pos 0))
 
 no_factors : (names : List (List ℕ)) (n : ℕ) → factor_texts names (replicate n 0) ≡ []
@@ -151,7 +154,7 @@ no_factors [] n = refl
 no_factors (name ∷ names) zero = refl
 no_factors (name ∷ names) (suc n) = no_factors names n
 
-zero_text : (names : List (List ℕ)) → codes "0" ≡ term_text names zero_term ++ []
+pub zero_text : (names : List (List ℕ)) → codes "0" ≡ term_text names zero_term ++ []
 unfolding unit
 zero_text names = sym (ap (λ fs. with_factors (whole (pos 0)) fs ++ []) (no_factors names 12) ∙ ap (λ ds. ds ++ []) (decimal_digit 0 (omega arith)))
 
@@ -159,7 +162,7 @@ unit_degree : degree unit ≤ 32767
 unfolding degree unit
 unit_degree = omega arith
 
-zero_good : (s : Signature) → IsPrintableTerm s zero_term
+pub zero_good : (s : Signature) → IsPrintableTerm s zero_term
 zero_good s = record { variables = λ x l. exponent-unit x; storable = record { numerator = omega arith; denominator = omega arith; degree = unit_degree } }
 
 pub record IsFirst (s : Signature) (o : Order) (names : List (List ℕ)) (all : Terms) (text : List ℕ) : Type 0 where

@@ -6,3 +6,4 @@ pub mod RowParts
 pub mod Lines
 pub mod FaultyLine
 pub mod Printable
+pub mod Laws

@@ -2,7 +2,8 @@
 //!
 //! The canonical text of an operator is a function of the operator (`specs/CanonicalText.antt`), which
 //! [`print_operator`] writes, [`append_operator`] writes behind other text, and [`read_canonical`] reads,
-//! and nothing else. [`append_row`] and [`read_row`] do so with the line of a row (`specs/RowText.antt`).
+//! and nothing else. [`append_row`] and [`read_row`] do so with the line of a row (`specs/RowText.antt`). The
+//! law function of [`laws`] says that no text is the canonical text of two operators.
 //!
 //! [`Names`] keeps the declared names in order. `specs/Lines.antt` and `specs/FaultyLine.antt` say what the lines of a
 //! text are and which one is faulty, for the crates that read whole texts.
@@ -11,6 +12,7 @@
 #![tactic(auto)]
 
 pub mod canonical;
+pub mod laws;
 pub mod names;
 pub mod print;
 pub mod row_text;

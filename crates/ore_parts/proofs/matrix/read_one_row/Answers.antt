@@ -3,7 +3,7 @@ use Rattle.std.specs.List.{All, AllByRecursion}
 use Rattle.ore_ring.specs.Belongs.{Belongs}
 use Rattle.ore_ring.specs.Ordered.{Ordered}
 use Rattle.ore_rows.specs.Stored.{sums_of}
-use Rattle.ore_expr.specs.Laws.{IsPrintable}
+use Rattle.ore_text.specs.Printable.{IsPrintable}
 use Rattle.ore_text.specs.RowText.{row_text}
 use Rattle.ore_parts.specs.Formats.{Finds}
 use Rattle.ore_parts.specs.PartFormats.{stored_row_format}

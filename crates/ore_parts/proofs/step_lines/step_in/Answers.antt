@@ -5,7 +5,7 @@ use Rattle.ore_algebra.specs.Free.{single}
 use Rattle.ore_rational.specs.Fraction.{Fraction}
 use Rattle.ore_rational.proofs.FractionLaws.{rationals}
 use Rattle.ore_monomial.specs.Monomial.{Monomial, plain_cmp}
-use Rattle.ore_expr.specs.Laws.{IsPrintable}
+use Rattle.ore_text.specs.Printable.{IsPrintable}
 use Rattle.ore_rows.specs.Reduction.{step_operator}
 use Rattle.ore_text.specs.CanonicalText.{operator_text}
 use Rattle.ore_text.proofs.RowEntries.{is_front}
