@@ -1,3 +1,4 @@
+pub mod ReasonWords
 pub mod Same
 pub mod Conditions
 pub mod PlaceConditions

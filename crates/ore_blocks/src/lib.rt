@@ -7,11 +7,11 @@
 //! that is, a layout says (`ore_check`), and no condition.
 //!
 //! [`exact_block`] and [`outside_block`] answer just that: nothing where each place is right, else a [`Refusal`], which
-//! names its place (`specs/Judging.antt`). Blocks may have any sizes, and all operators are of the signature of the
-//! ring. The conditions and operations of single places that a certificate has outside its blocks are in [`equal`],
-//! [`formed`], [`products`] and [`refusal`]. As lemmas, over numbers of any size: an exact block without a refusal shows
-//! that the rows which take a matrix to zeros are a row module (`proofs/CheckedExact.antt`), and an outside block that a
-//! row is not in one (`proofs/CheckedOutside.antt`).
+//! names its place (`specs/Judging.antt`); a [`Reason`] has its word (`specs/ReasonWords.antt`). Blocks may have any
+//! sizes, and all operators are of the signature of the ring. The conditions and operations of single places that a
+//! certificate has outside its blocks are in [`equal`], [`formed`], [`products`] and [`refusal`]. As lemmas, over
+//! numbers of any size: an exact block without a refusal shows that the rows which take a matrix to zeros are a row
+//! module (`proofs/CheckedExact.antt`), and an outside block that a row is not in one (`proofs/CheckedOutside.antt`).
 //!
 //! A call that forms the value of several conditions goes through them in the order of the definition, so that the
 //! refusal is the first. A function that checks one place has the name of its condition.

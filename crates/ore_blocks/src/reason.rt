@@ -1,5 +1,8 @@
 //! Why conditions fail.
 
+ghost use Rattle.std.specs.Prelude.{◌≡◌};
+ghost use Rattle.ore_blocks.specs.ReasonWords.{reason_word};
+
 /// Why a condition fails.
 #[derive(Clone, Copy, Debug, PartialEq, Eq, Drop)]
 pub enum Reason {
@@ -45,4 +48,35 @@ pub enum Reason {
     Treat,
     /// The computation doesn't stop there.
     Stop,
+}
+
+impl Reason {
+    /// Its word in a reply.
+    pub fn word(self) -> &'static [u8]
+        ensures { result.now ≡ reason_word self }
+    {
+        match self {
+            Reason::Shape => b"shape",
+            Reason::ZeroOperator => b"zero-operator",
+            Reason::Cofactor => b"cofactor",
+            Reason::Identity => b"identity",
+            Reason::Unit => b"unit",
+            Reason::NotInKernel => b"not-in-kernel",
+            Reason::NotMonic => b"not-monic",
+            Reason::FromRow => b"from",
+            Reason::ToRow => b"to",
+            Reason::Pairs => b"pairs",
+            Reason::Pair => b"pair",
+            Reason::Remainder => b"remainder",
+            Reason::Step => b"step",
+            Reason::StepTooHigh => b"step-too-high",
+            Reason::Skip => b"skip",
+            Reason::Inside => b"inside",
+            Reason::Rest => b"rest",
+            Reason::Reducible => b"reducible",
+            Reason::Run => b"run",
+            Reason::Treat => b"treat",
+            Reason::Stop => b"stop",
+        }
+    }
 }

@@ -24,9 +24,9 @@ use Rattle.ore_monomial.specs.LetterRule.{Operator}
 use Rattle.ore_ring.specs.Belongs.{Belongs}
 use Rattle.ore_ring.specs.Ordered.{Ordered}
 use Rattle.ore_text.specs.CanonicalText.{operator_text}
-use Rattle.ore_expr.specs.Laws.{IsPrintable}
+use Rattle.ore_text.specs.Printable.{IsPrintable}
 use Rattle.ore_text.specs.Names.{AreNames}
-use Rattle.ore_expr.proofs.CanonicalUnique.{canonical_is_unique}
+use Rattle.ore_text.proofs.CanonicalUnique.{canonical_is_unique}
 use Rattle.ore_parts.specs.declared.block.Link.{Link}
 use Rattle.ore_cert.specs.declared.certificate.Side.TheVariants.{Left, Right}
 use Rattle.ore_cert.specs.declared.certificate.Certificate.{Certificate}

@@ -1,4 +1,5 @@
 pub mod EachKind
+pub mod KindWords
 pub mod WholeText
 pub mod CertificateOf
 pub mod KindFormat

@@ -4,6 +4,7 @@
 --     report_rest            a report, but for the line of its cause
 --     side_word              a side
 --     generators_name        the name of the generators of a kernel
+--     kind_details           what the line of the kind says behind its word
 --     kind_text              the line of the kind, which is the second of a certificate
 --     link_text              a matrix with its block
 --     operator_line          a word and an operator
@@ -22,7 +23,7 @@ use Rattle.ore_monomial.specs.Signature.{Signature}
 use Rattle.ore_ring.specs.Belongs.{Belongs}
 use Rattle.ore_ring.specs.Ordered.{Ordered}
 use Rattle.ore_text.specs.CanonicalText.{operator_text}
-use Rattle.ore_expr.specs.Laws.{IsPrintable}
+use Rattle.ore_text.specs.Printable.{IsPrintable}
 use Rattle.ore_rows.specs.declared.choices.Choice.{Choice}
 use Rattle.ore_rows.specs.declared.choices.Choice.TheVariants as choice
 use Rattle.ore_parts.specs.CertificateText.{number_bound}
@@ -34,6 +35,7 @@ use Rattle.ore_cert.specs.declared.certificate.Side.{Side}
 use Rattle.ore_cert.specs.declared.certificate.Side.TheVariants.{Left, Right}
 use Rattle.ore_cert.specs.declared.certificate.Certificate.{Certificate}
 use Rattle.ore_cert.specs.declared.certificate.Certificate.TheVariants.{Controllable, AutonomousElement, LeftInverse, RightInverse, NoLeftInverse, NoRightInverse, Kernel, Resolution, ExtZero, ExtNonzero, Halted}
+use Rattle.ore_cert.specs.KindWords.{kind_word}
 use Rattle.ore_cert.specs.EachKind.{Conditions, LinksMeet, CertificateMeets}
 pub use Rattle.ore_cert.specs.EachKind.{IsLength}
 use Rattle.ore_cert.specs.declared.report.Cause.{Cause}
@@ -94,19 +96,18 @@ abbrev pub generators_name : Side → List ℕ
 generators_name Left = codes "L"
 generators_name Right = codes "Q"
 
--- the word of the kind, and the number of links, the side or the cause where it has one
+-- what the line of the kind says behind its word: the side, the number of links or the cause
+abbrev pub kind_details : Certificate → List (List ℕ)
+kind_details (Kernel side generators block) = side_word side ∷ []
+kind_details (Resolution links) = decimal (length links) ∷ []
+kind_details (ExtZero links block) = decimal (length links) ∷ []
+kind_details (ExtNonzero links element block) = decimal (length links) ∷ []
+kind_details (Halted r) = cause_words r.cause
+kind_details c = []
+
+-- the word of the kind, and what is behind it
 abbrev pub kind_text : Certificate → List ℕ
-kind_text (Controllable q block) = codes "controllable\n"
-kind_text (AutonomousElement element operator cofactor block) = codes "autonomous-element\n"
-kind_text (LeftInverse m) = codes "left-inverse\n"
-kind_text (RightInverse m) = codes "right-inverse\n"
-kind_text (NoLeftInverse unit block) = codes "no-left-inverse\n"
-kind_text (NoRightInverse unit block) = codes "no-right-inverse\n"
-kind_text (Kernel side generators block) = line (codes "kernel" ∷ side_word side ∷ [])
-kind_text (Resolution links) = line (codes "resolution" ∷ decimal (length links) ∷ [])
-kind_text (ExtZero links block) = line (codes "ext-zero" ∷ decimal (length links) ∷ [])
-kind_text (ExtNonzero links element block) = line (codes "ext-nonzero" ∷ decimal (length links) ∷ [])
-kind_text (Halted r) = line (codes "halted" ∷ cause_words r.cause)
+kind_text c = line (kind_word c ∷ kind_details c)
 
 module _ (names : List (List ℕ)) (o : Order) where
   -- the matrix `L`, and then its exact block
@@ -137,8 +138,8 @@ module _ (names : List (List ℕ)) (o : Order) where
 
   -- of the verdicts, the kind with Q, or with the element and the operator; of another kind, the whole text
   abbrev pub brief_text : Certificate → List ℕ
-  brief_text (Controllable q block) = codes "controllable\n" ++ matrix_part names o (codes "Q") q
-  brief_text (AutonomousElement element operator cofactor block) = codes "autonomous-element\n" ++ (row_part names o (codes "element") element ++ operator_line (codes "operator") operator)
+  brief_text (Controllable q block) = kind_text (Controllable q block) ++ matrix_part names o (codes "Q") q
+  brief_text (AutonomousElement element operator cofactor block) = kind_text (AutonomousElement element operator cofactor block) ++ (row_part names o (codes "element") element ++ operator_line (codes "operator") operator)
   brief_text c = certificate_text c
 
 -- ---- what may be written

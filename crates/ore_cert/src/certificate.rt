@@ -1,5 +1,8 @@
 //! What certificates say.
 
+ghost use Rattle.std.specs.Prelude.{◌≡◌};
+ghost use Rattle.ore_cert.specs.KindWords.{kind_word};
+
 use crate::report::Report;
 use ore_parts::{ExactBlock, Links, OutsideBlock};
 use ore_ring::Op;
@@ -80,4 +83,25 @@ pub enum Certificate {
     Halted {
         report: Report,
     },
+}
+
+impl Certificate {
+    /// The word of its kind, which begins the second line of its text, and with which a reply names it.
+    pub fn word(&self) -> &'static [u8]
+        ensures { result.now ≡ kind_word self.now }
+    {
+        match self {
+            Certificate::Controllable { .. } => b"controllable",
+            Certificate::AutonomousElement { .. } => b"autonomous-element",
+            Certificate::LeftInverse { .. } => b"left-inverse",
+            Certificate::RightInverse { .. } => b"right-inverse",
+            Certificate::NoLeftInverse { .. } => b"no-left-inverse",
+            Certificate::NoRightInverse { .. } => b"no-right-inverse",
+            Certificate::Kernel { .. } => b"kernel",
+            Certificate::Resolution { .. } => b"resolution",
+            Certificate::ExtZero { .. } => b"ext-zero",
+            Certificate::ExtNonzero { .. } => b"ext-nonzero",
+            Certificate::Halted { .. } => b"halted",
+        }
+    }
 }

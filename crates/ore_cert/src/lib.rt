@@ -3,12 +3,14 @@
 //! A certificate is a text of lines, one spelling for each certificate (`specs/WholeText.antt`; its parts are those of
 //! `ore_parts`). [`read_certificate`] answers the certificate exactly where the text is that of one, else the faulty
 //! line, from 1: the first that no certificate with the same lines before it has there
-//! (`ore_parts/specs/FaultyLine.antt`). [`print_certificate`] writes the text, and [`print_brief`] the claim of a verdict alone. The law functions of [`laws`] say that what is
-//! printed is read as itself, that no text is that of two certificates, and that a text has one faulty line at most.
+//! (`ore_parts/specs/FaultyLine.antt`). [`print_certificate`] writes the text, and [`print_brief`] the claim of a
+//! verdict alone. The law functions of [`laws`] say that what is printed is read as itself, that no text is that of two
+//! certificates, and that a text has one faulty line at most.
 //!
-//! A certificate is the line of its kind, and then the parts that the kind has, each a format
-//! (`specs/WholeFormats.antt`). What is asked of its parts, as that they may be written or are of a signature, is a
-//! condition on each (`specs/EachKind.antt`, `specs/CertificateOf.antt`).
+//! A certificate is the line of its kind, which begins with the word of the kind ([`Certificate::word`],
+//! `specs/KindWords.antt`), and then the parts that the kind has, each a format (`specs/WholeFormats.antt`). What is
+//! asked of its parts, as that they may be written or are of a signature, is a condition on each
+//! (`specs/EachKind.antt`, `specs/CertificateOf.antt`).
 //!
 //! The number of links is from 1 to 12, and a text with too few lines is refused behind its last. Not proved, but how
 //! the readers are built: they go through the lines once, and store links and choices one by one as they are read, so

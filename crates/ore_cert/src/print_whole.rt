@@ -53,12 +53,14 @@ pub fn print_brief(
     ensures { IfOk result (λ text. text.items ≡ brief_text names.now sig.now.order cert.now) }
 {
     match cert {
-        Certificate::Controllable { q, .. } => print_controllable(alloc, sig, names, q),
+        Certificate::Controllable { q, .. } => {
+            print_controllable(alloc, sig, names, cert.word(), q)
+        }
         Certificate::AutonomousElement {
             element,
             operator,
             ..
-        } => print_autonomous(alloc, sig, names, element, operator),
+        } => print_autonomous(alloc, sig, names, cert.word(), element, operator),
         Certificate::LeftInverse { .. } => print_certificate(alloc, sig, names, cert),
         Certificate::RightInverse { .. } => print_certificate(alloc, sig, names, cert),
         Certificate::NoLeftInverse { .. } => print_certificate(alloc, sig, names, cert),
@@ -71,37 +73,41 @@ pub fn print_brief(
     }
 }
 
+// The line of the word, and the matrix Q.
 fn print_controllable(
     alloc: Global,
     sig: &Signature,
     names: &Names,
+    word: &[u8],
     q: &Matrix,
 ) -> Result<Vec<u8>, NoMemory>
     requires of { MatrixOf sig.now q.now }
     requires names { length names.now ≡ length sig.now.kinds }
-    ensures { IfOk result (λ text. text.items ≡ codes "controllable\n" ++ matrix_part names.now sig.now.order (codes "Q") q.now) }
+    ensures { IfOk result (λ text. text.items ≡ line (word.now ∷ []) ++ matrix_part names.now sig.now.order (codes "Q") q.now) }
 {
     let mut text = Vec::new(alloc);
-    text.extend_from_slice(b"controllable\n")?;
+    append_word(&mut text, word)?;
     append_matrix(&mut text, sig, names, b"Q", q)?;
     Ok(text)
 }
 
+// The line of the word, the element and the operator.
 fn print_autonomous(
     alloc: Global,
     sig: &Signature,
     names: &Names,
+    word: &[u8],
     element: &Row,
     operator: &Op,
 ) -> Result<Vec<u8>, NoMemory>
     requires element { All (Belongs sig.now) element.now }
     requires operator { Belongs sig.now operator.now }
     requires names { length names.now ≡ length sig.now.kinds }
-    ensures { IfOk result (λ text. text.items ≡ codes "autonomous-element\n" ++ (row_part names.now sig.now.order (codes "element") element.now
+    ensures { IfOk result (λ text. text.items ≡ line (word.now ∷ []) ++ (row_part names.now sig.now.order (codes "element") element.now
         ++ operator_line names.now sig.now.order (codes "operator") operator.now)) }
 {
     let mut text = Vec::new(alloc);
-    text.extend_from_slice(b"autonomous-element\n")?;
+    append_word(&mut text, word)?;
     append_row_part(&mut text, sig, names, b"element", element)?;
     append_operator_line(&mut text, sig, names, b"operator", operator)?;
     Ok(text)
@@ -111,29 +117,39 @@ fn print_autonomous(
 fn append_kind(out: &mut Vec<u8>, cert: &Certificate) -> Result<(), NoMemory>
     ensures { OnOk result (out.new.items ≡ out.old.items ++ kind_text cert.now) }
 {
+    let word = cert.word();
     match cert {
-        Certificate::Controllable { .. } => out.extend_from_slice(b"controllable\n")?,
-        Certificate::AutonomousElement { .. } => out.extend_from_slice(b"autonomous-element\n")?,
-        Certificate::LeftInverse { .. } => out.extend_from_slice(b"left-inverse\n")?,
-        Certificate::RightInverse { .. } => out.extend_from_slice(b"right-inverse\n")?,
-        Certificate::NoLeftInverse { .. } => out.extend_from_slice(b"no-left-inverse\n")?,
-        Certificate::NoRightInverse { .. } => out.extend_from_slice(b"no-right-inverse\n")?,
-        Certificate::Kernel { side, .. } => append_kernel(out, side)?,
-        Certificate::Resolution { links } => append_count(out, b"resolution", links.len())?,
-        Certificate::ExtZero { links, .. } => append_count(out, b"ext-zero", links.len())?,
-        Certificate::ExtNonzero { links, .. } => append_count(out, b"ext-nonzero", links.len())?,
-        Certificate::Halted { report } => append_cause(out, &report.cause)?,
+        Certificate::Controllable { .. } => append_word(out, word),
+        Certificate::AutonomousElement { .. } => append_word(out, word),
+        Certificate::LeftInverse { .. } => append_word(out, word),
+        Certificate::RightInverse { .. } => append_word(out, word),
+        Certificate::NoLeftInverse { .. } => append_word(out, word),
+        Certificate::NoRightInverse { .. } => append_word(out, word),
+        Certificate::Kernel { side, .. } => append_side(out, word, side),
+        Certificate::Resolution { links } => append_count(out, word, links.len()),
+        Certificate::ExtZero { links, .. } => append_count(out, word, links.len()),
+        Certificate::ExtNonzero { links, .. } => append_count(out, word, links.len()),
+        Certificate::Halted { report } => append_cause(out, word, &report.cause),
     }
+}
+
+// Appends the line of one word.
+fn append_word(out: &mut Vec<u8>, word: &[u8]) -> Result<(), NoMemory>
+    ensures { OnOk result (out.new.items ≡ out.old.items ++ line (word.now ∷ [])) }
+{
+    out.extend_from_slice(word)?;
+    out.push(b'\n')?;
     Ok(())
 }
 
-// Appends the line of the kind of a kernel.
-fn append_kernel(out: &mut Vec<u8>, side: &Side) -> Result<(), NoMemory>
-    ensures { OnOk result (out.new.items ≡ out.old.items ++ line (codes "kernel" ∷ side_word side.now ∷ [])) }
+// Appends the line of a word and a side.
+fn append_side(out: &mut Vec<u8>, word: &[u8], side: &Side) -> Result<(), NoMemory>
+    ensures { OnOk result (out.new.items ≡ out.old.items ++ line (word.now ∷ side_word side.now ∷ [])) }
 {
+    out.extend_from_slice(word)?;
     match side {
-        Side::Left => out.extend_from_slice(b"kernel left\n")?,
-        Side::Right => out.extend_from_slice(b"kernel right\n")?,
+        Side::Left => out.extend_from_slice(b" left\n")?,
+        Side::Right => out.extend_from_slice(b" right\n")?,
     }
     Ok(())
 }
@@ -371,13 +387,15 @@ fn append_report_rest(out: &mut Vec<u8>, report: &Report) -> Result<(), NoMemory
     append_stop(out, &report.stop)
 }
 
-fn append_cause(out: &mut Vec<u8>, cause: &Cause) -> Result<(), NoMemory>
-    ensures { OnOk result (out.new.items ≡ out.old.items ++ line (codes "halted" ∷ cause_words cause.now)) }
+// Appends the line of a word and a cause.
+fn append_cause(out: &mut Vec<u8>, word: &[u8], cause: &Cause) -> Result<(), NoMemory>
+    ensures { OnOk result (out.new.items ≡ out.old.items ++ line (word.now ∷ cause_words cause.now)) }
 {
+    out.extend_from_slice(word)?;
     match cause {
-        Cause::Overflow => out.extend_from_slice(b"halted overflow\n")?,
-        Cause::Degree => out.extend_from_slice(b"halted degree\n")?,
-        Cause::Budget(treated) => append_count(out, b"halted budget", *treated as usize)?,
+        Cause::Overflow => out.extend_from_slice(b" overflow\n")?,
+        Cause::Degree => out.extend_from_slice(b" degree\n")?,
+        Cause::Budget(treated) => append_count(out, b" budget", *treated as usize)?,
     }
     Ok(())
 }

@@ -1,4 +1,4 @@
--- The lines at which the places of a certificate stand in its text, from 1. The conditions know places alone.
+-- The lines at which the places of a certificate stand in its text, from 1. Conditions are said of places.
 --     entry_lines, lines_before        how many lines an entry of a list of pairs has, and how many the first k have
 --     behind                           the line behind a matrix that begins at a line
 --     exact_layout, outside_layout     where the parts of a section begin whose block is exact, or outside

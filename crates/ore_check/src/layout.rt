@@ -1,6 +1,6 @@
 //! The lines of the text of a certificate at which its places stand.
 //!
-//! The conditions know places alone. Another form of the text would be another layout.
+//! Conditions are said of places, so another form of the text would be another layout.
 
 ghost use Rattle.std.specs.Prelude.{◌≡◌, ◌+◌, ◌<◌, ◌≤◌, ◌^◌, suc, [], length};
 ghost use Rattle.ore_check.specs.Layout.{entry_lines, exact_layout, exact_line, inverse_layout, line_in, line_of, lines_before, outside_layout, outside_line, start_of};

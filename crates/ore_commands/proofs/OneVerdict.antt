@@ -20,13 +20,14 @@ use Rattle.ore_problem.specs.Problems.{System, Read, ◌>>=◌, prefix_of, prefi
 use Rattle.ore_problem.proofs.AcceptedReads.{prefix_stands}
 use Rattle.ore_cert.specs.declared.certificate.Certificate.{Certificate}
 use Rattle.ore_cert.specs.declared.certificate.Certificate.TheVariants.{Controllable, AutonomousElement, LeftInverse, RightInverse, NoLeftInverse, NoRightInverse, Kernel, Resolution, ExtZero, ExtNonzero, Halted}
+use Rattle.ore_cert.specs.KindWords.{kind_word}
 use Rattle.ore_cert.specs.WholeText.{certificate_text, IsWrittenCertificate, IsCertificate}
 use Rattle.ore_parts.specs.FaultyLine.{HasOneFaultyLine}
 use Rattle.ore_check.specs.Check.{check, IsNoReport}
 use Rattle.ore_check.specs.Layout.{line_in}
 use Rattle.ore_reply.specs.Replies.{Reply, malformed_at}
 use Rattle.ore_reply.specs.Answered.{IsReplyToRead}
-use Rattle.ore_commands.specs.Verdict.{kind_word, checked_reply, matrix_of, IsCertificateReply, IsCheckedReply, HasOneVerdict}
+use Rattle.ore_commands.specs.Verdict.{checked_reply, matrix_of, IsCertificateReply, IsCheckedReply, HasOneVerdict}
 
 abbrev pub OneCertificate : Type 0
 OneCertificate = (s : Signature) (names : List (List ℕ)) → AreNames names → length names ≡ length s.kinds → (a b : Certificate) → IsWrittenCertificate s names a → IsWrittenCertificate s names b

@@ -15,13 +15,14 @@ use Rattle.ore_cert.specs.declared.certificate.Certificate.TheVariants.{Controll
 use Rattle.ore_cert.specs.declared.report.Cause.TheVariants as cause
 use Rattle.ore_cert.specs.declared.report.Plan.TheVariants.{Analyse}
 use Rattle.ore_cert.specs.declared.report.Stop.TheVariants.{Forced}
+use Rattle.ore_cert.specs.KindWords.{kind_word}
 use Rattle.ore_cert.specs.WholeText.{certificate_text, IsWrittenRun, IsWrittenCertificate, IsCertificate}
 use Rattle.ore_check.specs.Check.{check, IsBuilt}
 use Rattle.ore_check.specs.Layout.{line_in}
 use Rattle.ore_reply.specs.Replies.{Reply, malformed_at}
 use Rattle.ore_reply.specs.Answered.{IsReplyToRead}
 use Rattle.ore_reply.specs.FaultReply.{fault_reply}
-use Rattle.ore_commands.specs.Verdict.{kind_word, checked_reply, matrix_of, IsCheckedReply, IsCertificateReply, LacksNoVerdict}
+use Rattle.ore_commands.specs.Verdict.{checked_reply, matrix_of, IsCheckedReply, IsCertificateReply, LacksNoVerdict}
 use Rattle.ore_commands.proofs.Verdicts.{claims_of}
 use Rattle.ore_commands.proofs.Faultless.{not_outside}
 

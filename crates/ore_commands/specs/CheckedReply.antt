@@ -1,10 +1,10 @@
 -- The reply to what a check answers.
 --     IsAnswerReply     the reply to the answer of a check; want of memory has none
 use Rattle.std.specs.Prelude.{◌≡◌, ℕ, ◌+◌, List}
+use Rattle.ore_blocks.specs.ReasonWords.{reason_word}
 use Rattle.ore_check.specs.declared.answer.Checked.{Checked as Answer}
 use Rattle.ore_check.specs.declared.answer.Checked.TheVariants as answer
 use Rattle.ore_reply.specs.Replies.{Reply, valid, invalid_at, overflow_at, degree_at}
-use Rattle.ore_commands.specs.Verdict.{reason_word}
 
 -- the lines of a certificate count on from those of its problem
 abbrev pub IsAnswerReply : ℕ → List ℕ → Answer → Reply → Type 0

@@ -1,5 +1,4 @@
 -- The reply of `check` to the bytes of an input, and what it says.
---     kind_word, reason_word         the word of a kind of certificates; the word of a condition that fails
 --     trouble_reply, checked_reply   the reply to a line that isn't right; the reply to what a check gives
 --     matrix_of                      the matrix of a problem
 --     IsCheckedReply                 the reply to a certificate
@@ -14,12 +13,11 @@ use Rattle.ore_algebra.specs.Limits.{program}
 use Rattle.ore_problem.specs.Accepted.{AcceptedFront}
 use Rattle.ore_problem.specs.Problems.{System, prefix_sizes}
 use Rattle.ore_cert.specs.declared.certificate.Certificate.{Certificate}
-use Rattle.ore_cert.specs.declared.certificate.Certificate.TheVariants as kind
+use Rattle.ore_cert.specs.KindWords.{kind_word}
 use Rattle.ore_cert.specs.WholeText.{certificate_text, IsWrittenCertificate, IsCertificate}
 use Rattle.ore_parts.specs.FaultyLine.{IsFaultyLine}
 use Rattle.ore_blocks.specs.declared.place.Place.{Place}
-use Rattle.ore_blocks.specs.declared.reason.Reason.{Reason}
-use Rattle.ore_blocks.specs.declared.reason.Reason.TheVariants as condition
+use Rattle.ore_blocks.specs.ReasonWords.{reason_word}
 use Rattle.ore_blocks.specs.Conditions.{Trouble, Fails, Stops, Checked}
 use Rattle.ore_blocks.specs.CheckBlock.{Plain}
 use Rattle.ore_check.specs.Check.{check, capped, IsBuilt, IsNoReport}
@@ -27,44 +25,6 @@ use Rattle.ore_check.specs.Layout.{line_in}
 use Rattle.ore_check.specs.Meaning.{Means}
 use Rattle.ore_reply.specs.Replies.{Reply, valid, invalid_at, malformed_at, stopped_at}
 use Rattle.ore_reply.specs.Answered.{IsReplyToRead}
-
--- the first word of the second line
-abbrev pub kind_word : Certificate → List ℕ
-kind_word (kind.Controllable q block) = codes "controllable"
-kind_word (kind.AutonomousElement element operator cofactor block) = codes "autonomous-element"
-kind_word (kind.LeftInverse s) = codes "left-inverse"
-kind_word (kind.RightInverse s) = codes "right-inverse"
-kind_word (kind.NoLeftInverse unit block) = codes "no-left-inverse"
-kind_word (kind.NoRightInverse unit block) = codes "no-right-inverse"
-kind_word (kind.Kernel side generators block) = codes "kernel"
-kind_word (kind.Resolution links) = codes "resolution"
-kind_word (kind.ExtZero links block) = codes "ext-zero"
-kind_word (kind.ExtNonzero links element block) = codes "ext-nonzero"
-kind_word (kind.Halted report) = codes "halted"
-
--- the word of a condition, as it stands behind the number of the line
-abbrev pub reason_word : Reason → List ℕ
-reason_word condition.Shape = codes "shape"
-reason_word condition.ZeroOperator = codes "zero-operator"
-reason_word condition.Cofactor = codes "cofactor"
-reason_word condition.Identity = codes "identity"
-reason_word condition.Unit = codes "unit"
-reason_word condition.NotInKernel = codes "not-in-kernel"
-reason_word condition.NotMonic = codes "not-monic"
-reason_word condition.FromRow = codes "from"
-reason_word condition.ToRow = codes "to"
-reason_word condition.Pairs = codes "pairs"
-reason_word condition.Pair = codes "pair"
-reason_word condition.Remainder = codes "remainder"
-reason_word condition.Step = codes "step"
-reason_word condition.StepTooHigh = codes "step-too-high"
-reason_word condition.Skip = codes "skip"
-reason_word condition.Inside = codes "inside"
-reason_word condition.Rest = codes "rest"
-reason_word condition.Reducible = codes "reducible"
-reason_word condition.Run = codes "run"
-reason_word condition.Treat = codes "treat"
-reason_word condition.Stop = codes "stop"
 
 -- a condition of the line fails, or an operation that it calls for stops
 abbrev pub trouble_reply : ℕ → Trouble → Reply

@@ -11,7 +11,8 @@
 //! extension modules and of stopped computations are read and not checked yet.
 //!
 //!  * `command`: the commands.
-//!  * `kind`, `condition`: the words of the kinds of certificates and of their conditions.
+//!  * `kind`: which kinds of certificates are checked.
+//!  * `condition`: the reply to the answer of a check.
 //!  * `verify`: the reply to a certificate, checked in the ring that the signature has.
 //!  * `check`: the reply of `check` to the bytes.
 //!  * `top`: the top call.

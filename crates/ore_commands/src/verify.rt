@@ -3,6 +3,7 @@
 ghost use Rattle.std.specs.Prelude.{◌≡◌, IfOk};
 ghost use Rattle.ore_algebra.specs.Limits.{program};
 ghost use Rattle.ore_cert.specs.CertificateOf.{IsCertificateOf};
+ghost use Rattle.ore_cert.specs.KindWords.{kind_word};
 ghost use Rattle.ore_check.specs.Check.{check as check_of, Answers, IsBuilt, IsNoReport};
 ghost use Rattle.ore_check.specs.Layout.{line_in};
 ghost use Rattle.ore_blocks.specs.CheckBlock.{plain};
@@ -13,7 +14,7 @@ ghost use Rattle.ore_reply.specs.MadeReply.{reply_of};
 ghost use Rattle.ore_commands.specs.Verdict as verdict;
 
 use crate::condition::answer_reply;
-use crate::kind::{is_built, kind_word};
+use crate::kind::is_built;
 use ore_cert::Certificate;
 use ore_check::{Checked, check};
 use ore_commutative::CommutativeRing;
@@ -42,13 +43,13 @@ pub fn certificate_reply(
     requires of { IsCertificateOf problem.now.signature cert.now }
     ensures reply { IfOk result (λ r. verdict.IsCheckedReply (system_of problem.now) lines cert.now (reply_of r)) }
     ensures valid { IfOk result (λ r. r.status ≡ Status.Done → IsBuilt cert.now
-        × Means problem.now.signature (plain problem.now.matrix) cert.now × (r.text.items ≡ (replies.valid (verdict.kind_word cert.now)).text)) }
+        × Means problem.now.signature (plain problem.now.matrix) cert.now × (r.text.items ≡ (replies.valid (kind_word cert.now)).text)) }
 {
     if !is_built(cert) {
         return malformed_at(alloc, lines as u128 + 2, b"not-built");
     }
     let answer = checked(alloc, problem, cert);
-    answer_reply(alloc, lines, kind_word(cert), answer)
+    answer_reply(alloc, lines, cert.word(), answer)
 }
 
 // The answer of the check, in the ring with the simplest body that the signature has. Where it is that the certificate is

@@ -1,6 +1,7 @@
 use Rattle.std.proofs.Common.{◌≡◌, ◌+◌, inl, inr, subst}
 use Rattle.std.specs.Prelude.{codes}
 use Rattle.ore_parts.specs.Reading.{IsFaultOf}
+use Rattle.ore_cert.specs.KindWords.{kind_word}
 use Rattle.ore_cert.specs.WholeText.{IsCertificate}
 use Rattle.ore_check.specs.Check.{IsBuilt}
 use Rattle.ore_blocks.specs.CheckBlock.{plain}
@@ -9,7 +10,7 @@ use Rattle.ore_problem.specs.Stored.{system_of}
 use Rattle.ore_reply.specs.Replies.{valid, malformed_at}
 use Rattle.ore_reply.specs.MadeReply.{reply_of}
 use Rattle.ore_reply.specs.declared.status.Status.TheVariants.{Done}
-use Rattle.ore_commands.specs.Verdict.{IsCertificateReply, IsCheckedReply, SaysValid, kind_word}
+use Rattle.ore_commands.specs.Verdict.{IsCertificateReply, IsCheckedReply, SaysValid}
 use Rattle.ore_commands.proofs.Verdicts.{if_ok}
 use Rattle.ore_commands.proofs.check.text_reply.Goals as goal
 
