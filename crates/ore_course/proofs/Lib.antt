@@ -1,0 +1,13 @@
+pub mod Basics
+pub mod Leads
+pub mod Honesty
+pub mod Calls
+pub mod OneRun
+pub mod Replay
+pub mod Completeness
+pub mod Uniqueness
+pub mod Budget
+pub mod AnyRuleLaws
+pub mod OnlyForced
+pub mod FirstFailing
+mod Examples

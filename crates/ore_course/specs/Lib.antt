@@ -1,0 +1,10 @@
+pub mod Choices
+pub mod Course
+pub mod Leading
+pub mod Report
+pub mod Failing
+pub mod FirstFailing
+pub mod Following
+pub mod Replaying
+pub mod Bounded
+pub mod Laws
