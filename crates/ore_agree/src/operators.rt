@@ -94,3 +94,17 @@ pub(crate) fn gives<R: OreRing>(
     let expected = operator(signature, alloc, product)?;
     Ok(ring.mul(alloc, &f, &g)?.equal(&expected))
 }
+
+// The power of t.
+fn power_of_t(exponent: u16) -> Result<Exps, Fail> {
+    Ok(Exps::from_list(&[exponent, 0, 0, 0, 0, 0, 0, 0, 0, 0, 0, 0])?)
+}
+
+#[test]
+fn a_term_is_appended(rt: HostRuntime) -> Result<(), Fail> {
+    let mut op = Op::zero(rt.alloc(), Order::DegRevLex);
+    op.push(power_of_t(3)?, Rational::one())?;
+    assert_eq!(rt; op.len(), 1);
+    assert!(rt; op.get(0) == Some((power_of_t(3)?, Rational::one())));
+    Ok(())
+}
