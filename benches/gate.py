@@ -5,7 +5,6 @@ Run beside `.ci/run`: benches/gate.py PID, with the process number of `rt ci`; i
 The processes of the prover are looked at every two seconds, so each figure is short by up to that.
 """
 import os
-import re
 import sys
 import time
 
@@ -37,11 +36,10 @@ def descendants(top):
 
 def look(pid, seen):
     words = read(f"/proc/{pid}/cmdline").split(b"\0")
-    if len(words) < 2 or not words[0].endswith(b"/rattle") or words[1] != b"check" or b"--crate-name" not in words:
+    if len(words) < 2 or not words[0].endswith(b"/rattle") or words[1] not in (b"check", b"build") or b"--crate-name" not in words:
         return
     crate = words[words.index(b"--crate-name") + 1].decode()
-    folder = os.readlink(f"/proc/{pid}/cwd") if os.path.exists(f"/proc/{pid}/cwd") else ""
-    kind = "tests" if b"--test" in words else "edits" if re.search(r"fail|edit", folder) else "proof"
+    kind = "edits" if "rt-edit" in os.readlink(f"/proc/{pid}/cwd") else "tests" if b"--test" in words else "proof"
     fields = read(f"/proc/{pid}/stat").rpartition(b")")[2].split()
     if fields:
         seen[pid] = (crate, kind, sum(map(int, fields[11:15])) / TICKS)
