@@ -1,5 +1,5 @@
 -- The laws of a domain's numbers, in the domain's words.
---     none_plus, one_times, ..      laws that its ring has
+--     zero_plus, one_times, ..      laws that its ring has
 --     times_left_comm               a product by two numbers, in either order
 --     plus_cancel                   one part of two equal sums is dropped
 use Rattle.std.proofs.Common.{◌≡◌, sym, ap, ◌∙◌}
@@ -7,8 +7,8 @@ use Rattle.ore_algebra.specs.Domain.{Domain}
 use Rattle.ore_algebra.proofs.RingLaws
 
 module _ (K : Domain) where
-  pub none_plus : (x : K.Number) → K.plus K.none x ≡ x
-  none_plus = RingLaws.zero-add K.ring
+  pub zero_plus : (x : K.Number) → K.plus K.zero x ≡ x
+  zero_plus = RingLaws.zero-add K.ring
 
   pub plus_left_comm : (x y z : K.Number) → K.plus x (K.plus y z) ≡ K.plus y (K.plus x z)
   plus_left_comm = RingLaws.add_left_comm K.ring
@@ -22,11 +22,11 @@ module _ (K : Domain) where
   pub one_times : (x : K.Number) → K.times K.one x ≡ x
   one_times = K.ring.one-mul
 
-  pub times_none : (x : K.Number) → K.times x K.none ≡ K.none
-  times_none = RingLaws.mul-zero K.ring
+  pub times_zero : (x : K.Number) → K.times x K.zero ≡ K.zero
+  times_zero = RingLaws.mul-zero K.ring
 
-  pub none_times : (x : K.Number) → K.times K.none x ≡ K.none
-  none_times = RingLaws.zero-mul K.ring
+  pub zero_times : (x : K.Number) → K.times K.zero x ≡ K.zero
+  zero_times = RingLaws.zero-mul K.ring
 
   pub plus_times : (x y z : K.Number) → K.times (K.plus x y) z ≡ K.plus (K.times x z) (K.times y z)
   plus_times = K.ring.add-mul

@@ -1,3 +1,4 @@
+pub mod ResultLaws
 pub mod LimitLaws
 pub mod GroupLaws
 pub mod RingLaws
@@ -9,5 +10,6 @@ pub mod DomainLaws
 pub mod FreeLaws
 pub mod Linear
 pub mod Integers
+pub mod RingMaps
 pub mod Solve
 mod Examples

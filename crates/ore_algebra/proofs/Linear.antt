@@ -1,5 +1,5 @@
 -- Finite sums of terms are a module with the keys as a basis, and linear maps are told by what they do to keys.
---     extend h                            the linear map that takes each key m to h m
+--     linear_extension h                            the linear map that takes each key m to h m
 --     IsLinear                            a map keeps sums and multiples
 --     linear_is, same_linear              a linear map is the extension of what it does to keys; two that agree there are equal
 --     linear_extend, linear_after, ..     linear maps that are formed from others
@@ -10,9 +10,9 @@ use Rattle.std.specs.declared.cmp.Ordering.{Ordering}
 use Rattle.std.specs.Cmp.{IsTotalOrder}
 use Rattle.std.specs.FinMap.{IsAntisymmetric}
 use Rattle.ore_algebra.specs.Domain.{Domain}
-use Rattle.ore_algebra.specs.Free.{Free, terms, collect, none, single, plus, scale, extend}
-use Rattle.ore_algebra.proofs.DomainLaws.{none_plus, plus_left_comm, one_times, times_none, none_times, plus_swap, plus_times, minus_times}
-use Rattle.ore_algebra.proofs.FreeLaws.{weigh-append, weigh-scaled, weigh, total-none, total-single, total-plus, total-scale, total-extend, total_same, total_sum, total_multiple, same_totals, same_sum, coefficient-collect, sum_at-terms, total-collect}
+use Rattle.ore_algebra.specs.Free.{Free, terms, collect, empty_sum, single, plus, scale, linear_extension}
+use Rattle.ore_algebra.proofs.DomainLaws.{zero_plus, plus_left_comm, one_times, times_zero, zero_times, plus_swap, plus_times, minus_times}
+use Rattle.ore_algebra.proofs.FreeLaws.{weigh-append, weigh-scaled, weigh, total-empty_sum, total-single, total-plus, total-scale, total-extend, total_same, total_sum, total_multiple, same_totals, same_sum, coefficient-collect, sum_at-terms, total-collect}
 
 module _ (K : Domain) {M : Type 0} {R : M → M → Ordering} (o : IsTotalOrder R) (same : IsAntisymmetric R) where
   pub plus_comm : (f g : Free K R) → plus K R f g ≡ plus K R g f
@@ -24,14 +24,14 @@ module _ (K : Domain) {M : Type 0} {R : M → M → Ordering} (o : IsTotalOrder 
   pub plus-left_comm : (f g h : Free K R) → plus K R f (plus K R g h) ≡ plus K R g (plus K R f h)
   plus-left_comm f g h = same_totals K o same _ _ (λ w. simp (total-plus K o same) (plus_left_comm K _ _ _))
 
-  pub plus_none : (f : Free K R) → plus K R f (none K R) ≡ f
-  plus_none f = same_totals K o same _ _ (λ w. simp (total-plus K o same, total-none K o same) (K.plus_none _))
+  pub plus_zero : (f : Free K R) → plus K R f (empty_sum K R) ≡ f
+  plus_zero f = same_totals K o same _ _ (λ w. simp (total-plus K o same, total-empty_sum K o same) (K.plus_zero _))
 
-  pub none-plus : (f : Free K R) → plus K R (none K R) f ≡ f
-  none-plus f = same_totals K o same _ _ (λ w. simp (total-plus K o same, total-none K o same) (none_plus K _))
+  pub zero-plus : (f : Free K R) → plus K R (empty_sum K R) f ≡ f
+  zero-plus f = same_totals K o same _ _ (λ w. simp (total-plus K o same, total-empty_sum K o same) (zero_plus K _))
 
-  pub plus_opposite : (f : Free K R) → plus K R f (scale K R (K.minus K.one) f) ≡ none K R
-  plus_opposite f = same_totals K o same _ _ (λ w. simp (total-plus K o same, total-scale K o same, total-none K o same, minus_times K, one_times K) (K.plus_minus _))
+  pub plus_opposite : (f : Free K R) → plus K R f (scale K R (K.minus K.one) f) ≡ empty_sum K R
+  plus_opposite f = same_totals K o same _ _ (λ w. simp (total-plus K o same, total-scale K o same, total-empty_sum K o same, minus_times K, one_times K) (K.plus_minus _))
 
   pub scale-plus : (k : K.Number) (f g : Free K R) → scale K R k (plus K R f g) ≡ plus K R (scale K R k f) (scale K R k g)
   scale-plus k f g = same_totals K o same _ _ (λ w. simp (total-plus K o same, total-scale K o same) (K.times_plus _ _ _))
@@ -45,11 +45,11 @@ module _ (K : Domain) {M : Type 0} {R : M → M → Ordering} (o : IsTotalOrder 
   pub scale_one : (f : Free K R) → scale K R K.one f ≡ f
   scale_one f = same_totals K o same _ _ (λ w. simp (total-scale K o same) (one_times K _))
 
-  pub scale_none : (k : K.Number) → scale K R k (none K R) ≡ none K R
-  scale_none k = same_totals K o same _ _ (λ w. simp (total-scale K o same, total-none K o same) (times_none K _))
+  pub scale-empty_sum : (k : K.Number) → scale K R k (empty_sum K R) ≡ empty_sum K R
+  scale-empty_sum k = same_totals K o same _ _ (λ w. simp (total-scale K o same, total-empty_sum K o same) (times_zero K _))
 
-  pub none_scale : (f : Free K R) → scale K R K.none f ≡ none K R
-  none_scale f = same_totals K o same _ _ (λ w. simp (total-scale K o same, total-none K o same) (none_times K _))
+  pub zero_scale : (f : Free K R) → scale K R K.zero f ≡ empty_sum K R
+  zero_scale f = same_totals K o same _ _ (λ w. simp (total-scale K o same, total-empty_sum K o same) (zero_times K _))
 
   pub scale-single : (j k : K.Number) (m : M) → scale K R j (single K R m k) ≡ single K R m (K.times j k)
   scale-single j k m = same_totals K o same _ _ (λ w. simp (total-scale K o same, total-single K o same) (sym (K.times_assoc _ _ _)))
@@ -57,46 +57,46 @@ module _ (K : Domain) {M : Type 0} {R : M → M → Ordering} (o : IsTotalOrder 
   pub single_scale : (m : M) (k : K.Number) → single K R m k ≡ scale K R k (single K R m K.one)
   single_scale m k = sym (scale-single k K.one m ∙ ap (single K R m) (K.times_one k))
 
-  pub single_none : (m : M) → single K R m K.none ≡ none K R
-  single_none m = same_totals K o same _ _ (λ w. simp (total-single K o same, total-none K o same) (none_times K _))
+  pub single_zero : (m : M) → single K R m K.zero ≡ empty_sum K R
+  single_zero m = same_totals K o same _ _ (λ w. simp (total-single K o same, total-empty_sum K o same) (zero_times K _))
 
   pub single-plus : (m : M) (j k : K.Number) → single K R m (K.plus j k) ≡ plus K R (single K R m j) (single K R m k)
   single-plus m j k = same_totals K o same _ _ (λ w. simp (total-single K o same, total-plus K o same) (plus_times K _ _ _))
 
   -- ---- linear maps
 
-  pub extend-single : (h : M → Free K R) (m : M) (k : K.Number) → extend K R h (single K R m k) ≡ scale K R k (h m)
+  pub extend-single : (h : M → Free K R) (m : M) (k : K.Number) → linear_extension K R h (single K R m k) ≡ scale K R k (h m)
   extend-single h m k = same_totals K o same _ _ (λ w. simp (total-extend K o same, total-single K o same, total-scale K o same))
 
-  pub extend_one : (h : M → Free K R) (m : M) → extend K R h (single K R m K.one) ≡ h m
+  pub extend_one : (h : M → Free K R) (m : M) → linear_extension K R h (single K R m K.one) ≡ h m
   extend_one h m = extend-single h m K.one ∙ scale_one (h m)
 
-  pub extend-none : (h : M → Free K R) → extend K R h (none K R) ≡ none K R
-  extend-none h = same_totals K o same _ _ (λ w. simp (total-extend K o same, total-none K o same))
+  pub extend-none : (h : M → Free K R) → linear_extension K R h (empty_sum K R) ≡ empty_sum K R
+  extend-none h = same_totals K o same _ _ (λ w. simp (total-extend K o same, total-empty_sum K o same))
 
-  pub extend-plus : (h : M → Free K R) (f g : Free K R) → extend K R h (plus K R f g) ≡ plus K R (extend K R h f) (extend K R h g)
+  pub extend-plus : (h : M → Free K R) (f g : Free K R) → linear_extension K R h (plus K R f g) ≡ plus K R (linear_extension K R h f) (linear_extension K R h g)
   extend-plus h f g = same_totals K o same _ _ (λ w. simp (total-extend K o same, total-plus K o same))
 
-  pub extend-scale : (h : M → Free K R) (k : K.Number) (f : Free K R) → extend K R h (scale K R k f) ≡ scale K R k (extend K R h f)
+  pub extend-scale : (h : M → Free K R) (k : K.Number) (f : Free K R) → linear_extension K R h (scale K R k f) ≡ scale K R k (linear_extension K R h f)
   extend-scale h k f = same_totals K o same _ _ (λ w. simp (total-extend K o same, total-scale K o same))
 
-  pub extend_same : (h g : M → Free K R) (f : Free K R) → ((m : M) → h m ≡ g m) → extend K R h f ≡ extend K R g f
-  extend_same h g f e = ap (λ (u : M → Free K R). extend K R u f) (λ i m. e m i)
+  pub extend_same : (h g : M → Free K R) (f : Free K R) → ((m : M) → h m ≡ g m) → linear_extension K R h f ≡ linear_extension K R g f
+  extend_same h g f e = ap (λ (u : M → Free K R). linear_extension K R u f) (λ i m. e m i)
 
-  pub extend-extend : (g h : M → Free K R) (f : Free K R) → extend K R g (extend K R h f) ≡ extend K R (λ m. extend K R g (h m)) f
+  pub extend-extend : (g h : M → Free K R) (f : Free K R) → linear_extension K R g (linear_extension K R h f) ≡ linear_extension K R (λ m. linear_extension K R g (h m)) f
   extend-extend g h f = same_totals K o same _ _ (λ w. simp (total-extend K o same))
 
-  pub extend_plus : (h g : M → Free K R) (f : Free K R) → extend K R (λ m. plus K R (h m) (g m)) f ≡ plus K R (extend K R h f) (extend K R g f)
+  pub extend_plus : (h g : M → Free K R) (f : Free K R) → linear_extension K R (λ m. plus K R (h m) (g m)) f ≡ plus K R (linear_extension K R h f) (linear_extension K R g f)
   extend_plus h g f = same_totals K o same _ _ (λ w. simp (total-extend K o same, total-plus K o same) (total_sum K o same _ _ f))
 
-  pub extend_scale : (k : K.Number) (h : M → Free K R) (f : Free K R) → extend K R (λ m. scale K R k (h m)) f ≡ scale K R k (extend K R h f)
+  pub extend_scale : (k : K.Number) (h : M → Free K R) (f : Free K R) → linear_extension K R (λ m. scale K R k (h m)) f ≡ scale K R k (linear_extension K R h f)
   extend_scale k h f = same_totals K o same _ _ (λ w. simp (total-extend K o same, total-scale K o same) (total_multiple K o same k _ f))
 
-  pub extend_singles : (f : Free K R) → extend K R (λ m. single K R m K.one) f ≡ f
+  pub extend_singles : (f : Free K R) → linear_extension K R (λ m. single K R m K.one) f ≡ f
   extend_singles f = same_totals K o same _ _ (λ w. total-extend K o same w _ f ∙ total_same K o same _ _ f (λ m. total-single K o same w m K.one ∙ one_times K _))
 
-  pub extend_none : (f : Free K R) → extend K R (λ m. none K R) f ≡ none K R
-  extend_none f = ap (λ (u : M → Free K R). extend K R u f) (λ i m. sym (none_scale (none K R)) i) ∙ extend_scale K.none (λ m. none K R) f ∙ none_scale _
+  pub extend_none : (f : Free K R) → linear_extension K R (λ m. empty_sum K R) f ≡ empty_sum K R
+  extend_none f = ap (λ (u : M → Free K R). linear_extension K R u f) (λ i m. sym (zero_scale (empty_sum K R)) i) ∙ extend_scale K.zero (λ m. empty_sum K R) f ∙ zero_scale _
 
   -- ---- induction on a sum, a term at a time
 
@@ -113,8 +113,8 @@ module _ (K : Domain) {M : Type 0} {R : M → M → Ordering} (o : IsTotalOrder 
   pub collect-terms : (f : Free K R) → collect K R (terms K R f) ≡ f
   collect-terms f = same_sum K o same _ _ (λ q. coefficient-collect K o same (terms K R f) q ∙ sum_at-terms K o same f q)
 
-  pub by_terms {ℓ} : (P : Free K R → Type ℓ) → P (none K R) → ((m : M) (k : K.Number) (f : Free K R) → P f → P (plus K R (single K R m k) f)) → (f : Free K R) → P f
-  unfolding none
+  pub by_terms {ℓ} : (P : Free K R → Type ℓ) → P (empty_sum K R) → ((m : M) (k : K.Number) (f : Free K R) → P f → P (plus K R (single K R m k) f)) → (f : Free K R) → P f
+  unfolding empty_sum
   by_terms P empty more f = subst P (collect-terms f) (over (terms K R f))
     where
       over : (ts : List (M × K.Number)) → P (collect K R ts)
@@ -126,12 +126,12 @@ pub record IsLinear (K : Domain) {M : Type 0} (R : M → M → Ordering) (S : Fr
   pub scale : (k : K.Number) (f : Free K R) → S (scale K R k f) ≡ scale K R k (S f)
 
 module _ (K : Domain) {M : Type 0} {R : M → M → Ordering} (o : IsTotalOrder R) (same : IsAntisymmetric R) where
-  pub linear-none : {S : Free K R → Free K R} → IsLinear K R S → S (none K R) ≡ none K R
-  linear-none {S} l = ap S (sym (none_scale K o same (none K R))) ∙ l.scale K.none (none K R) ∙ none_scale K o same _
+  pub linear-empty_sum : {S : Free K R → Free K R} → IsLinear K R S → S (empty_sum K R) ≡ empty_sum K R
+  linear-empty_sum {S} l = ap S (sym (zero_scale K o same (empty_sum K R))) ∙ l.scale K.zero (empty_sum K R) ∙ zero_scale K o same _
 
   -- a linear map is told by what it does to the keys
-  pub linear_is : {S : Free K R → Free K R} → IsLinear K R S → (f : Free K R) → S f ≡ extend K R (λ m. S (single K R m K.one)) f
-  linear_is {S} l = by_terms K o same (λ f. S f ≡ extend K R (λ m. S (single K R m K.one)) f) (linear-none l ∙ sym (extend-none K o same h))
+  pub linear_is : {S : Free K R → Free K R} → IsLinear K R S → (f : Free K R) → S f ≡ linear_extension K R (λ m. S (single K R m K.one)) f
+  linear_is {S} l = by_terms K o same (λ f. S f ≡ linear_extension K R (λ m. S (single K R m K.one)) f) (linear-empty_sum l ∙ sym (extend-none K o same h))
       (λ m k f e. l.plus _ f ∙ (λ i. plus K R ((ap S (single_scale K o same m k) ∙ l.scale k _ ∙ sym (extend-single K o same h m k)) i) (e i)) ∙ sym (extend-plus K o same h _ f))
     where
       h : M → Free K R
@@ -143,7 +143,7 @@ module _ (K : Domain) {M : Type 0} {R : M → M → Ordering} (o : IsTotalOrder 
   pub linear_itself : IsLinear K R (λ f. f)
   linear_itself = record { plus = λ f g. refl; scale = λ k f. refl }
 
-  pub linear_extend : (h : M → Free K R) → IsLinear K R (extend K R h)
+  pub linear_extend : (h : M → Free K R) → IsLinear K R (linear_extension K R h)
   linear_extend h = record { plus = extend-plus K o same h; scale = extend-scale K o same h }
 
   pub linear_after : {S T : Free K R → Free K R} → IsLinear K R S → IsLinear K R T → IsLinear K R (λ f. S (T f))
@@ -165,7 +165,7 @@ module _ (K : Domain) {M : Type 0} {R : M → M → Ordering} (o : IsTotalOrder 
   }
 
   -- linear in the map that is extended
-  pub linear_weights : (f : Free K R) (h : M → Free K R → Free K R) → ((m : M) → IsLinear K R (h m)) → IsLinear K R (λ g. extend K R (λ m. h m g) f)
+  pub linear_weights : (f : Free K R) (h : M → Free K R → Free K R) → ((m : M) → IsLinear K R (h m)) → IsLinear K R (λ g. linear_extension K R (λ m. h m g) f)
   linear_weights f h l = record {
     plus = λ g j. extend_same K o same _ _ f (λ m. (l m).plus g j) ∙ extend_plus K o same (λ m. h m g) (λ m. h m j) f;
     scale = λ c g. extend_same K o same _ _ f (λ m. (l m).scale c g) ∙ extend_scale K o same c (λ m. h m g) f;

@@ -3,17 +3,16 @@
 --     Limits                the greatest magnitude and the greatest degree, each where there is one
 --     program, unlimited    the limits of the program; no limits
 --     is_within             a number is no greater than a limit
---     _>>=_                 go on with the value, or keep the cause
---     where_test            the value where a test passes, else the cause
+--     guard            the value where a test passes, else the cause
 --     fold_within           a list one after another, from a state, as far as each step goes on
 --     map_within            each item of a list in order
---     fronted               the items with a front before them
 --     IsAtMost              an operation under tighter limits: where it gives a value, the other gives the same
-use Rattle.std.specs.Prelude.{◌≡◌, ℕ, Bool, true, cond, nat_le, List, [], ◌∷◌, ◌++◌}
+use Rattle.std.specs.Prelude.{◌≡◌, ℕ, Bool, true, cond, nat_le, List, [], ◌∷◌}
 use Rattle.std.specs.declared.option.Option.{Option}
 use Rattle.std.specs.declared.option.Option.TheVariants.{None, Some}
 use Rattle.std.specs.declared.result.Result.{Result}
 use Rattle.std.specs.declared.result.Result.TheVariants.{Ok, Err}
+pub use Rattle.ore_algebra.specs.Results.{◌>>=◌, fronted}
 
 pub data Cause : Type 0 where
   Overflow : Cause
@@ -34,13 +33,8 @@ abbrev pub is_within : Option ℕ → ℕ → Bool
 is_within None n = true
 is_within (Some most) n = nat_le n most
 
-infixl 10 ◌>>=◌
-abbrev pub ◌>>=◌ : {A B : Type 0} → Result A Cause → (A → Result B Cause) → Result B Cause
-(Ok x) >>= f = f x
-(Err e) >>= f = Err e
-
-abbrev pub where_test : {A : Type 0} → Bool → A → Cause → Result A Cause
-where_test b x e = cond b (Ok x) (Err e)
+abbrev pub guard : {A : Type 0} → Bool → A → Cause → Result A Cause
+guard b x e = cond b (Ok x) (Err e)
 
 abbrev pub fold_within : {A S : Type 0} → (S → A → Result S Cause) → S → List A → Result S Cause
 fold_within step s [] = Ok s
@@ -54,9 +48,6 @@ map_within f (x ∷ xs) = do
   y ← f x
   ys ← map_within f xs
   Ok (y ∷ ys)
-
-abbrev pub fronted : {B : Type 0} → List B → Result (List B) Cause → Result (List B) Cause
-fronted front r = r >>= λ ys. Ok (front ++ ys)
 
 -- the first goes as far as the second, and no further: a value of the first is the second's value
 abbrev pub IsAtMost : {A : Type 0} → Result A Cause → Result A Cause → Type 0
