@@ -4,9 +4,8 @@ use Rattle.std.proofs.Common.{◌≡◌, [], ◌∷◌, pos, refl, ap, ◌∙◌
 use Rattle.std.specs.declared.result.Result.TheVariants.{Ok}
 use Rattle.ore_algebra.specs.Limits.{program}
 use Rattle.ore_monomial.specs.Monomial.{Monomial, product}
-use Rattle.ore_monomial.specs.Numbers.{numbers}
+use Rattle.ore_monomial.specs.Numbers.{numbers, numbers_within}
 use Rattle.ore_monomial.specs.Signature.{Signature}
-use Rattle.ore_ring.specs.Within.{numbers_within}
 use Rattle.ore_ring.proofs.PlainNumbers.{plain_numbers, still_meets}
 use Rattle.ore_commutative.specs.Commutes.{Commutes}
 

@@ -85,7 +85,7 @@ fn acts(kind: VarKind) -> bool
 }
 
 impl MonomialProduct for CommutativeRing {
-    ghost signature_of = { λ r. r };
+    ghost sig = { λ r. r };
 
     fn signature(&self) -> &Signature {
         &self.signature

@@ -20,7 +20,7 @@ use Rattle.ore_monomial.proofs.Commute.{rule, rule_acting, rule_other, rule_stil
 use Rattle.ore_monomial.proofs.Signatures.{count_at_most_12, lawful, has_one_differential}
 use Rattle.ore_commute.proofs.ClosedForm.{IsAxis, AreAxes, IsClear}
 use Rattle.ore_commute.proofs.FlatForm.{flat, AreNew, IsNew, flat_form}
-use Rattle.ore_algebra.proofs.Solve.{AreApart}
+use Rattle.ore_algebra.proofs.Solve.{AreDistinct}
 use Rattle.ore_commute.proofs.Distinct.{AreSpread, IsAway, flat_apart}
 
 module _ (s : Signature) where
@@ -80,7 +80,7 @@ one_coordinate (Shift on step) t u a b = absurd (true≢false (sym a))
 one_coordinate (Delay on step) t u a b = absurd (true≢false (sym a))
 
 module _ (K : Domain) where
-  beta_none : (k : VarKind) (t : ℕ) → coordinate_of k ≡ t → is_differential_on t k ≡ false → (rule_of K k).beta ≡ K.none
+  beta_none : (k : VarKind) (t : ℕ) → coordinate_of k ≡ t → is_differential_on t k ≡ false → (rule_of K k).beta ≡ K.zero
   beta_none Coordinate t e h = refl
   beta_none Constant t e h = refl
   beta_none Plain t e h = refl
@@ -88,7 +88,7 @@ module _ (K : Domain) where
   beta_none (Shift on step) t e h = refl
   beta_none (Delay on step) t e h = refl
 
-  differential_rule : (k : VarKind) (t : ℕ) → is_differential_on t k ≡ true → (coordinate_of k ≡ t) × ((rule_of K k).beta ≡ K.one) × ((rule_of K k).alpha ≡ K.none)
+  differential_rule : (k : VarKind) (t : ℕ) → is_differential_on t k ≡ true → (coordinate_of k ≡ t) × ((rule_of K k).beta ≡ K.one) × ((rule_of K k).alpha ≡ K.zero)
   differential_rule Coordinate t h = absurd (true≢false (sym h))
   differential_rule Constant t h = absurd (true≢false (sym h))
   differential_rule Plain t h = absurd (true≢false (sym h))
@@ -109,7 +109,7 @@ module _ (K : Domain) (s : Signature) where
       at : (x : ℕ) → coordinate_of (kind_at s x) ≡ t → rule K s x t ≡ rule_of K (kind_at s x)
       at x e = ap (rule K s x) (sym e) ∙ rule_acting K s x
 
-      only : (x : ℕ) → x ≢ differential_of s t → Dec (coordinate_of (kind_at s x) ≡ t) → (b : Bool) → is_differential_on t (kind_at s x) ≡ b → (rule K s x t).beta ≡ K.none
+      only : (x : ℕ) → x ≢ differential_of s t → Dec (coordinate_of (kind_at s x) ≡ t) → (b : Bool) → is_differential_on t (kind_at s x) ≡ b → (rule K s x t).beta ≡ K.zero
       only x n (no k) b h = ap (λ r. r.beta) (rule_other K s x t k)
       only x n (yes e) false h = ap (λ r. r.beta) (at x e) ∙ beta_none K (kind_at s x) t e h
       only x n (yes e) true h = absurd (n (one s t x (differential_of s t) h (found s t 12 (omega arith) (complete s t 12 x (omega arith) (inside (dec_lt x 12)) h))))
@@ -118,7 +118,7 @@ module _ (K : Domain) (s : Signature) where
           inside (yes l) = l
           inside (no k) = absurd (true≢false (sym h ∙ ap (is_differential_on t) (kind_past s x (omega arith))))
 
-      straight : Dec (differential_of s t < 12) → (rule K s (differential_of s t) t).alpha ≡ K.none
+      straight : Dec (differential_of s t < 12) → (rule K s (differential_of s t) t).alpha ≡ K.zero
       straight (yes l) = let f = differential_rule K (kind_at s (differential_of s t)) t (found s t 12 (omega arith) l) in ap (λ r. r.alpha) (at (differential_of s t) f.0) ∙ f.2
       straight (no k) = ap (λ r. r.alpha) (rule_still K s (differential_of s t) t (ap is_acting (kind_past s (differential_of s t) (omega arith))))
 
@@ -205,6 +205,6 @@ module _ (K : Domain) (s : Signature) where
       outside x a l h = true≢false (sym a ∙ ap is_acting (kind_past s x (omega arith)))
 
   -- and no two of its terms have one monomial
-  pub pass_apart : (m n : Monomial) → AreApart (map (λ (v : Monomial × K.Number). v.0) (flat K s (axes s) m n))
+  pub pass_apart : (m n : Monomial) → AreDistinct (map (λ (v : Monomial × K.Number). v.0) (flat K s (axes s) m n))
   unfolding axes
   pass_apart m n = flat_apart K s (axes_below s 12) (are_spread 12 (omega arith)) m n

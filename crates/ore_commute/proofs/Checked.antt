@@ -8,12 +8,13 @@ use Rattle.std.specs.declared.result.Result.TheVariants.{Ok, Err}
 use Rattle.std.proofs.lemmas.List.{append_assoc, append-nil}
 use Rattle.std.proofs.lemmas.List.Folds.{list_all-append}
 use Rattle.std.proofs.lemmas.Bool.Decides.{nat_tests}
-use Rattle.ore_algebra.specs.Limits.{Cause, Overflow, program, where_test}
+use Rattle.ore_algebra.specs.Limits.{Cause, Overflow, program, guard}
 use Rattle.ore_monomial.specs.Monomial.{Monomial}
 use Rattle.std.proofs.Math.Seq.{drop-cons}
 use Rattle.std.specs.List.{flat_map}
 use Rattle.std.proofs.Math.ListN.{drop_of_length-le}
-use Rattle.ore_commute.specs.Product.{Terms, are_within, in_range, checked}
+use Rattle.ore_commute.specs.Product.{Terms, in_range, checked}
+use Rattle.ore_monomial.specs.Numbers.{are_within}
 
 pub number_fits : (z : ℤ) → nat_abs z < 2 ^ 127 → nat_le (nat_abs z) 170141183460469231731687303715884105727 ≡ true
 number_fits z h = grind (arith, nat_tests)
@@ -27,19 +28,19 @@ checked_none front = ap Ok (append-nil front)
 
 pub checked-append : (front ts us : Terms) → are_within program ts ≡ true → checked front (ts ++ us) ≡ checked (front ++ ts) us
 unfolding checked
-checked-append front ts us h = λ i. where_test ((list_all-append _ ts us ∙ ap (λ b. b && are_within program us) h) i) (sym (append_assoc front ts us) i) Overflow
+checked-append front ts us h = λ i. guard ((list_all-append _ ts us ∙ ap (λ b. b && are_within program us) h) i) (sym (append_assoc front ts us) i) Overflow
 
 pub stopped-append : (front ts us : Terms) → are_within program ts ≡ false → checked front (ts ++ us) ≡ Err Overflow
 unfolding checked
-stopped-append front ts us h = ap (λ b. where_test b (front ++ (ts ++ us)) Overflow) (list_all-append _ ts us ∙ ap (λ b. b && are_within program us) h)
+stopped-append front ts us h = ap (λ b. guard b (front ++ (ts ++ us)) Overflow) (list_all-append _ ts us ∙ ap (λ b. b && are_within program us) h)
 
 pub stopped : (front ts : Terms) → are_within program ts ≡ false → checked front ts ≡ Err Overflow
 unfolding checked
-stopped front ts h = ap (λ b. where_test b (front ++ ts) Overflow) h
+stopped front ts h = ap (λ b. guard b (front ++ ts) Overflow) h
 
 pub fitting : (ts : Terms) → are_within program ts ≡ true → checked [] ts ≡ Ok ts
 unfolding checked
-fitting ts h = ap (λ b. where_test b ts Overflow) h
+fitting ts h = ap (λ b. guard b ts Overflow) h
 
 pub checked_stops : (front : Terms) (t : Monomial × ℤ) (ts : Terms) → (nat_abs t.1 < 2 ^ 127 → ⊥) → checked front (t ∷ ts) ≡ Err Overflow
 checked_stops front t ts n = stopped-append front (t ∷ []) ts (ap (λ b. b && true) (number_stops t.1 n))
@@ -49,7 +50,7 @@ pub checked_ok : (front ts out : Terms) → checked front ts ≡ Ok out → (are
 unfolding checked
 checked_ok front ts out e = by (are_within program ts) refl e
   where
-    by : (b : Bool) → are_within program ts ≡ b → where_test b (front ++ ts) Overflow ≡ Ok out → (are_within program ts ≡ true) × (out ≡ front ++ ts)
+    by : (b : Bool) → are_within program ts ≡ b → guard b (front ++ ts) Overflow ≡ Ok out → (are_within program ts ≡ true) × (out ≡ front ++ ts)
     by true h k = (h, cc)
     by false h k = absurd (cc)
 
@@ -57,7 +58,7 @@ pub checked_err : (front ts : Terms) (e : Cause) → checked front ts ≡ Err e 
 unfolding checked
 checked_err front ts e k = by (are_within program ts) refl k
   where
-    by : (b : Bool) → are_within program ts ≡ b → where_test b (front ++ ts) Overflow ≡ Err e → (are_within program ts ≡ false) × (e ≡ Overflow)
+    by : (b : Bool) → are_within program ts ≡ b → guard b (front ++ ts) Overflow ≡ Err e → (are_within program ts ≡ false) × (e ≡ Overflow)
     by true h k = absurd (cc)
     by false h k = (h, cc)
 
@@ -80,14 +81,14 @@ module _ {A : Type 0} (f : A → Monomial × ℤ) where
   in_range_ok : (t u : Monomial × ℤ) → in_range t ≡ Ok u → (nat_le (nat_abs t.1) 170141183460469231731687303715884105727 ≡ true) × (u ≡ t)
   in_range_ok t u e = by (nat_le (nat_abs t.1) 170141183460469231731687303715884105727) refl e
     where
-      by : (b : Bool) → nat_le (nat_abs t.1) 170141183460469231731687303715884105727 ≡ b → where_test b t Overflow ≡ Ok u → (nat_le (nat_abs t.1) 170141183460469231731687303715884105727 ≡ true) × (u ≡ t)
+      by : (b : Bool) → nat_le (nat_abs t.1) 170141183460469231731687303715884105727 ≡ b → guard b t Overflow ≡ Ok u → (nat_le (nat_abs t.1) 170141183460469231731687303715884105727 ≡ true) × (u ≡ t)
       by true h k = (h, cc)
       by false h k = absurd (cc)
 
   in_range_err : (t : Monomial × ℤ) (e : Cause) → in_range t ≡ Err e → (nat_le (nat_abs t.1) 170141183460469231731687303715884105727 ≡ false) × (e ≡ Overflow)
   in_range_err t e k = by (nat_le (nat_abs t.1) 170141183460469231731687303715884105727) refl k
     where
-      by : (b : Bool) → nat_le (nat_abs t.1) 170141183460469231731687303715884105727 ≡ b → where_test b t Overflow ≡ Err e → (nat_le (nat_abs t.1) 170141183460469231731687303715884105727 ≡ false) × (e ≡ Overflow)
+      by : (b : Bool) → nat_le (nat_abs t.1) 170141183460469231731687303715884105727 ≡ b → guard b t Overflow ≡ Err e → (nat_le (nat_abs t.1) 170141183460469231731687303715884105727 ≡ false) × (e ≡ Overflow)
       by true h k = absurd (cc)
       by false h k = (h, cc)
 

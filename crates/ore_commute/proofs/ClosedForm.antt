@@ -11,7 +11,7 @@ use borrow.Author.Tests.{eqb-true}
 use native.Mathlib.Decide.{dec_le, dec_lt, ℕ_discrete}
 use Rattle.ore_algebra.specs.Domain.{Domain}
 use Rattle.ore_algebra.specs.Ring.{of_nat, power}
-use Rattle.ore_algebra.specs.Free.{none, plus, scale}
+use Rattle.ore_algebra.specs.Free.{empty_sum, plus, scale}
 use Rattle.ore_commute.specs.ClosedForm.{falling, step_on, step_sum, total_step}
 use Rattle.ore_monomial.specs.declared.signature.VarKind.{VarKind}
 use Rattle.ore_monomial.specs.declared.signature.VarKind.TheVariants.{Coordinate, Constant, Plain, Differential, Shift, Delay}
@@ -57,16 +57,16 @@ choose_times (suc c) (suc i) = let e = choose_times c i in let f = choose_times 
 
 module _ (K : Domain) where
   of_nat-times : (m n : ℕ) → of_nat K.ring (m * n) ≡ K.times (of_nat K.ring m) (of_nat K.ring n)
-  of_nat-times zero n = ap (of_nat K.ring) (Nat.zero-mul n) ∙ sym (Numbers.none_times K _)
+  of_nat-times zero n = ap (of_nat K.ring) (Nat.zero-mul n) ∙ sym (Numbers.zero_times K _)
   of_nat-times (suc m) n = ap (of_nat K.ring) (let e : suc m * n ≡ n + m * n = omega arith in e) ∙ of_nat-sum K n (m * n) ∙ (λ i. K.plus (sym (Numbers.one_times K (of_nat K.ring n)) i) (of_nat-times m n i)) ∙ sym (Numbers.plus_times K _ _ _)
 
-  sum_none : (n : ℕ) → sum_to K n (λ j. none K plain_cmp) ≡ none K plain_cmp
+  sum_none : (n : ℕ) → sum_to K n (λ j. empty_sum K plain_cmp) ≡ empty_sum K plain_cmp
   unfolding sum_to
   sum_none zero = refl
-  sum_none (suc n) = Operators.none-plus K _ ∙ sum_none n
+  sum_none (suc n) = Operators.zero-plus K _ ∙ sum_none n
 
-  none_of : (n : ℕ) (f : Operator K) → n ≡ 0 → scale K plain_cmp (of_nat K.ring n) f ≡ none K plain_cmp
-  none_of n f e = ap (λ m. scale K plain_cmp (of_nat K.ring m) f) e ∙ Operators.none_scale K f
+  none_of : (n : ℕ) (f : Operator K) → n ≡ 0 → scale K plain_cmp (of_nat K.ring n) f ≡ empty_sum K plain_cmp
+  none_of n f e = ap (λ m. scale K plain_cmp (of_nat K.ring m) f) e ∙ Operators.zero_scale K f
 
   -- what shifts by h make of t^n
   unfoldable pub shifted : K.Number → ℕ → (ℕ → Operator K) → Operator K
@@ -82,12 +82,12 @@ module _ (K : Domain) where
 
   expand_first : (h : K.Number) (u : ℕ → Operator K) → scale K plain_cmp (of_nat K.ring 1) (shifted h 0 u) ≡ u 0
   unfolding shifted sum_to shift_term choose
-  expand_first h u = simp (K.plus_none, K.times_one, Operators.scale_one K)
+  expand_first h u = simp (K.plus_zero, K.times_one, Operators.scale_one K)
 
   expand_none : (h : K.Number) (c : ℕ) (u : ℕ → ℕ → Operator K) → expand h c 0 u ≡ u 0 0
   unfolding expand falling choose sum_to
   expand_none h zero u = expand_first h (u 0)
-  expand_none h (suc c) u = (λ i. plus K plain_cmp (expand_first h (u 0) i) ((sum_to_same K c (λ k. scale K plain_cmp (of_nat K.ring (choose (suc c) (suc k) * 0)) (shifted h (0 - suc k) (u (suc k)))) (λ k. none K plain_cmp) (λ k l. none_of (choose (suc c) (suc k) * 0) _ (omega arith)) ∙ sum_none c) i)) ∙ Operators.plus_none K _
+  expand_none h (suc c) u = (λ i. plus K plain_cmp (expand_first h (u 0) i) ((sum_to_same K c (λ k. scale K plain_cmp (of_nat K.ring (choose (suc c) (suc k) * 0)) (shifted h (0 - suc k) (u (suc k)))) (λ k. empty_sum K plain_cmp) (λ k l. none_of (choose (suc c) (suc k) * 0) _ (omega arith)) ∙ sum_none c) i)) ∙ Operators.plus_zero K _
 
   expand_part : (h : K.Number) (c a k : ℕ) (u : ℕ → ℕ → Operator K) → Operator K
   expand_part h c a k u = scale K plain_cmp (of_nat K.ring (choose c k * falling a k)) (shifted h (a - k) (u k))
@@ -107,7 +107,7 @@ module _ (K : Domain) where
       ∙ ap (plus K plain_cmp _) (Operators.scale-scale K _ _ _ ∙ ap (λ j. scale K plain_cmp j (shifted h (a - k) (u k))) (K.times_comm _ _) ∙ sym (Operators.scale-scale K _ _ _))
   stays_part h c a k u (no n) =
       let z : choose c k * falling a k ≡ 0 = ap (λ m. choose c k * m) (falling_above a k (omega arith)) ∙ omega arith in
-      none_of _ _ z ∙ sym ((λ i. plus K plain_cmp (none_of _ (shifted h (a - k) (λ e. u k (suc e))) z i) (scale K plain_cmp h (none_of _ (shifted h (a - k) (u k)) z i))) ∙ ap (plus K plain_cmp (none K plain_cmp)) (Operators.scale_none K h) ∙ Operators.plus_none K _)
+      none_of _ _ z ∙ sym ((λ i. plus K plain_cmp (none_of _ (shifted h (a - k) (λ e. u k (suc e))) z i) (scale K plain_cmp h (none_of _ (shifted h (a - k) (u k)) z i))) ∙ ap (plus K plain_cmp (empty_sum K plain_cmp)) (Operators.scale-empty_sum K h) ∙ Operators.plus_zero K _)
 
   -- where a differential is spent
   spent_part : (h : K.Number) (c a k : ℕ) (u : ℕ → ℕ → Operator K) → Operator K
@@ -119,7 +119,7 @@ module _ (K : Domain) where
   spent_sum h (suc c) a u =
       (λ i. plus K plain_cmp (none_of (choose (suc c) 0 * (0 * falling a 0)) (shifted h (suc a - 0) (u 0)) (omega arith) i)
       ((sum_to_same K c _ (λ i. scale K plain_cmp (of_nat K.ring (suc c)) (expand_part h c a i (λ k. u (suc k)))) each ∙ sum_to-scale K c (of_nat K.ring (suc c)) (λ i. expand_part h c a i (λ k. u (suc k))) ∙ ap (scale K plain_cmp (of_nat K.ring (suc c))) (sym (expand_is h c a (λ k. u (suc k))))) i))
-      ∙ Operators.none-plus K _
+      ∙ Operators.zero-plus K _
     where
       each : (i : ℕ) → i ≤ c → scale K plain_cmp (of_nat K.ring (choose (suc c) (suc i) * (suc i * falling a i))) (shifted h (suc a - suc i) (u (suc i))) ≡ scale K plain_cmp (of_nat K.ring (suc c)) (expand_part h c a i (λ k. u (suc k)))
       each i l =
@@ -158,9 +158,9 @@ module _ (K : Domain) (s : Signature) where
   alpha_of Plain t h = refl
   alpha_of (Differential on) t h = refl
   alpha_of (Shift on step) t (inl h) = absurd (true≢false h)
-  alpha_of (Shift on step) t (inr h) = ap (λ b. cond b (of_nat K.ring step) K.none) (sym (eq-eqb on t h))
+  alpha_of (Shift on step) t (inr h) = ap (λ b. cond b (of_nat K.ring step) K.zero) (sym (eq-eqb on t h))
   alpha_of (Delay on step) t (inl h) = absurd (true≢false h)
-  alpha_of (Delay on step) t (inr h) = ap (λ b. cond b (K.minus (of_nat K.ring step)) K.none) (sym (eq-eqb on t h))
+  alpha_of (Delay on step) t (inr h) = ap (λ b. cond b (K.minus (of_nat K.ring step)) K.zero) (sym (eq-eqb on t h))
 
   apart_test : (a b : ℕ) → a ≢ b → eqb a b ≡ false
   apart_test a b h = by (eqb a b) refl
@@ -169,13 +169,13 @@ module _ (K : Domain) (s : Signature) where
       by true e = absurd (h (eqb-true a b e))
       by false e = refl
 
-  no_step : (k : VarKind) (t : ℕ) → coordinate_of k ≢ t → step_on K t k ≡ K.none
+  no_step : (k : VarKind) (t : ℕ) → coordinate_of k ≢ t → step_on K t k ≡ K.zero
   no_step Coordinate t h = refl
   no_step Constant t h = refl
   no_step Plain t h = refl
   no_step (Differential on) t h = refl
-  no_step (Shift on step) t h = ap (λ b. cond b (of_nat K.ring step) K.none) (apart_test on t h)
-  no_step (Delay on step) t h = ap (λ b. cond b (K.minus (of_nat K.ring step)) K.none) (apart_test on t h)
+  no_step (Shift on step) t h = ap (λ b. cond b (of_nat K.ring step) K.zero) (apart_test on t h)
+  no_step (Delay on step) t h = ap (λ b. cond b (K.minus (of_nat K.ring step)) K.zero) (apart_test on t h)
 
   pub alpha_is : (x t : ℕ) → (rule K s x t).alpha ≡ step_on K t (kind_at s x)
   alpha_is x t = by (ℕ_discrete (coordinate_of (kind_at s x)) t)
@@ -198,26 +198,26 @@ module _ (K : Domain) (s : Signature) where
   unfolding total_step with_exponent exponent
   step-raise t x m h = step_sum-set t m.exponents 0 x (subst (λ n. x < n) (sym m.twelve) h) ∙ ap (λ y. K.plus (step_on K t (kind_at s y)) (step_sum K s t 0 m.exponents)) (Nat.zero-add x) ∙ ap (λ k. K.plus k (step_sum K s t 0 m.exponents)) (sym (alpha_is x t))
 
-  step_sum-unit : (t x n : ℕ) → step_sum K s t x (replicate n 0) ≡ K.none
+  step_sum-unit : (t x n : ℕ) → step_sum K s t x (replicate n 0) ≡ K.zero
   unfolding step_sum
   step_sum-unit t x zero = refl
-  step_sum-unit t x (suc n) = (λ i. K.plus (Numbers.none_times K (step_on K t (kind_at s x)) i) (step_sum-unit t (suc x) n i)) ∙ K.plus_none _
+  step_sum-unit t x (suc n) = (λ i. K.plus (Numbers.zero_times K (step_on K t (kind_at s x)) i) (step_sum-unit t (suc x) n i)) ∙ K.plus_zero _
 
-  step-unit : (t : ℕ) → total_step K s t unit ≡ K.none
+  step-unit : (t : ℕ) → total_step K s t unit ≡ K.zero
   unfolding total_step unit
   step-unit t = step_sum-unit t 0 12
 
-  step_sum-kept : (t : ℕ) (es : List ℕ) (x j a : ℕ) → (step_on K t (kind_at s (x + j))) ≡ K.none → step_sum K s t x (set es j a) ≡ step_sum K s t x es
+  step_sum-kept : (t : ℕ) (es : List ℕ) (x j a : ℕ) → (step_on K t (kind_at s (x + j))) ≡ K.zero → step_sum K s t x (set es j a) ≡ step_sum K s t x es
   unfolding step_sum
   step_sum-kept t [] x j a h = refl
   step_sum-kept t (b ∷ es) x zero a h =
-      let z : (step_on K t (kind_at s x)) ≡ K.none = ap (λ y. (step_on K t (kind_at s y))) (sym (Nat.add-zero x)) ∙ h in
-      ap (λ k. K.plus k (step_sum K s t (suc x) es)) (ap (K.times (of_nat K.ring a)) z ∙ Numbers.times_none K _ ∙ sym (ap (K.times (of_nat K.ring b)) z ∙ Numbers.times_none K _))
+      let z : (step_on K t (kind_at s x)) ≡ K.zero = ap (λ y. (step_on K t (kind_at s y))) (sym (Nat.add-zero x)) ∙ h in
+      ap (λ k. K.plus k (step_sum K s t (suc x) es)) (ap (K.times (of_nat K.ring a)) z ∙ Numbers.times_zero K _ ∙ sym (ap (K.times (of_nat K.ring b)) z ∙ Numbers.times_zero K _))
   step_sum-kept t (b ∷ es) x (suc j) a h =
       let e : suc x + j ≡ x + suc j = omega arith in
       ap (K.plus (K.times (of_nat K.ring b) (step_on K t (kind_at s x)))) (step_sum-kept t es (suc x) j a (ap (λ y. (step_on K t (kind_at s y))) e ∙ h))
 
-  pub step-kept : (t x a : ℕ) (m : Monomial) → (step_on K t (kind_at s x)) ≡ K.none → total_step K s t (with_exponent x a m) ≡ total_step K s t m
+  pub step-kept : (t x a : ℕ) (m : Monomial) → (step_on K t (kind_at s x)) ≡ K.zero → total_step K s t (with_exponent x a m) ≡ total_step K s t m
   unfolding total_step with_exponent
   step-kept t x a m h = step_sum-kept t m.exponents 0 x a (ap (λ y. (step_on K t (kind_at s y))) (Nat.zero-add x) ∙ h)
 
@@ -225,9 +225,9 @@ module _ (K : Domain) (s : Signature) where
   pub record IsAxis (t d : ℕ) : Type 0 where
     pub within : t < 12
     pub still : is_acting (kind_at s t) ≡ false
-    pub only : (x : ℕ) → x ≢ d → (rule K s x t).beta ≡ K.none
+    pub only : (x : ℕ) → x ≢ d → (rule K s x t).beta ≡ K.zero
     pub unit : d < 12 → (rule K s d t).beta ≡ K.one
-    pub straight : (rule K s d t).alpha ≡ K.none
+    pub straight : (rule K s d t).alpha ≡ K.zero
 
 module _ (K : Domain) (s : Signature) (lawful : IsLawful s) (t d : ℕ) (axis : IsAxis K s t d) where
   join : (T X Y Z C : Operator K) (j h : K.Number) → plus K plain_cmp Y Z ≡ C → plus K plain_cmp (plus K plain_cmp T (plus K plain_cmp (scale K plain_cmp j X) Y)) (plus K plain_cmp (scale K plain_cmp h X) Z) ≡ plus K plain_cmp T (plus K plain_cmp (scale K plain_cmp (K.plus j h) X) C)
@@ -246,8 +246,8 @@ module _ (K : Domain) (s : Signature) (lawful : IsLawful s) (t d : ℕ) (axis : 
       at_unit : P unit
       at_unit =
           monomial_unit K s _
-          ∙ sym ((λ i. plus K plain_cmp (letter_times K s t (monomial_unit K s f i)) (plus K plain_cmp ((ap (λ k. scale K plain_cmp k (monomial_times K s unit f)) (step-unit K s t) ∙ Operators.none_scale K _) i) (none_of K (exponent unit d) (monomial_times K s (lower d 1 unit) f) (exponent-unit d) i)))
-          ∙ ap (plus K plain_cmp _) (Operators.plus_none K _) ∙ Operators.plus_none K _)
+          ∙ sym ((λ i. plus K plain_cmp (letter_times K s t (monomial_unit K s f i)) (plus K plain_cmp ((ap (λ k. scale K plain_cmp k (monomial_times K s unit f)) (step-unit K s t) ∙ Operators.zero_scale K _) i) (none_of K (exponent unit d) (monomial_times K s (lower d 1 unit) f) (exponent-unit d) i)))
+          ∙ ap (plus K plain_cmp _) (Operators.plus_zero K _) ∙ Operators.plus_zero K _)
 
       below_lower : (x : ℕ) (m : Monomial) → IsBelow x m → IsBelow x (lower d 1 m)
       below_lower x m b y l = by (ℕ_discrete y d) (dec_lt d 12)
@@ -263,8 +263,8 @@ module _ (K : Domain) (s : Signature) (lawful : IsLawful s) (t d : ℕ) (axis : 
           let p = exponent-raise d m dl in
           let q : exponent (raise d m) d - 1 ≡ exponent m d = omega arith in
           let A = monomial_times K s m f in
-          (λ i. plus K plain_cmp (plus K plain_cmp ((ap (λ k. scale K plain_cmp k A) (axis.unit dl) ∙ Operators.scale_one K A) i) ((ap (λ k. scale K plain_cmp k (letter_times K s t A)) (rule_level K s d t) ∙ Operators.none_scale K _) i)) (again (exponent m d) refl i))
-          ∙ ap (λ g. plus K plain_cmp g (scale K plain_cmp (of_nat K.ring (exponent m d)) A)) (Operators.plus_none K A ∙ sym (Operators.scale_one K A))
+          (λ i. plus K plain_cmp (plus K plain_cmp ((ap (λ k. scale K plain_cmp k A) (axis.unit dl) ∙ Operators.scale_one K A) i) ((ap (λ k. scale K plain_cmp k (letter_times K s t A)) (rule_level K s d t) ∙ Operators.zero_scale K _) i)) (again (exponent m d) refl i))
+          ∙ ap (λ g. plus K plain_cmp g (scale K plain_cmp (of_nat K.ring (exponent m d)) A)) (Operators.plus_zero K A ∙ sym (Operators.scale_one K A))
           ∙ sym (Operators.plus-scale K K.one (of_nat K.ring (exponent m d)) A)
           ∙ (λ i. scale K plain_cmp (of_nat K.ring (sym p i)) (monomial_times K s (sym (ap (λ k. with_exponent d k (raise d m)) q ∙ with-raise d (exponent m d) m ∙ with_own d m) i) f))
         where
@@ -280,11 +280,11 @@ module _ (K : Domain) (s : Signature) (lawful : IsLawful s) (t d : ℕ) (axis : 
       rest x m xl b (no n) =
           let p = exponent-raise_other x d m (λ e. n (sym e)) in
           (λ i. plus K plain_cmp ((no_scale (axis.only x n) (monomial_times K s m f)) i) (scale K plain_cmp (of_nat K.ring (exponent m d)) (letter_times K s x (monomial_times K s (lower d 1 m) f))))
-          ∙ Operators.none-plus K _
+          ∙ Operators.zero-plus K _
           ∙ (λ i. scale K plain_cmp (of_nat K.ring (sym p i)) ((sym (monomial-raise K s x (lower d 1 m) f xl (below_lower x m b)) ∙ ap (λ q. monomial_times K s q f) (raise-with_other d x (exponent m d - 1) m (λ e. n (sym e)) ∙ ap (λ k. with_exponent d (k - 1) (raise x m)) (sym p))) i))
         where
-          no_scale : (rule K s x t).beta ≡ K.none → (A : Operator K) → plus K plain_cmp (scale K plain_cmp (rule K s x t).beta A) (scale K plain_cmp (rule K s x t).gamma (letter_times K s t A)) ≡ none K plain_cmp
-          no_scale e A = (λ i. plus K plain_cmp ((ap (λ k. scale K plain_cmp k A) e ∙ Operators.none_scale K A) i) ((ap (λ k. scale K plain_cmp k (letter_times K s t A)) (rule_level K s x t) ∙ Operators.none_scale K _) i)) ∙ Operators.plus_none K _
+          no_scale : (rule K s x t).beta ≡ K.zero → (A : Operator K) → plus K plain_cmp (scale K plain_cmp (rule K s x t).beta A) (scale K plain_cmp (rule K s x t).gamma (letter_times K s t A)) ≡ empty_sum K plain_cmp
+          no_scale e A = (λ i. plus K plain_cmp ((ap (λ k. scale K plain_cmp k A) e ∙ Operators.zero_scale K A) i) ((ap (λ k. scale K plain_cmp k (letter_times K s t A)) (rule_level K s x t) ∙ Operators.zero_scale K _) i)) ∙ Operators.plus_zero K _
       rest x m xl b (yes e) = subst (λ x. x < 12 → IsBelow x m → plus K plain_cmp (plus K plain_cmp (scale K plain_cmp (rule K s x t).beta (monomial_times K s m f)) (scale K plain_cmp (rule K s x t).gamma (letter_times K s t (monomial_times K s m f)))) (scale K plain_cmp (of_nat K.ring (exponent m d)) (letter_times K s x (monomial_times K s (lower d 1 m) f)))
           ≡ scale K plain_cmp (of_nat K.ring (exponent (raise x m) d)) (monomial_times K s (lower d 1 (raise x m)) f)) (sym e) (own m) xl b
 

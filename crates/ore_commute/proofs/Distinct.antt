@@ -12,7 +12,7 @@ use Rattle.ore_monomial.specs.Monomial.{Monomial, exponent, with_exponent, lower
 use Rattle.ore_monomial.specs.Signature.{Signature}
 use Rattle.ore_monomial.specs.Passing.{numbers_to}
 use Rattle.ore_monomial.proofs.Monomials.{exponent-other, exponent-same, exponent-product, exponent_past}
-use Rattle.ore_algebra.proofs.Solve.{In, AreApart}
+use Rattle.ore_algebra.proofs.Solve.{In, AreDistinct}
 use Rattle.ore_monomial.proofs.Box.{numbers_to_small, apart-numbers_to, In-unflat, apart-flat_map}
 use Rattle.ore_commute.proofs.FlatForm.{flat}
 
@@ -74,7 +74,7 @@ module _ (p : ℕ × ℕ) (ts : List (ℕ × ℕ)) (m n : Monomial) where
           let lk = numbers_to_small _ k hk in let ll = numbers_to_small _ l hl in omega arith
       by (no n') = let z = exponent_past p.1 m (omega arith) in let lk = numbers_to_small _ k hk in let ll = numbers_to_small _ l hl in omega arith
 
-pub keys_apart : (ts : List (ℕ × ℕ)) → AreSpread ts → (m n : Monomial) → AreApart (keys ts m n)
+pub keys_apart : (ts : List (ℕ × ℕ)) → AreSpread ts → (m n : Monomial) → AreDistinct (keys ts m n)
 unfolding keys
 keys_apart [] spread m n = (λ h. h, tt)
 keys_apart (p ∷ ts) spread m n =
@@ -99,5 +99,5 @@ module _ (K : Domain) (s : Signature) where
       ∙ flat_same _ _ (numbers_to (exponent n p.0 - k)) (λ j. first_scaled _ (flat K s ts (lower p.1 k m) (with_exponent p.0 (exponent n p.0 - k - j) n)) ∙ keys_of_flat ts (lower p.1 k m) (with_exponent p.0 (exponent n p.0 - k - j) n)))
 
   -- no two terms of the closed form have one monomial
-  pub flat_apart : (ts : List (ℕ × ℕ)) → AreSpread ts → (m n : Monomial) → AreApart (map (λ (v : Monomial × K.Number). v.0) (flat K s ts m n))
-  flat_apart ts spread m n = subst AreApart (sym (keys_of_flat ts m n)) (keys_apart ts spread m n)
+  pub flat_apart : (ts : List (ℕ × ℕ)) → AreSpread ts → (m n : Monomial) → AreDistinct (map (λ (v : Monomial × K.Number). v.0) (flat K s ts m n))
+  flat_apart ts spread m n = subst AreDistinct (sym (keys_of_flat ts m n)) (keys_apart ts spread m n)

@@ -1,6 +1,5 @@
 -- Terms that fall, with one term for each monomial and no zero, are the falling terms of what they make.
 --     monomials           the monomials of terms
---     falling-collect     falling terms are those of what they make
 --     all_from_falling    a test of the falling terms is a test of all
 --     falls_sorted        terms that are sorted are the falling terms of any terms that they permute
 use Rattle.std.proofs.Common.{◌≡◌, ◌≢◌, inl, inr, ℕ, zero, suc, ◌+◌, ◌<◌, ◌≤◌, Bool, true, false, cond, ◌&&◌, ◌⊎◌, nat_eq, T, List, [], ◌∷◌, length, map, get_or, refl, sym, ap, ◌∙◌, subst, true≢false, arith}
@@ -11,107 +10,27 @@ use Rattle.std.proofs.lemmas.List.Sorted.{sum_by-IsPermutation, sorted_far, rank
 use Rattle.std.proofs.lemmas.Bool.Decides.{nat_tests}
 use Rattle.std.specs.declared.cmp.Ordering.{Ordering}
 use Rattle.std.specs.declared.cmp.Ordering.TheVariants.{Less, Equal, Greater}
-use Rattle.std.specs.Ordering.{eq_by_cmp, is_eq, is_lt, flip_args, ordering_reverse}
-use Rattle.std.specs.Cmp.{IsTotalOrder, tied_itself}
-use Rattle.std.proofs.lemmas.Cmp.{back_total}
+use Rattle.std.specs.Ordering.{eq_by_cmp, is_eq, is_lt, ordering_reverse}
+use Rattle.std.specs.Cmp.{tied_itself}
 use Rattle.std.proofs.lemmas.Int.{ints}
 use Rattle.std.proofs.lemmas.List.Sums.{sum_by-cons}
-use Rattle.std.specs.FinMap.{IsAntisymmetric, entries, get-entries, is_sorted, from_sorted, entries-from_sorted}
+use Rattle.std.specs.FinMap.{entries, get-entries, is_sorted}
 use Rattle.std.specs.FinMap.Entries.{below_all, find}
 use Rattle.ore_algebra.specs.Domain.{Domain}
 use Rattle.std.specs.declared.option.Option.TheVariants.{Some}
-use Rattle.ore_algebra.specs.Free.{NonZero, Free, value_or_none, coefficient, sum_at, terms, collect}
+use Rattle.ore_algebra.specs.Free.{NonZero, Free, value_or_zero, coefficient, sum_at, terms, collect}
 use Rattle.ore_algebra.proofs.FreeLaws
 use Rattle.ore_algebra.proofs.Integers.{integers}
-use Rattle.ore_algebra.proofs.Solve.{In, AreApart}
-use Rattle.ore_monomial.specs.Monomial.{Monomial, plain_cmp, order_cmp}
+use Rattle.ore_algebra.proofs.Solve.{In, AreDistinct}
+use Rattle.ore_monomial.specs.Monomial.{Monomial, plain_cmp}
 use Rattle.ore_monomial.specs.declared.order.Order.{Order}
-use Rattle.ore_monomial.proofs.Monomials.{plain_cmp_total, plain_cmp_apart, order_total, order_apart}
-use Rattle.ore_monomial.proofs.Operators
-use Rattle.ore_commute.proofs.Kept.{AreSome}
-
-abbrev back : Order → Monomial → Monomial → Ordering
-back o = flip_args (order_cmp o)
-
-back_order : (o : Order) → IsTotalOrder (back o)
-back_order o = back_total (order_total o)
-
-back_apart : (o : Order) → IsAntisymmetric (back o)
-back_apart o m n e = sym (order_apart o n m e)
+use Rattle.ore_monomial.proofs.Monomials.{plain_cmp_total, plain_cmp_apart}
+use Rattle.ore_monomial.specs.Numbers.{back, falling_over, AreNonZero}
+use Rattle.ore_monomial.proofs.FallingTerms.{back_order, back_apart, coefficient-back, falling_from_sums}
 
 module _ (K : Domain) where
-  abbrev Terms : Type 0
-  Terms = List (Monomial × K.Number)
-
   abbrev pub monomials : List (Monomial × K.Number) → List Monomial
   monomials ts = map (λ t. t.0) ts
-
-  eq_either : {R S : Monomial → Monomial → Ordering} → IsTotalOrder R → IsAntisymmetric R → IsTotalOrder S → IsAntisymmetric S → (q m : Monomial) → eq_by_cmp R q m ≡ eq_by_cmp S q m
-  eq_either {R} {S} o a p b q m = by (eq_by_cmp R q m) refl (eq_by_cmp S q m) refl
-    where
-      by : (x : Bool) → eq_by_cmp R q m ≡ x → (y : Bool) → eq_by_cmp S q m ≡ y → x ≡ y
-      by true e true f = refl
-      by false e false f = refl
-      by true e false f = absurd (true≢false (sym (ap is_eq (tied_itself p q)) ∙ ap (eq_by_cmp S q) (FreeLaws.same_key K o a q m e) ∙ f))
-      by false e true f = absurd (true≢false (sym (ap is_eq (tied_itself o q)) ∙ ap (eq_by_cmp R q) (FreeLaws.same_key K p b q m f) ∙ e))
-
-  sum_either : (o : Order) (q : Monomial) (ts : Terms) → sum_at K (back o) q ts ≡ sum_at K plain_cmp q ts
-  unfolding sum_at
-  sum_either o q [] = refl
-  sum_either o q (t ∷ ts) = λ i. K.plus (cond (eq_either (back_order o) (back_apart o) plain_cmp_total plain_cmp_apart q t.0 i) t.1 K.none) (sum_either o q ts i)
-
-  lift : (ts : Terms) → AreSome K ts → List (Monomial × NonZero K)
-  lift [] h = []
-  lift (t ∷ ts) h = (t.0, record { value = t.1; apart = h.0 }) ∷ lift ts h.1
-
-  lift_again : (ts : Terms) (h : AreSome K ts) → map (λ e. (e.0, e.1.value)) (lift ts h) ≡ ts
-  unfolding lift
-  lift_again [] h = refl
-  lift_again (t ∷ ts) h = ap (λ us. t ∷ us) (lift_again ts h.1)
-
-  below-lift : (R : Monomial → Monomial → Ordering) (m : Monomial) (ts : Terms) (h : AreSome K ts) → below_all R m (lift ts h) ≡ below_all R m ts
-  unfolding lift
-  below-lift R m [] h = refl
-  below-lift R m (t ∷ ts) h = ap (λ b. is_lt (R m t.0) && b) (below-lift R m ts h.1)
-
-  sorted-lift : (R : Monomial → Monomial → Ordering) (ts : Terms) (h : AreSome K ts) → is_sorted R (lift ts h) ≡ is_sorted R ts
-  unfolding lift
-  sorted-lift R [] h = refl
-  sorted-lift R (t ∷ ts) h = λ i. below-lift R t.0 ts h.1 i && sorted-lift R ts h.1 i
-
-  stored : (o : Order) (ts : Terms) → T (is_sorted (back o) ts) → AreSome K ts → (f : Free K (back o)) × (terms K (back o) f ≡ ts)
-  unfolding terms
-  stored o ts falls some =
-      (from_sorted (lift ts some), ap (map (λ e. (e.0, e.1.value))) (entries-from_sorted (back o) (lift ts some) (subst T (sym (sorted-lift (back o) ts some)) falls)) ∙ lift_again ts some)
-
-  pub coefficient-back : (o : Order) (us : Terms) (q : Monomial) → coefficient K (back o) (collect K (back o) (terms K plain_cmp (collect K plain_cmp us))) q ≡ sum_at K plain_cmp q us
-  coefficient-back o us q =
-      FreeLaws.coefficient-collect K (back_order o) (back_apart o) _ q
-      ∙ sum_either o q _
-      ∙ FreeLaws.sum_at-terms K plain_cmp_total plain_cmp_apart _ q
-      ∙ Operators.coefficient-collect K us q
-
-  pub sum_at-falling : (o : Order) (f : Free K plain_cmp) (q : Monomial) → sum_at K plain_cmp q (terms K (back o) (collect K (back o) (terms K plain_cmp f))) ≡ coefficient K plain_cmp f q
-  sum_at-falling o f q =
-      sym (sum_either o q _)
-      ∙ FreeLaws.sum_at-terms K (back_order o) (back_apart o) _ q
-      ∙ FreeLaws.coefficient-collect K (back_order o) (back_apart o) _ q
-      ∙ sum_either o q _
-      ∙ FreeLaws.sum_at-terms K plain_cmp_total plain_cmp_apart f q
-
-  -- falling terms ts that make what us make
-  pub falling-collect : (o : Order) (ts us : Terms) → T (is_sorted (back o) ts) → AreSome K ts → ((q : Monomial) → sum_at K plain_cmp q us ≡ sum_at K plain_cmp q ts)
-      → terms K (back o) (collect K (back o) (terms K plain_cmp (collect K plain_cmp us))) ≡ ts
-  falling-collect o ts us falls some same =
-      let s = stored o ts falls some in
-      let f = collect K (back o) (terms K plain_cmp (collect K plain_cmp us)) in
-      let e : f ≡ s.0 = FreeLaws.same_sum K (back_order o) (back_apart o) f s.0 (λ q.
-      coefficient-back o us q
-      ∙ same q
-      ∙ sym (sum_either o q ts)
-      ∙ ap (sum_at K (back o) q) (sym s.1)
-      ∙ FreeLaws.sum_at-terms K (back_order o) (back_apart o) s.0 q) in
-      ap (terms K (back o)) e ∙ s.1
 
 -- ---- permuted terms
 
@@ -200,7 +119,7 @@ present q [] h = absurd h
 present q (t ∷ ts) (inl e) = let c = sum_by-cons (has q) t ts in let o = has_own q t e in omega arith
 present q (t ∷ ts) (inr h) = let c = sum_by-cons (has q) t ts in let r = present q ts h in omega arith
 
-once : (q : Monomial) (ts : Whole) → AreApart (monomials integers ts) → sum_by (has q) ts ≤ 1
+once : (q : Monomial) (ts : Whole) → AreDistinct (monomials integers ts) → sum_by (has q) ts ≤ 1
 once q [] a = omega arith
 once q (t ∷ ts) a = subst (λ n. n ≤ 1) (sym (sum_by-cons (has q) t ts)) (by (has_at_most_one q t) (once q ts a.1))
   where
@@ -208,14 +127,14 @@ once q (t ∷ ts) a = subst (λ n. n ≤ 1) (sym (sum_by-cons (has q) t ts)) (by
     by (inl e) r = omega arith
     by (inr p) r = let z = absent q ts (subst (λ m. ¬ (In m (monomials integers ts))) (sym p.1) a.0) in let o = p.0 in omega arith
 
-apart_once : (ts : Whole) → ((q : Monomial) → sum_by (has q) ts ≤ 1) → AreApart (monomials integers ts)
+apart_once : (ts : Whole) → ((q : Monomial) → sum_by (has q) ts ≤ 1) → AreDistinct (monomials integers ts)
 apart_once [] f = tt
 apart_once (t ∷ ts) f = (
   (λ h. let c = sum_by-cons (has t.0) t ts in let o = has_own t.0 t refl in let p = present t.0 ts h in let l = f t.0 in absurd (omega arith)),
   apart_once ts (λ q. let c = sum_by-cons (has q) t ts in let l = f q in omega arith),
 )
 
-pub apart-permuted : (ts us : Whole) → IsPermutation ts us → AreApart (monomials integers ts) → AreApart (monomials integers us)
+pub apart-permuted : (ts us : Whole) → IsPermutation ts us → AreDistinct (monomials integers ts) → AreDistinct (monomials integers us)
 apart-permuted ts us p a = apart_once us (λ q. let l = once q ts a in let e = sum_by-IsPermutation (has q) ts us p in omega arith)
 
 -- ---- no zero
@@ -232,15 +151,15 @@ none_not (m, pos zero) e z = absurd (omega arith)
 none_not (m, pos (suc x)) e z = cc
 none_not (m, negsuc x) e z = cc
 
-no_zero : (ts : Whole) → AreSome integers ts → sum_by is_none ts ≡ 0
+no_zero : (ts : Whole) → AreNonZero integers ts → sum_by is_none ts ≡ 0
 no_zero [] h = refl
 no_zero (t ∷ ts) h = let c = sum_by-cons is_none t ts in let e = not_none t h.0 in let r = no_zero ts h.1 in omega arith
 
-zero_none : (ts : Whole) → sum_by is_none ts ≡ 0 → AreSome integers ts
+zero_none : (ts : Whole) → sum_by is_none ts ≡ 0 → AreNonZero integers ts
 zero_none [] h = tt
 zero_none (t ∷ ts) h = let c = sum_by-cons is_none t ts in (none_not t (omega arith), zero_none ts (omega arith))
 
-pub some-permuted : (ts us : Whole) → IsPermutation ts us → AreSome integers ts → AreSome integers us
+pub some-permuted : (ts us : Whole) → IsPermutation ts us → AreNonZero integers ts → AreNonZero integers us
 some-permuted ts us p h = zero_none us (let e = no_zero ts h in let f = sum_by-IsPermutation is_none ts us p in omega arith)
 
 -- ---- tests
@@ -282,7 +201,7 @@ less_or o m n ne h = by (back o m n) refl
     by Equal e = absurd (ne (back_apart o m n e))
     by Greater e = absurd (true≢false (sym (ap is_lt ((back_order o).antisymm n m ∙ ap ordering_reverse e)) ∙ h))
 
-strictly : (o : Order) (ts : Whole) → IsSortedBy (falls o) ts → AreApart (monomials integers ts) → is_sorted (back o) ts ≡ true
+strictly : (o : Order) (ts : Whole) → IsSortedBy (falls o) ts → AreDistinct (monomials integers ts) → is_sorted (back o) ts ≡ true
 unfolding falls
 strictly o [] h a = refl
 strictly o (t ∷ ts) h a = λ i.
@@ -294,10 +213,10 @@ strictly o (t ∷ ts) h a = λ i.
     next k d e = let q : suc k + 1 ≡ suc (k + 1) = omega arith in subst (λ j. is_lt (back o (get_or (t ∷ ts) j d).0 (get_or ts k d).0) ≡ false) q e
 
 -- sorted terms are the falling terms of those that they permute
-pub falls_sorted : (o : Order) (ts us : Whole) → AreApart (monomials integers ts) → AreSome integers ts → IsPermutation ts us → IsSortedBy (λ t u. is_lt (back o t.0 u.0)) us
+pub falls_sorted : (o : Order) (ts us : Whole) → AreDistinct (monomials integers ts) → AreNonZero integers ts → IsPermutation ts us → IsSortedBy (λ t u. is_lt (back o t.0 u.0)) us
     → terms integers (back o) (collect integers (back o) (terms integers plain_cmp (collect integers plain_cmp ts))) ≡ us
-unfolding falls
-falls_sorted o ts us a h p s = falling-collect integers o us ts (subst T (sym (strictly o us s (apart-permuted ts us p a))) tt) (some-permuted ts us p h) (λ q. sum_at-permuted q ts us p)
+unfolding falls falling_over
+falls_sorted o ts us a h p s = falling_from_sums integers o us ts (subst T (sym (strictly o us s (apart-permuted ts us p a))) tt) (some-permuted ts us p h) (λ q. sum_at-permuted q ts us p)
 
 -- ---- a test of the falling terms is a test of all
 
@@ -305,19 +224,19 @@ module _ (r : ℤ → Bool) where
   abbrev pub pass_all : Whole → Bool
   pass_all ts = list_all (λ t. r t.1) ts
 
-  find_all : (R : Monomial → Monomial → Ordering) (es : List (Monomial × NonZero integers)) (q : Monomial) → pass_all (map (λ e. (e.0, e.1.value)) es) ≡ true → value_or_none integers (find R q es) ≢ pos 0 → r (value_or_none integers (find R q es)) ≡ true
+  find_all : (R : Monomial → Monomial → Ordering) (es : List (Monomial × NonZero integers)) (q : Monomial) → pass_all (map (λ e. (e.0, e.1.value)) es) ≡ true → value_or_zero integers (find R q es) ≢ pos 0 → r (value_or_zero integers (find R q es)) ≡ true
   find_all R [] q h n = absurd (n refl)
   find_all R (e ∷ es) q h n = by (eq_by_cmp R q e.0) (r e.1.value) refl h n (find_all R es q)
     where
-      by : (b c : Bool) → r e.1.value ≡ c → (c && pass_all (map (λ e. (e.0, e.1.value)) es)) ≡ true → value_or_none integers (cond b (Some e.1) (find R q es)) ≢ pos 0
-          → (pass_all (map (λ e. (e.0, e.1.value)) es) ≡ true → value_or_none integers (find R q es) ≢ pos 0 → r (value_or_none integers (find R q es)) ≡ true) → r (value_or_none integers (cond b (Some e.1) (find R q es))) ≡ true
+      by : (b c : Bool) → r e.1.value ≡ c → (c && pass_all (map (λ e. (e.0, e.1.value)) es)) ≡ true → value_or_zero integers (cond b (Some e.1) (find R q es)) ≢ pos 0
+          → (pass_all (map (λ e. (e.0, e.1.value)) es) ≡ true → value_or_zero integers (find R q es) ≢ pos 0 → r (value_or_zero integers (find R q es)) ≡ true) → r (value_or_zero integers (cond b (Some e.1) (find R q es))) ≡ true
       by true true k h n rest = k
       by false true k h n rest = rest h n
       by b false k h n rest = absurd (true≢false (sym h))
 
   coefficient_passes : (R : Monomial → Monomial → Ordering) (f : Free integers R) (q : Monomial) → pass_all (terms integers R f) ≡ true → coefficient integers R f q ≢ pos 0 → r (coefficient integers R f q) ≡ true
   unfolding coefficient terms
-  coefficient_passes R f q h n = ap (λ v. r (value_or_none integers v)) (get-entries f q) ∙ find_all R (entries f) q h (λ e. n (ap (value_or_none integers) (get-entries f q) ∙ e))
+  coefficient_passes R f q h n = ap (λ v. r (value_or_zero integers v)) (get-entries f q) ∙ find_all R (entries f) q h (λ e. n (ap (value_or_zero integers) (get-entries f q) ∙ e))
 
   sum_absent : (q : Monomial) (ts : Whole) → ¬ (In q (monomials integers ts)) → sum_at integers plain_cmp q ts ≡ pos 0
   unfolding sum_at
@@ -328,7 +247,7 @@ module _ (r : ℤ → Bool) where
       other true e = absurd (n (inl (FreeLaws.same_key integers plain_cmp_total plain_cmp_apart q t.0 e)))
       other false e = refl
 
-  all_from_sums : (ts : Whole) → AreApart (monomials integers ts) → AreSome integers ts → ((q : Monomial) → sum_at integers plain_cmp q ts ≢ pos 0 → r (sum_at integers plain_cmp q ts) ≡ true) → pass_all ts ≡ true
+  all_from_sums : (ts : Whole) → AreDistinct (monomials integers ts) → AreNonZero integers ts → ((q : Monomial) → sum_at integers plain_cmp q ts ≢ pos 0 → r (sum_at integers plain_cmp q ts) ≡ true) → pass_all ts ≡ true
   unfolding sum_at
   all_from_sums [] a h f = refl
   all_from_sums (t ∷ ts) a h f = λ i. own i && all_from_sums ts a.1 h.1 later i
@@ -337,19 +256,19 @@ module _ (r : ℤ → Bool) where
       here = ap is_eq (tied_itself plain_cmp_total t.0)
 
       sum_own : sum_at integers plain_cmp t.0 (t ∷ ts) ≡ t.1
-      sum_own = (λ i. cond (here i) t.1 (pos 0) +ℤ sum_absent t.0 ts a.0 i) ∙ integers.plus_none t.1
+      sum_own = (λ i. cond (here i) t.1 (pos 0) +ℤ sum_absent t.0 ts a.0 i) ∙ integers.plus_zero t.1
 
       own : r t.1 ≡ true
       own = ap r (sym sum_own) ∙ f t.0 (λ e. h.0 (sym sum_own ∙ e))
 
       skip : (q : Monomial) (b : Bool) → eq_by_cmp plain_cmp q t.0 ≡ b → sum_at integers plain_cmp q ts ≢ pos 0 → sum_at integers plain_cmp q (t ∷ ts) ≡ sum_at integers plain_cmp q ts
       skip q true e n = absurd (n (sum_absent q ts (λ i. a.0 (subst (λ m. In m (monomials integers ts)) (FreeLaws.same_key integers plain_cmp_total plain_cmp_apart q t.0 e) i))))
-      skip q false e n = ap (λ b. cond b t.1 (pos 0) +ℤ sum_at integers plain_cmp q ts) e ∙ integers.plus_comm (pos 0) (sum_at integers plain_cmp q ts) ∙ integers.plus_none (sum_at integers plain_cmp q ts)
+      skip q false e n = ap (λ b. cond b t.1 (pos 0) +ℤ sum_at integers plain_cmp q ts) e ∙ integers.plus_comm (pos 0) (sum_at integers plain_cmp q ts) ∙ integers.plus_zero (sum_at integers plain_cmp q ts)
 
       later : (q : Monomial) → sum_at integers plain_cmp q ts ≢ pos 0 → r (sum_at integers plain_cmp q ts) ≡ true
       later q n = let e = skip q (eq_by_cmp plain_cmp q t.0) refl n in ap r (sym e) ∙ f q (λ z. n (sym e ∙ z))
 
-  pub all_from_falling : (o : Order) (ts : Whole) → AreApart (monomials integers ts) → AreSome integers ts → pass_all (terms integers (back o) (collect integers (back o) (terms integers plain_cmp (collect integers plain_cmp ts)))) ≡ true → pass_all ts ≡ true
+  pub all_from_falling : (o : Order) (ts : Whole) → AreDistinct (monomials integers ts) → AreNonZero integers ts → pass_all (terms integers (back o) (collect integers (back o) (terms integers plain_cmp (collect integers plain_cmp ts)))) ≡ true → pass_all ts ≡ true
   all_from_falling o ts a h f = all_from_sums ts a h (λ q n.
       let e = coefficient-back integers o ts q in
       ap r (sym e) ∙ coefficient_passes (back o) (collect integers (back o) (terms integers plain_cmp (collect integers plain_cmp ts))) q f (λ z. n (sym e ∙ z)))

@@ -6,7 +6,7 @@ use Rattle.std.proofs.Common.{◌≡◌, ◌≢◌, ℕ, zero, suc, ◌-◌, ◌
 use Rattle.std.specs.List.{flat_map}
 use Rattle.ore_algebra.specs.Domain.{Domain}
 use Rattle.ore_algebra.specs.Ring.{of_nat, power}
-use Rattle.ore_algebra.specs.Free.{none, single, plus, scale, collect}
+use Rattle.ore_algebra.specs.Free.{empty_sum, single, plus, scale, collect}
 use Rattle.ore_commute.specs.ClosedForm.{falling, number, total_step}
 use Rattle.ore_monomial.specs.Monomial.{Monomial, exponent, with_exponent, raise, lower, product, plain_cmp}
 use Rattle.ore_monomial.specs.Signature.{Signature, kind_at, is_acting, IsLawful}
@@ -21,8 +21,8 @@ use Rattle.ore_monomial.proofs.Operators
 
 module _ (K : Domain) where
   collect-flat : (F : ℕ → List (Monomial × K.Number)) (n : ℕ) → collect K plain_cmp (flat_map F (numbers_to n)) ≡ sum_to K n (λ j. collect K plain_cmp (F j))
-  unfolding numbers_to sum_to none
-  collect-flat F zero = Operators.collect-append K (F 0) [] ∙ Operators.plus_none K _
+  unfolding numbers_to sum_to empty_sum
+  collect-flat F zero = Operators.collect-append K (F 0) [] ∙ Operators.plus_zero K _
   collect-flat F (suc n) = Operators.collect-append K (F 0) _ ∙ ap (plus K plain_cmp (collect K plain_cmp (F 0))) (ap (collect K plain_cmp) (later F (numbers_to n)) ∙ collect-flat (λ j. F (suc j)) n)
     where
       later : (F : ℕ → List (Monomial × K.Number)) (xs : List ℕ) → flat_map F (map suc xs) ≡ flat_map (λ j. F (suc j)) xs

@@ -10,13 +10,14 @@ use Rattle.ore_algebra.specs.Ring.{of_nat, power}
 use Rattle.ore_algebra.specs.Free.{plus, single, collect}
 use Rattle.ore_algebra.proofs.DomainLaws as Numbers
 use Rattle.ore_algebra.proofs.Linear
-use Rattle.ore_algebra.proofs.Solve.{In, AreApart}
+use Rattle.ore_algebra.proofs.Solve.{In, AreDistinct}
 use Rattle.ore_monomial.specs.Monomial.{Monomial, exponent, with_exponent, lower, product, plain_cmp}
 use Rattle.ore_monomial.specs.Signature.{Signature, kind_at, is_coordinate, is_differential_on}
 use Rattle.ore_monomial.specs.Passing.{choose, numbers_to}
 use Rattle.ore_monomial.specs.LetterRule.{monomial_times}
 use Rattle.ore_monomial.specs.declared.signature.VarKind.{VarKind}
 use Rattle.ore_monomial.specs.declared.signature.VarKind.TheVariants.{Coordinate, Constant, Plain, Differential, Shift, Delay}
+use Rattle.ore_monomial.specs.Numbers.{AreNonZero}
 use Rattle.ore_monomial.proofs.Letters.{one_term}
 use Rattle.ore_monomial.proofs.Box.{numbers_to_small}
 use Rattle.ore_monomial.proofs.Monomials.{plain_cmp_total, plain_cmp_apart}
@@ -33,30 +34,30 @@ module _ (K : Domain) where
   abbrev Terms : Type 0
   Terms = List (Monomial × K.Number)
 
-  abbrev keep : (t : Monomial × K.Number) → Dec (t.1 ≡ K.none) → Terms → Terms
+  abbrev keep : (t : Monomial × K.Number) → Dec (t.1 ≡ K.zero) → Terms → Terms
   keep t (yes e) ts = ts
   keep t (no n) ts = t ∷ ts
 
   unfoldable pub kept : Terms → Terms
   kept [] = []
-  kept (t ∷ ts) = keep t (K.discrete t.1 K.none) (kept ts)
+  kept (t ∷ ts) = keep t (K.discrete t.1 K.zero) (kept ts)
 
   collect-kept : (ts : Terms) → collect K plain_cmp (kept ts) ≡ collect K plain_cmp ts
   unfolding kept
   collect-kept [] = refl
-  collect-kept (t ∷ ts) = by (K.discrete t.1 K.none) (collect-kept ts)
+  collect-kept (t ∷ ts) = by (K.discrete t.1 K.zero) (collect-kept ts)
     where
-      by : (d : Dec (t.1 ≡ K.none)) → collect K plain_cmp (kept ts) ≡ collect K plain_cmp ts → collect K plain_cmp (keep t d (kept ts)) ≡ collect K plain_cmp (t ∷ ts)
+      by : (d : Dec (t.1 ≡ K.zero)) → collect K plain_cmp (kept ts) ≡ collect K plain_cmp ts → collect K plain_cmp (keep t d (kept ts)) ≡ collect K plain_cmp (t ∷ ts)
       by (yes e) h = h ∙ sym (Linear.collect_more K plain_cmp_total plain_cmp_apart t.0 t.1 ts ∙ ap (λ k. plus K plain_cmp (single K plain_cmp t.0 k) (collect K plain_cmp ts)) e
-          ∙ ap (λ f. plus K plain_cmp f (collect K plain_cmp ts)) (Linear.single_none K plain_cmp_total plain_cmp_apart t.0) ∙ Operators.none-plus K _)
+          ∙ ap (λ f. plus K plain_cmp f (collect K plain_cmp ts)) (Linear.single_zero K plain_cmp_total plain_cmp_apart t.0) ∙ Operators.zero-plus K _)
       by (no n) h = Linear.collect_more K plain_cmp_total plain_cmp_apart t.0 t.1 (kept ts) ∙ ap (plus K plain_cmp (single K plain_cmp t.0 t.1)) h ∙ sym (Linear.collect_more K plain_cmp_total plain_cmp_apart t.0 t.1 ts)
 
   kept-append : (ts us : Terms) → kept (ts ++ us) ≡ kept ts ++ kept us
   unfolding kept
   kept-append [] us = refl
-  kept-append (t ∷ ts) us = by (K.discrete t.1 K.none) (kept-append ts us)
+  kept-append (t ∷ ts) us = by (K.discrete t.1 K.zero) (kept-append ts us)
     where
-      by : (d : Dec (t.1 ≡ K.none)) → kept (ts ++ us) ≡ kept ts ++ kept us → keep t d (kept (ts ++ us)) ≡ keep t d (kept ts) ++ kept us
+      by : (d : Dec (t.1 ≡ K.zero)) → kept (ts ++ us) ≡ kept ts ++ kept us → keep t d (kept (ts ++ us)) ≡ keep t d (kept ts) ++ kept us
       by (yes e) h = h
       by (no n) h = ap (λ vs. t ∷ vs) h
 
@@ -68,9 +69,9 @@ module _ (K : Domain) where
   pub kept_among : (m : Monomial) (us : Terms) → In m (map (λ (t : Monomial × K.Number). t.0) (kept us)) → In m (map (λ (t : Monomial × K.Number). t.0) us)
   unfolding kept
   kept_among m [] i = i
-  kept_among m (u ∷ us) i = split (K.discrete u.1 K.none) i (kept_among m us)
+  kept_among m (u ∷ us) i = split (K.discrete u.1 K.zero) i (kept_among m us)
     where
-      split : (d : Dec (u.1 ≡ K.none)) → In m (map (λ (t : Monomial × K.Number). t.0) (keep u d (kept us))) → (In m (map (λ (t : Monomial × K.Number). t.0) (kept us)) → In m (map (λ (t : Monomial × K.Number). t.0) us)) → In m (map (λ (t : Monomial × K.Number). t.0) (u ∷ us))
+      split : (d : Dec (u.1 ≡ K.zero)) → In m (map (λ (t : Monomial × K.Number). t.0) (keep u d (kept us))) → (In m (map (λ (t : Monomial × K.Number). t.0) (kept us)) → In m (map (λ (t : Monomial × K.Number). t.0) us)) → In m (map (λ (t : Monomial × K.Number). t.0) (u ∷ us))
       split (yes e) i rest = inr (rest i)
       split (no n) (inl e) rest = inl e
       split (no n) (inr i) rest = inr (rest i)
@@ -78,76 +79,71 @@ module _ (K : Domain) where
   abbrev scaled : K.Number → Terms → Terms
   scaled z us = map (λ u. (u.0, K.times z u.1)) us
 
-  abbrev scaled_unless : (z : K.Number) → Dec (z ≡ K.none) → Terms → Terms
+  abbrev scaled_unless : (z : K.Number) → Dec (z ≡ K.zero) → Terms → Terms
   scaled_unless z (yes e) us = []
   scaled_unless z (no n) us = scaled z us
 
-  kept-scaled : (z : K.Number) (us : Terms) → kept (scaled z us) ≡ scaled_unless z (K.discrete z K.none) (kept us)
+  kept-scaled : (z : K.Number) (us : Terms) → kept (scaled z us) ≡ scaled_unless z (K.discrete z K.zero) (kept us)
   unfolding kept
-  kept-scaled z us = by (K.discrete z K.none) us
+  kept-scaled z us = by (K.discrete z K.zero) us
     where
-      zero_scaled : (u : Monomial × K.Number) → z ≡ K.none → (d : Dec (K.times z u.1 ≡ K.none)) (vs : Terms) → keep (u.0, K.times z u.1) d vs ≡ vs
+      zero_scaled : (u : Monomial × K.Number) → z ≡ K.zero → (d : Dec (K.times z u.1 ≡ K.zero)) (vs : Terms) → keep (u.0, K.times z u.1) d vs ≡ vs
       zero_scaled u e (yes h) vs = refl
-      zero_scaled u e (no n) vs = absurd (n (ap (λ y. K.times y u.1) e ∙ Numbers.none_times K u.1))
+      zero_scaled u e (no n) vs = absurd (n (ap (λ y. K.times y u.1) e ∙ Numbers.zero_times K u.1))
 
-      apart_scaled : (u : Monomial × K.Number) → z ≢ K.none → (d : Dec (K.times z u.1 ≡ K.none)) (e : Dec (u.1 ≡ K.none)) (vs : Terms) → keep (u.0, K.times z u.1) d (scaled z vs) ≡ scaled z (keep u e vs)
+      apart_scaled : (u : Monomial × K.Number) → z ≢ K.zero → (d : Dec (K.times z u.1 ≡ K.zero)) (e : Dec (u.1 ≡ K.zero)) (vs : Terms) → keep (u.0, K.times z u.1) d (scaled z vs) ≡ scaled z (keep u e vs)
       apart_scaled u n (yes h) (yes e) vs = refl
       apart_scaled u n (no k) (no m) vs = refl
       apart_scaled u n (yes h) (no m) vs = absurd (K.times_apart z u.1 n m h)
-      apart_scaled u n (no k) (yes e) vs = absurd (k (ap (K.times z) e ∙ Numbers.times_none K z))
+      apart_scaled u n (no k) (yes e) vs = absurd (k (ap (K.times z) e ∙ Numbers.times_zero K z))
 
-      by : (d : Dec (z ≡ K.none)) (us : Terms) → kept (scaled z us) ≡ scaled_unless z d (kept us)
+      by : (d : Dec (z ≡ K.zero)) (us : Terms) → kept (scaled z us) ≡ scaled_unless z d (kept us)
       by (yes e) us = all_zero us
         where
           all_zero : (us : Terms) → kept (scaled z us) ≡ []
           all_zero [] = refl
-          all_zero (u ∷ us) = zero_scaled u e (K.discrete (K.times z u.1) K.none) (kept (scaled z us)) ∙ all_zero us
+          all_zero (u ∷ us) = zero_scaled u e (K.discrete (K.times z u.1) K.zero) (kept (scaled z us)) ∙ all_zero us
       by (no n) us = each us
         where
           each : (us : Terms) → kept (scaled z us) ≡ scaled z (kept us)
           each [] = refl
-          each (u ∷ us) = ap (keep (u.0, K.times z u.1) (K.discrete (K.times z u.1) K.none)) (each us) ∙ apart_scaled u n (K.discrete (K.times z u.1) K.none) (K.discrete u.1 K.none) (kept us)
+          each (u ∷ us) = ap (keep (u.0, K.times z u.1) (K.discrete (K.times z u.1) K.zero)) (each us) ∙ apart_scaled u n (K.discrete (K.times z u.1) K.zero) (K.discrete u.1 K.zero) (kept us)
 
   -- the numbers beyond a are zero
-  number_beyond : (h : K.Number) (c a k j : ℕ) → a < k → number K h c a k j ≡ K.none
+  number_beyond : (h : K.Number) (c a k j : ℕ) → a < k → number K h c a k j ≡ K.zero
   unfolding number
   number_beyond h c a k j l =
       let e : choose c k * falling a k ≡ 0 = ap (λ n. choose c k * n) (falling_above a k l) ∙ omega arith in
-      ap (λ n. K.times (of_nat K.ring n) (K.times (of_nat K.ring (choose (a - k) j)) (power K.ring h j))) e ∙ Numbers.none_times K _
+      ap (λ n. K.times (of_nat K.ring n) (K.times (of_nat K.ring (choose (a - k) j)) (power K.ring h j))) e ∙ Numbers.zero_times K _
 
-  abbrev lowered_unless : (z : K.Number) → Dec (z ≡ K.none) → ℕ × ℕ → ℕ → ℕ → Terms → Terms
+  abbrev lowered_unless : (z : K.Number) → Dec (z ≡ K.zero) → ℕ × ℕ → ℕ → ℕ → Terms → Terms
   lowered_unless z (yes e) p k j us = []
   lowered_unless z (no n) p k j us = map (λ u. (fallen p.0 p.1 k j u.0, K.times z u.1)) us
 
-  lowered_is : (z : K.Number) (p : ℕ × ℕ) (k j : ℕ) (us : Terms) → lowered K z p k j us ≡ lowered_unless z (K.discrete z K.none) p k j us
-  lowered_is z p k j us = elim (K.discrete z K.none) as (λ (d : Dec (z ≡ K.none)). ◌≡◌ {A = Terms} (elim d [ yes e ↦ [] | no n ↦ map (λ (u : Monomial × K.Number). (fallen p.0 p.1 k j u.0, K.times z u.1)) us ]) (lowered_unless z d p k j us))
+  lowered_is : (z : K.Number) (p : ℕ × ℕ) (k j : ℕ) (us : Terms) → lowered K z p k j us ≡ lowered_unless z (K.discrete z K.zero) p k j us
+  lowered_is z p k j us = elim (K.discrete z K.zero) as (λ (d : Dec (z ≡ K.zero)). ◌≡◌ {A = Terms} (elim d [ yes e ↦ [] | no n ↦ map (λ (u : Monomial × K.Number). (fallen p.0 p.1 k j u.0, K.times z u.1)) us ]) (lowered_unless z d p k j us))
       [ yes e ↦ refl | no n ↦ refl ]
 
-  pub lowered_none : (z : K.Number) (p : ℕ × ℕ) (k j : ℕ) (us : Terms) → z ≡ K.none → lowered K z p k j us ≡ []
-  lowered_none z p k j us e = lowered_is z p k j us ∙ by (K.discrete z K.none)
+  pub lowered_none : (z : K.Number) (p : ℕ × ℕ) (k j : ℕ) (us : Terms) → z ≡ K.zero → lowered K z p k j us ≡ []
+  lowered_none z p k j us e = lowered_is z p k j us ∙ by (K.discrete z K.zero)
     where
-      by : (d : Dec (z ≡ K.none)) → lowered_unless z d p k j us ≡ []
+      by : (d : Dec (z ≡ K.zero)) → lowered_unless z d p k j us ≡ []
       by (yes h) = refl
       by (no n) = absurd (n e)
 
-  pub lowered_some : (z : K.Number) (p : ℕ × ℕ) (k j : ℕ) (us : Terms) → z ≢ K.none → lowered K z p k j us ≡ map (λ u. (fallen p.0 p.1 k j u.0, K.times z u.1)) us
-  lowered_some z p k j us n = lowered_is z p k j us ∙ by (K.discrete z K.none)
+  pub lowered_some : (z : K.Number) (p : ℕ × ℕ) (k j : ℕ) (us : Terms) → z ≢ K.zero → lowered K z p k j us ≡ map (λ u. (fallen p.0 p.1 k j u.0, K.times z u.1)) us
+  lowered_some z p k j us n = lowered_is z p k j us ∙ by (K.discrete z K.zero)
     where
-      by : (d : Dec (z ≡ K.none)) → lowered_unless z d p k j us ≡ map (λ u. (fallen p.0 p.1 k j u.0, K.times z u.1)) us
+      by : (d : Dec (z ≡ K.zero)) → lowered_unless z d p k j us ≡ map (λ u. (fallen p.0 p.1 k j u.0, K.times z u.1)) us
       by (yes h) = absurd (n h)
       by (no m) = refl
 
-  scaled-lowered : (z : K.Number) (p : ℕ × ℕ) (k j : ℕ) (us : Terms) → scaled_unless z (K.discrete z K.none) (map (λ u. (fallen p.0 p.1 k j u.0, u.1)) us) ≡ lowered K z p k j us
-  scaled-lowered z p k j us = by (K.discrete z K.none) ∙ sym (lowered_is z p k j us)
+  scaled-lowered : (z : K.Number) (p : ℕ × ℕ) (k j : ℕ) (us : Terms) → scaled_unless z (K.discrete z K.zero) (map (λ u. (fallen p.0 p.1 k j u.0, u.1)) us) ≡ lowered K z p k j us
+  scaled-lowered z p k j us = by (K.discrete z K.zero) ∙ sym (lowered_is z p k j us)
     where
-      by : (d : Dec (z ≡ K.none)) → scaled_unless z d (map (λ u. (fallen p.0 p.1 k j u.0, u.1)) us) ≡ lowered_unless z d p k j us
+      by : (d : Dec (z ≡ K.zero)) → scaled_unless z d (map (λ u. (fallen p.0 p.1 k j u.0, u.1)) us) ≡ lowered_unless z d p k j us
       by (yes e) = refl
       by (no n) = map_map (λ u. (u.0, K.times z u.1)) (λ u. (fallen p.0 p.1 k j u.0, u.1)) us
-
-  -- no number is zero
-  abbrev pub AreSome : List (Monomial × K.Number) → Type 0
-  AreSome [] = Unit {0}
-  AreSome (t ∷ ts) = (t.1 ≢ K.none) × AreSome ts
 
 module _ (K : Domain) (s : Signature) where
   abbrev pub AreApartAll : List (ℕ × ℕ) → Type 0
@@ -156,9 +152,9 @@ module _ (K : Domain) (s : Signature) where
 
   pub kept-flat : (ts : List (ℕ × ℕ)) → AreApartAll ts → (m n : Monomial) → kept K (flat K s ts m n) ≡ passed K s ts m n
   unfolding kept flat passed axis_terms shifted_terms
-  kept-flat [] ready m n = one (K.discrete K.one K.none)
+  kept-flat [] ready m n = one (K.discrete K.one K.zero)
     where
-      one : (d : Dec (K.one ≡ K.none)) → keep K (product m n, K.one) d [] ≡ (product m n, K.one) ∷ []
+      one : (d : Dec (K.one ≡ K.zero)) → keep K (product m n, K.one) d [] ≡ (product m n, K.one) ∷ []
       one (yes e) = absurd (K.one_apart e)
       one (no h) = refl
   kept-flat (p ∷ ts) ready m n =
@@ -185,24 +181,24 @@ module _ (K : Domain) (s : Signature) where
       each : (k j : ℕ) → k ≤ c → j ≤ a - k → ((m n : Monomial) → kept K (flat K s ts m n) ≡ passed K s ts m n) → Dec (k ≤ a) → kept K (inner k j) ≡ lowered K (number K h c a k j) p k j (passed K s ts m n)
       each k j kc ja rest (yes l) =
           kept-scaled K (number K h c a k j) (flat K s ts (lower p.1 k m) (with_exponent p.0 (a - k - j) n))
-          ∙ ap (scaled_unless K (number K h c a k j) (K.discrete (number K h c a k j) K.none)) (rest (lower p.1 k m) (with_exponent p.0 (a - k - j) n) ∙ passed-lowered K s p.0 p.1 k j m n ts ready.0 kc (omega arith))
+          ∙ ap (scaled_unless K (number K h c a k j) (K.discrete (number K h c a k j) K.zero)) (rest (lower p.1 k m) (with_exponent p.0 (a - k - j) n) ∙ passed-lowered K s p.0 p.1 k j m n ts ready.0 kc (omega arith))
           ∙ scaled-lowered K (number K h c a k j) p k j (passed K s ts m n)
       each k j kc ja rest (no q) =
           let z = number_beyond K h c a k j (omega arith) in
           kept-scaled K (number K h c a k j) (flat K s ts (lower p.1 k m) (with_exponent p.0 (a - k - j) n))
-          ∙ nothing (K.discrete (number K h c a k j) K.none) z
+          ∙ nothing (K.discrete (number K h c a k j) K.zero) z
           ∙ sym (lowered_none K (number K h c a k j) p k j (passed K s ts m n) z)
         where
-          nothing : (d : Dec (number K h c a k j ≡ K.none)) → number K h c a k j ≡ K.none → scaled_unless K (number K h c a k j) d (kept K (flat K s ts (lower p.1 k m) (with_exponent p.0 (a - k - j) n))) ≡ []
+          nothing : (d : Dec (number K h c a k j ≡ K.zero)) → number K h c a k j ≡ K.zero → scaled_unless K (number K h c a k j) d (kept K (flat K s ts (lower p.1 k m) (with_exponent p.0 (a - k - j) n))) ≡ []
           nothing (yes e) z = refl
           nothing (no r) z = absurd (r z)
 
   -- ---- the axes of a signature
 
-  straight : (t x : ℕ) → step_on K x (kind_at s (differential_of s t)) ≡ K.none
+  straight : (t x : ℕ) → step_on K x (kind_at s (differential_of s t)) ≡ K.zero
   straight t x = by (dec_lt (differential_of s t) 12)
     where
-      steady : (k : VarKind) → is_differential_on t k ≡ true → step_on K x k ≡ K.none
+      steady : (k : VarKind) → is_differential_on t k ≡ true → step_on K x k ≡ K.zero
       steady Coordinate e = refl
       steady Constant e = refl
       steady Plain e = refl
@@ -210,7 +206,7 @@ module _ (K : Domain) (s : Signature) where
       steady (Shift on step) e = absurd (true≢false (sym e))
       steady (Delay on step) e = absurd (true≢false (sym e))
 
-      by : Dec (differential_of s t < 12) → step_on K x (kind_at s (differential_of s t)) ≡ K.none
+      by : Dec (differential_of s t < 12) → step_on K x (kind_at s (differential_of s t)) ≡ K.zero
       by (yes l) = steady (kind_at s (differential_of s t)) (found s t 12 (omega arith) l)
       by (no n) = ap (step_on K x) (kind_past s (differential_of s t) (omega arith))
 
@@ -235,26 +231,26 @@ module _ (K : Domain) (s : Signature) where
 
   -- ---- no two terms have one monomial, and no number is zero
 
-  kept_apart : (ts : List (Monomial × K.Number)) → AreApart (map (λ (t : Monomial × K.Number). t.0) ts) → AreApart (map (λ (t : Monomial × K.Number). t.0) (kept K ts))
+  kept_apart : (ts : List (Monomial × K.Number)) → AreDistinct (map (λ (t : Monomial × K.Number). t.0) ts) → AreDistinct (map (λ (t : Monomial × K.Number). t.0) (kept K ts))
   unfolding kept
   kept_apart [] h = tt
-  kept_apart (t ∷ ts) h = by (K.discrete t.1 K.none) (kept_apart ts h.1)
+  kept_apart (t ∷ ts) h = by (K.discrete t.1 K.zero) (kept_apart ts h.1)
     where
-      by : (d : Dec (t.1 ≡ K.none)) → AreApart (map (λ (t : Monomial × K.Number). t.0) (kept K ts)) → AreApart (map (λ (t : Monomial × K.Number). t.0) (keep K t d (kept K ts)))
+      by : (d : Dec (t.1 ≡ K.zero)) → AreDistinct (map (λ (t : Monomial × K.Number). t.0) (kept K ts)) → AreDistinct (map (λ (t : Monomial × K.Number). t.0) (keep K t d (kept K ts)))
       by (yes e) rest = rest
       by (no n) rest = ((λ i. h.0 (kept_among K t.0 ts i)), rest)
 
-  pub closed_form_apart : (m n : Monomial) → AreApart (map (λ (t : Monomial × K.Number). t.0) (closed_form K s m n))
-  closed_form_apart m n = subst (λ ts. AreApart (map (λ (t : Monomial × K.Number). t.0) ts)) (kept-closed_form m n) (kept_apart (flat K s (axes s) m n) (pass_apart K s m n))
+  pub closed_form_apart : (m n : Monomial) → AreDistinct (map (λ (t : Monomial × K.Number). t.0) (closed_form K s m n))
+  closed_form_apart m n = subst (λ ts. AreDistinct (map (λ (t : Monomial × K.Number). t.0) ts)) (kept-closed_form m n) (kept_apart (flat K s (axes s) m n) (pass_apart K s m n))
 
-  kept_some : (ts : List (Monomial × K.Number)) → AreSome K (kept K ts)
+  kept_some : (ts : List (Monomial × K.Number)) → AreNonZero K (kept K ts)
   unfolding kept
   kept_some [] = tt
-  kept_some (t ∷ ts) = by (K.discrete t.1 K.none) (kept_some ts)
+  kept_some (t ∷ ts) = by (K.discrete t.1 K.zero) (kept_some ts)
     where
-      by : (d : Dec (t.1 ≡ K.none)) → AreSome K (kept K ts) → AreSome K (keep K t d (kept K ts))
+      by : (d : Dec (t.1 ≡ K.zero)) → AreNonZero K (kept K ts) → AreNonZero K (keep K t d (kept K ts))
       by (yes e) rest = rest
       by (no n) rest = (n, rest)
 
-  pub closed_form_numbers : (m n : Monomial) → AreSome K (closed_form K s m n)
-  closed_form_numbers m n = subst (AreSome K) (kept-closed_form m n) (kept_some (flat K s (axes s) m n))
+  pub closed_form_numbers : (m n : Monomial) → AreNonZero K (closed_form K s m n)
+  closed_form_numbers m n = subst (AreNonZero K) (kept-closed_form m n) (kept_some (flat K s (axes s) m n))

@@ -84,7 +84,7 @@ module _ (K : Domain) where
       → lowered K z p i q (map (fallen_term t d k j) us) ≡ map (fallen_term t d k j) (lowered K z p i q us)
   unfolding fallen_term
   lowered-fallen z t d k j p i q us f =
-      elim (K.discrete z K.none) as (λ (e : Dec (z ≡ K.none)).
+      elim (K.discrete z K.zero) as (λ (e : Dec (z ≡ K.zero)).
       ◌≡◌ {A = Terms} (elim e [ yes h ↦ [] | no h ↦ map (λ (u : Monomial × K.Number). (fallen p.0 p.1 i q u.0, K.times z u.1)) (map (fallen_term t d k j) us) ])
       (map (fallen_term t d k j) (elim e [ yes h ↦ [] | no h ↦ map (λ (u : Monomial × K.Number). (fallen p.0 p.1 i q u.0, K.times z u.1)) us ]))) [
         | yes h ↦ refl
@@ -106,7 +106,7 @@ module _ (K : Domain) (s : Signature) where
     pub own : t ≢ d
     pub coordinate : IsAway t ts
     pub operator : d < 12 → IsAway d ts
-    pub straight : (x : ℕ) → step_on K x (kind_at s d) ≡ K.none
+    pub straight : (x : ℕ) → step_on K x (kind_at s d) ≡ K.zero
 
   rest_apart : (t d : ℕ) (p : ℕ × ℕ) (ts : List (ℕ × ℕ)) → IsApart t d (p ∷ ts) → IsApart t d ts
   rest_apart t d p ts h = record { within = h.within; own = h.own; coordinate = h.coordinate.2; operator = λ l. (h.operator l).2; straight = h.straight }

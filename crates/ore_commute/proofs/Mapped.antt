@@ -1,5 +1,4 @@
 -- The closed form over one domain gives that over another, as the whole numbers give that over the fractions.
---     IsRingMap              a map of numbers that keeps sums, products and their units
 --     pass_mapped            the flat form over K, mapped, is the product over L
 --     numbers_mapped         the falling terms over the whole numbers, mapped, make the product over L
 use Rattle.std.proofs.Common.{◌≡◌, ℕ, zero, suc, ◌-◌, ◌*◌, Bool, true, false, cond, List, [], ◌∷◌, ◌++◌, map, refl, sym, ap, ◌∙◌}
@@ -11,9 +10,10 @@ use Rattle.ore_algebra.specs.Free.{collect, coefficient, sum_at}
 use Rattle.std.specs.Prelude.{ℤ}
 use Rattle.std.specs.Ordering.{eq_by_cmp}
 use Rattle.ore_algebra.proofs.Integers.{integers}
+use Rattle.ore_algebra.proofs.RingMaps.{IsRingMap, sent-of_nat, sent-power, sent-cond, sum_at-sent}
 use Rattle.ore_monomial.proofs.Operators
 use Rattle.ore_monomial.specs.Numbers.{numbers, falling_over}
-use Rattle.ore_commute.proofs.Falling.{sum_at-falling}
+use Rattle.ore_monomial.proofs.FallingTerms.{sum_at-falling}
 use Rattle.ore_monomial.specs.Monomial.{Monomial, exponent, with_exponent, lower, product, plain_cmp}
 use Rattle.ore_monomial.specs.Signature.{Signature, kind_at}
 use Rattle.ore_monomial.specs.Passing.{choose, numbers_to}
@@ -24,13 +24,6 @@ use Rattle.ore_monomial.proofs.Letters.{one_term}
 use Rattle.ore_commute.specs.ClosedForm.{step_sum, total_step, step_on, falling, number, axes}
 use Rattle.ore_commute.proofs.FlatForm.{flat}
 use Rattle.ore_commute.proofs.Axes.{pass_form}
-
-pub record IsRingMap (K L : Domain) (f : K.Number → L.Number) : Type 0 where
-  pub none : f K.none ≡ L.none
-  pub one : f K.one ≡ L.one
-  pub plus : (x y : K.Number) → f (K.plus x y) ≡ L.plus (f x) (f y)
-  pub times : (x y : K.Number) → f (K.times x y) ≡ L.times (f x) (f y)
-  pub minus : (x : K.Number) → f (K.minus x) ≡ L.minus (f x)
 
 map-flat : {A B C : Type 0} (g : B → C) (f : A → List B) (h : A → List C) (xs : List A) → ((x : A) → map g (f x) ≡ h x) → map g (flat_map f xs) ≡ flat_map h xs
 map-flat g f h [] e = refl
@@ -44,34 +37,22 @@ times_term : (K : Domain) → K.Number → Monomial × K.Number → Monomial × 
 times_term K k u = (u.0, K.times k u.1)
 
 module _ (K L : Domain) (f : K.Number → L.Number) (r : IsRingMap K L f) where
-  map-of_nat : (n : ℕ) → f (of_nat K.ring n) ≡ of_nat L.ring n
-  map-of_nat zero = r.none
-  map-of_nat (suc n) = r.plus _ _ ∙ (λ i. L.plus (r.one i) (map-of_nat n i))
-
-  map-power : (x : K.Number) (n : ℕ) → f (power K.ring x n) ≡ power L.ring (f x) n
-  map-power x zero = r.one
-  map-power x (suc n) = r.times _ _ ∙ ap (L.times (f x)) (map-power x n)
-
-  map-cond : (b : Bool) (x : K.Number) (y : L.Number) → f x ≡ y → f (cond b x K.none) ≡ cond b y L.none
-  map-cond true x y e = e
-  map-cond false x y e = r.none
-
   map-step_on : (t : ℕ) (k : VarKind) → f (step_on K t k) ≡ step_on L t k
-  map-step_on t Coordinate = r.none
-  map-step_on t Constant = r.none
-  map-step_on t Plain = r.none
-  map-step_on t (Differential on) = r.none
-  map-step_on t (Shift on step) = map-cond _ _ _ (map-of_nat step)
-  map-step_on t (Delay on step) = map-cond _ _ _ (r.minus _ ∙ ap L.minus (map-of_nat step))
+  map-step_on t Coordinate = r.zero
+  map-step_on t Constant = r.zero
+  map-step_on t Plain = r.zero
+  map-step_on t (Differential on) = r.zero
+  map-step_on t (Shift on step) = sent-cond K L f r _ _ _ (sent-of_nat K L f r step)
+  map-step_on t (Delay on step) = sent-cond K L f r _ _ _ (r.minus _ ∙ ap L.minus (sent-of_nat K L f r step))
 
   map-step_sum : (s : Signature) (t x : ℕ) (es : List ℕ) → f (step_sum K s t x es) ≡ step_sum L s t x es
   unfolding step_sum
-  map-step_sum s t x [] = r.none
-  map-step_sum s t x (a ∷ es) = r.plus _ _ ∙ (λ i. L.plus ((r.times _ _ ∙ (λ j. L.times (map-of_nat a j) (map-step_on t (kind_at s x) j))) i) (map-step_sum s t (suc x) es i))
+  map-step_sum s t x [] = r.zero
+  map-step_sum s t x (a ∷ es) = r.plus _ _ ∙ (λ i. L.plus ((r.times _ _ ∙ (λ j. L.times (sent-of_nat K L f r a j) (map-step_on t (kind_at s x) j))) i) (map-step_sum s t (suc x) es i))
 
   map-number : (h : K.Number) (h' : L.Number) → f h ≡ h' → (c a k j : ℕ) → f (number K h c a k j) ≡ number L h' c a k j
   unfolding number
-  map-number h h' e c a k j = r.times _ _ ∙ (λ i. L.times (map-of_nat (choose c k * falling a k) i) ((r.times _ _ ∙ (λ l. L.times (map-of_nat (choose (a - k) j) l) ((map-power h j ∙ ap (λ x. power L.ring x j) e) l))) i))
+  map-number h h' e c a k j = r.times _ _ ∙ (λ i. L.times (sent-of_nat K L f r (choose c k * falling a k) i) ((r.times _ _ ∙ (λ l. L.times (sent-of_nat K L f r (choose (a - k) j) l) ((sent-power K L f r h h' e j) l))) i))
 
   mapped : List (Monomial × K.Number) → List (Monomial × L.Number)
   mapped us = map (λ u. (u.0, f u.1)) us
@@ -113,18 +94,13 @@ pass_mapped K L f r s m n = pass_form L s m n ∙ ap (collect L plain_cmp) (sym 
 
 -- the falling terms of the product over the whole numbers, mapped, make the product over L
 module _ (L : Domain) (f : ℤ → L.Number) (r : IsRingMap integers L f) where
-  sum_at-mapped : (q : Monomial) (us : List (Monomial × ℤ)) → sum_at L plain_cmp q (map (λ u. (u.0, f u.1)) us) ≡ f (sum_at integers plain_cmp q us)
-  unfolding sum_at
-  sum_at-mapped q [] = sym r.none
-  sum_at-mapped q (u ∷ us) = (λ i. L.plus (sym (map-cond integers L f r (eq_by_cmp plain_cmp q u.0) u.1 (f u.1) refl) i) (sum_at-mapped q us i)) ∙ sym (r.plus _ _)
-
   pub numbers_mapped : (s : Signature) (m n : Monomial) → collect L plain_cmp (map (λ u. (u.0, f u.1)) (numbers s m n)) ≡ monomial_times L s m (one_term L n)
   unfolding numbers falling_over
   numbers_mapped s m n =
       Operators.same_sum L _ _ (λ q.
       Operators.coefficient-collect L _ q
-      ∙ sum_at-mapped q _
+      ∙ sum_at-sent integers L f r plain_cmp q _
       ∙ ap f (sum_at-falling integers s.order _ q ∙ ap (λ g. coefficient integers plain_cmp g q) (pass_form integers s m n) ∙ Operators.coefficient-collect integers _ q)
-      ∙ sym (sum_at-mapped q _)
+      ∙ sym (sum_at-sent integers L f r plain_cmp q _)
       ∙ sym (Operators.coefficient-collect L _ q))
       ∙ sym (pass_mapped integers L f r s m n)

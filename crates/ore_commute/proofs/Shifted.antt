@@ -34,9 +34,9 @@ fall_bound h n f j still moving l = by (integers.discrete h (pos 0))
 still_number : (h : ℤ) (c a k j : ℕ) → h ≡ pos 0 → number integers h c a k (suc j) ≡ pos 0
 unfolding number
 still_number h c a k j e =
-    ap (λ z. integers.times (of_nat integers.ring (choose c k * falling a k)) (integers.times (of_nat integers.ring (choose (a - k) (suc j))) z)) (ap (λ x. x *ℤ power integers.ring h j) e ∙ Numbers.none_times integers (power integers.ring h j))
-    ∙ ap (integers.times (of_nat integers.ring (choose c k * falling a k))) (Numbers.times_none integers (of_nat integers.ring (choose (a - k) (suc j))))
-    ∙ Numbers.times_none integers (of_nat integers.ring (choose c k * falling a k))
+    ap (λ z. integers.times (of_nat integers.ring (choose c k * falling a k)) (integers.times (of_nat integers.ring (choose (a - k) (suc j))) z)) (ap (λ x. x *ℤ power integers.ring h j) e ∙ Numbers.zero_times integers (power integers.ring h j))
+    ∙ ap (integers.times (of_nat integers.ring (choose c k * falling a k))) (Numbers.times_zero integers (of_nat integers.ring (choose (a - k) (suc j))))
+    ∙ Numbers.times_zero integers (of_nat integers.ring (choose c k * falling a k))
 
 product_less : (m : Monomial) (z : ℤ) (u : Monomial × ℤ) → u.1 ≢ pos 0 → nat_abs (divided m z u).1 < 2 ^ 127 → nat_abs z < 2 ^ 127
 unfolding divided

@@ -70,4 +70,4 @@ module _ (s : Signature) (t : ℕ) where
   step_sum-past x [] h = refl
   step_sum-past x (b ∷ es) h =
       (λ i. (of_nat integers.ring b *ℤ step_on integers t (get_or_past s.kinds x Constant h i)) +ℤ step_sum-past (suc x) es (omega arith) i)
-      ∙ ap (λ z. z +ℤ pos 0) (Numbers.times_none integers (of_nat integers.ring b))
+      ∙ ap (λ z. z +ℤ pos 0) (Numbers.times_zero integers (of_nat integers.ring b))

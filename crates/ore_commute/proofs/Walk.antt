@@ -19,7 +19,8 @@ use Rattle.ore_monomial.specs.declared.signature.VarKind.TheVariants.{Coordinate
 use Rattle.ore_monomial.specs.Passing.{numbers_to}
 use Rattle.ore_monomial.proofs.Monomials.{exponent_past, with_own}
 use Rattle.ore_commute.specs.ClosedForm.{fallen, number, lowered, shifted_terms, axis_terms, passed, closed_form, differential_of, axes, axes_below, total_step}
-use Rattle.ore_commute.specs.Product.{Terms, are_within, checked, IsStarted, HasRoom}
+use Rattle.ore_commute.specs.Product.{Terms, checked, IsStarted, HasRoom}
+use Rattle.ore_monomial.specs.Numbers.{are_within}
 use Rattle.ore_commute.proofs.Lists.{drop-numbers_to}
 use Rattle.ore_commute.proofs.Numbers.{number_first}
 use Rattle.ore_commute.proofs.Axes.{coordinate_is, own_away, differential_away}

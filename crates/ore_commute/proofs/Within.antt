@@ -1,5 +1,6 @@
 -- The product of two monomials, from its sorted terms.
 --     numbers_are     sorted terms of the closed form are the falling terms of the product
+--     pass_small      where the degrees are small, only its whole numbers can be beyond limits
 --     pass_ok, pass_degree, pass_over    what the product within the limits of the program is
 --     pass_unlimited, pass_is            without limits it is the product, and what is answered within limits is that
 use Rattle.std.proofs.Common.{◌≡◌, ◌+◌, ◌≤◌, Bool, true, false, cond, nat_le, [], ◌∷◌, refl, sym, ap, ◌∙◌, true≢false, arith}
@@ -8,14 +9,14 @@ use Rattle.std.specs.List.Sorted.{IsPermutation, IsSortedBy}
 use Rattle.std.specs.Ordering.{is_lt, flip_args}
 use Rattle.std.specs.declared.result.Result.TheVariants.{Ok, Err}
 use Rattle.std.proofs.lemmas.Bool.Decides.{nat_tests}
-use Rattle.ore_algebra.specs.Limits.{Overflow, Degree, Limits, program, unlimited, is_within, where_test}
+use Rattle.ore_algebra.specs.Limits.{Overflow, Degree, Limits, program, unlimited, is_within, guard}
 use Rattle.ore_algebra.specs.Free.{terms, collect}
 use Rattle.ore_algebra.proofs.Integers.{integers}
 use Rattle.ore_monomial.specs.Monomial.{Monomial, degree, order_cmp, plain_cmp}
 use Rattle.ore_monomial.specs.Signature.{Signature}
 use Rattle.ore_commute.specs.ClosedForm.{closed_form}
-use Rattle.ore_commute.specs.Product.{Terms, are_within, pass_within}
-use Rattle.ore_monomial.specs.Numbers.{numbers, falling_over}
+use Rattle.ore_commute.specs.Product.{Terms, pass_within}
+use Rattle.ore_monomial.specs.Numbers.{numbers, falling_over, are_within, numbers_within}
 use Rattle.ore_commute.proofs.Kept.{closed_form_is, closed_form_apart, closed_form_numbers}
 use Rattle.ore_commute.proofs.Falling.{falls_sorted, all-permuted, all_from_falling}
 
@@ -38,11 +39,15 @@ module _ (s : Signature) (m n : Monomial) where
 
   pub pass_degree : (degree m + degree n ≤ 32767 → ⊥) → pass_within program s m n ≡ Err Degree
   unfolding pass_within
-  pass_degree h = ap (λ b. cond b (where_test (are_within program (numbers s m n)) (numbers s m n) Overflow) (Err Degree)) (degree_stops h)
+  pass_degree h = ap (λ b. cond b (numbers_within program (numbers s m n)) (Err Degree)) (degree_stops h)
 
-  pass_tested : (b : Bool) → degree m + degree n ≤ 32767 → are_within program (numbers s m n) ≡ b → pass_within program s m n ≡ where_test b (numbers s m n) Overflow
+  pub pass_small : degree m + degree n ≤ 32767 → pass_within program s m n ≡ numbers_within program (numbers s m n)
   unfolding pass_within
-  pass_tested b h e = ap (λ b. cond b (where_test (are_within program (numbers s m n)) (numbers s m n) Overflow) (Err Degree)) (degree_fits h) ∙ ap (λ c. where_test c (numbers s m n) Overflow) e
+  pass_small h = ap (λ b. cond b (numbers_within program (numbers s m n)) (Err Degree)) (degree_fits h)
+
+  pass_tested : (b : Bool) → degree m + degree n ≤ 32767 → are_within program (numbers s m n) ≡ b → pass_within program s m n ≡ guard b (numbers s m n) Overflow
+  unfolding numbers_within
+  pass_tested b h e = pass_small h ∙ ap (λ c. guard c (numbers s m n) Overflow) e
 
   pub pass_ok : (us : Terms) → degree m + degree n ≤ 32767 → are_within program (closed_form integers s m n) ≡ true → IsPermutation (closed_form integers s m n) us → AreSorted s us → pass_within program s m n ≡ Ok us
   pass_ok us h within p sorted =
@@ -60,8 +65,8 @@ module _ (s : Signature) (m n : Monomial) where
 
 module _ (s : Signature) (m n : Monomial) where
   pub pass_unlimited : pass_within unlimited s m n ≡ Ok (numbers s m n)
-  unfolding pass_within
-  pass_unlimited = ap (λ b. where_test b (numbers s m n) Overflow) (all_true (numbers s m n))
+  unfolding pass_within numbers_within
+  pass_unlimited = ap (λ b. guard b (numbers s m n) Overflow) (all_true (numbers s m n))
     where
       all_true : (ts : Terms) → are_within unlimited ts ≡ true
       all_true [] = refl
@@ -69,10 +74,10 @@ module _ (s : Signature) (m n : Monomial) where
 
   -- what is answered within limits is the product
   pub pass_is : (l : Limits) (ts : Terms) → pass_within l s m n ≡ Ok ts → ts ≡ numbers s m n
-  unfolding pass_within
+  unfolding pass_within numbers_within
   pass_is l ts e = by (is_within l.degree (degree m + degree n)) (are_within l (numbers s m n)) e
     where
-      by : (a b : Bool) → cond a (where_test b (numbers s m n) Overflow) (Err Degree) ≡ Ok ts → ts ≡ numbers s m n
+      by : (a b : Bool) → cond a (guard b (numbers s m n) Overflow) (Err Degree) ≡ Ok ts → ts ≡ numbers s m n
       by true true h = cc
       by true false h = absurd (cc)
       by false b h = absurd (cc)

@@ -56,9 +56,9 @@ divisor t d k j = with_exponent t (k + j) (with_exponent d k unit)
 module _ (K : Domain) where
   -- a shift adds its step to t, a delay takes it away
   abbrev pub step_on : ℕ → VarKind → K.Number
-  step_on t (Shift on step) = cond (nat_eq on t) (of_nat K.ring step) K.none
-  step_on t (Delay on step) = cond (nat_eq on t) (K.minus (of_nat K.ring step)) K.none
-  step_on t kind = K.none
+  step_on t (Shift on step) = cond (nat_eq on t) (of_nat K.ring step) K.zero
+  step_on t (Delay on step) = cond (nat_eq on t) (K.minus (of_nat K.ring step)) K.zero
+  step_on t kind = K.zero
 
   -- C(c,k) a!/(a-k)! C(a-k,j) h^j, where c is the exponent of the differential operator, a that of its coordinate,
   -- and h the sum of the steps over it
@@ -67,7 +67,7 @@ module _ (K : Domain) where
 
   -- the terms us, lowered and times this number; none where the number is zero
   abbrev pub lowered : K.Number → ℕ × ℕ → ℕ → ℕ → List (Monomial × K.Number) → List (Monomial × K.Number)
-  lowered z p k j us = elim (K.discrete z K.none) [
+  lowered z p k j us = elim (K.discrete z K.zero) [
     | yes e ↦ []
     | no n ↦ map (λ u. (fallen p.0 p.1 k j u.0, K.times z u.1)) us
   ]
@@ -83,7 +83,7 @@ module _ (K : Domain) where
 module _ (K : Domain) (s : Signature) where
   -- the steps over t of the variables from x on, each as often as its exponent says
   unfoldable pub step_sum : ℕ → ℕ → List ℕ → K.Number
-  step_sum t x [] = K.none
+  step_sum t x [] = K.zero
   step_sum t x (b ∷ es) = K.plus (K.times (of_nat K.ring b) (step_on K t (kind_at s x))) (step_sum t (suc x) es)
 
   -- the steps over t of all letters of m

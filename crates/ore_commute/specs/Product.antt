@@ -4,32 +4,27 @@
 --     IsStarted, HasRoom     there is a term that isn't zero; a monomial can be lowered
 --     divided        a term divided by a monomial, and times a number
 --     in_range, checked   a term where its number is in range; terms after others, where their numbers are in range
-use Rattle.std.specs.Prelude.{ℕ, ℤ, pos, nat_abs, ◌*ℤ◌, ◌+◌, ◌≤◌, ◌≢◌, Bool, cond, List, [], ◌∷◌, ◌++◌}
-use Rattle.std.specs.List.{list_all}
+use Rattle.std.specs.Prelude.{ℕ, ℤ, pos, nat_abs, ◌*ℤ◌, ◌+◌, ◌≤◌, ◌≢◌, cond, List, [], ◌∷◌, ◌++◌}
 use Rattle.std.specs.declared.result.Result.{Result}
 use Rattle.std.specs.declared.result.Result.TheVariants.{Err}
-use Rattle.ore_algebra.specs.Limits.{Cause, Overflow, Degree, Limits, program, is_within, where_test}
+use Rattle.ore_algebra.specs.Limits.{Cause, Overflow, Degree, Limits, program, is_within, guard}
 use Rattle.ore_monomial.specs.Monomial.{Monomial, exponent, degree, quotient}
-use Rattle.ore_monomial.specs.Numbers.{numbers}
+use Rattle.ore_monomial.specs.Numbers.{numbers, are_within, numbers_within}
 use Rattle.ore_monomial.specs.Signature.{Signature}
 
 -- monomials with whole numbers
 abbrev pub Terms : Type 0
 Terms = List (Monomial × ℤ)
 
--- no number is beyond the limit
-abbrev pub are_within : Limits → Terms → Bool
-are_within l ts = list_all (λ t. is_within l.magnitude (nat_abs t.1)) ts
-
 -- the terms of m n, where the degrees sum to no more than the limit, and no whole number is beyond it
 unfoldable pub pass_within : Limits → Signature → Monomial → Monomial → Result Terms Cause
-pass_within l s m n = cond (is_within l.degree (degree m + degree n)) (where_test (are_within l (numbers s m n)) (numbers s m n) Overflow) (Err Degree)
+pass_within l s m n = cond (is_within l.degree (degree m + degree n)) (numbers_within l (numbers s m n)) (Err Degree)
 
 -- ---- words of the calls inside
 
 -- a term, where its number is in range
 abbrev pub in_range : Monomial × ℤ → Result (Monomial × ℤ) Cause
-in_range t = where_test (is_within program.magnitude (nat_abs t.1)) t Overflow
+in_range t = guard (is_within program.magnitude (nat_abs t.1)) t Overflow
 
 -- a term divided by a monomial, and times a number
 unfoldable pub divided : Monomial → ℤ → Monomial × ℤ → Monomial × ℤ
@@ -37,7 +32,7 @@ divided m k t = (quotient t.0 m, k *ℤ t.1)
 
 -- terms after others, where their numbers are in range
 unfoldable pub checked : Terms → Terms → Result Terms Cause
-checked front ts = where_test (are_within program ts) (front ++ ts) Overflow
+checked front ts = guard (are_within program ts) (front ++ ts) Overflow
 
 -- there is a term, and its number isn't zero
 abbrev pub IsStarted : Terms → Type 0

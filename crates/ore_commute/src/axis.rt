@@ -1,68 +1,22 @@
 //! One coordinate that operators pass.
 
-ghost use Rattle.std.specs.Prelude.{ℕ, ◌≡◌, ◌≢◌, ◌+◌, ◌-◌, ◌^◌, ◌<◌, ◌≤◌, pos, nat_abs, [], unwrap_or, OkIff, IsOkAnd, MatchResult, if◌then◌else◌, map};
+ghost use Rattle.std.specs.Prelude.{ℕ, ◌≡◌, ◌≢◌, ◌+◌, ◌-◌, ◌^◌, ◌<◌, ◌≤◌, pos, nat_abs, [], unwrap_or, IsOkAnd, MatchResult};
 ghost use Rattle.std.specs.Option.{ForSome};
 ghost use Rattle.ore_monomial.specs.declared.stop.RingStop.TheVariants.{Overflow};
 ghost use Rattle.std.specs.List.{All};
 ghost use Rattle.ore_algebra.proofs.Integers.{integers};
 ghost use Rattle.ore_monomial.specs.Gives.{Gives, Turns};
-ghost use Rattle.ore_monomial.specs.Monomial.{Divides, with_exponent, unit, exponent, degree};
+ghost use Rattle.ore_monomial.specs.Monomial.{exponent, degree};
 ghost use Rattle.ore_monomial.specs.Signature.{kind_at};
 ghost use Rattle.ore_monomial.specs.declared.signature.VarKind.TheVariants.{Coordinate};
 ghost use Rattle.ore_commute.specs.ClosedForm.{divisor as divisor_of, differential_of as differential_index, number as number_of, total_step as total_step_of, shifted_terms, axis_terms};
-ghost use Rattle.ore_commute.specs.Product.{divided, in_range, checked, IsStarted, HasRoom};
+ghost use Rattle.ore_commute.specs.Product.{checked, IsStarted, HasRoom};
 
-use crate::number::{number, product};
+use crate::number::number;
+use crate::terms::{Lowering, Term, variable_power};
 use crate::variables::{differential_of, total_step};
 use ore_monomial::{DegreePassed, Exps, RingStop, Signature};
 use std::alloc::Global;
-
-/// A monomial with its whole number.
-pub type Term = (Exps, i128);
-
-/// One way to pass a coordinate: terms are divided by a monomial, and times a number.
-#[derive(Drop)]
-struct Lowering {
-    divisor: Exps,
-    factor: i128,
-}
-
-impl Lowering {
-    // The lowered term, where its number is in range.
-    #[tactic(auto, unfolding(crate::specs::Product::divided))]
-    fn of(&self, term: &Term) -> Result<Term, RingStop>
-        requires { Divides self.now.divisor term.now.0 }
-        ensures { Gives (λ t. t) result (in_range (divided self.now.divisor self.now.factor term.now)) }
-    {
-        let (monomial, number) = *term;
-        match product(self.factor, number) {
-            Some(scaled) => Ok((monomial.minus(&self.divisor), scaled)),
-            None => Err(RingStop::Overflow),
-        }
-    }
-
-    // The lowered terms go to the end.
-    fn add_to(&self, out: &mut Vec<Term>, terms: &[Term]) -> Result<(), RingStop>
-        requires { All (λ t. Divides self.now.divisor t.0) terms.now }
-        ensures { let made = map (divided self.now.divisor self.now.factor) terms.now in
-            Turns result out.new.items (checked out.old.items made) }
-    {
-        for term in terms {
-            out.push(self.of(term)?)?;
-        }
-        Ok(())
-    }
-}
-
-// A power of one variable.
-fn power(variable: usize, exponent: u16) -> Result<Exps, DegreePassed>
-    requires { variable < 12 }
-    ensures { OkIff result (exponent ≤ 32767) (with_exponent variable exponent unit) }
-{
-    let mut values = [0; 12];
-    values[variable] = exponent;
-    Exps::from_list(&values)
-}
 
 // The exponent of a variable, and 0 where there is none.
 fn exponent_of(monomial: &Exps, variable: Option<usize>) -> u16
@@ -125,9 +79,9 @@ impl Axis {
         requires coordinate { k + j ≤ self.now.right }
         ensures { IsOkAnd result (λ m. m ≡ divisor_of self.now.coordinate (unwrap_or self.now.operator 12) k j) }
     {
-        let fallen = power(self.coordinate, k + j)?;
+        let fallen = variable_power(self.coordinate, k + j)?;
         match self.operator {
-            Some(operator) => power(operator, k)?.plus(&fallen),
+            Some(operator) => variable_power(operator, k)?.plus(&fallen),
             None => Ok(fallen),
         }
     }

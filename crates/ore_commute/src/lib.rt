@@ -1,9 +1,9 @@
 //! Products of ordered monomials.
 //!
-//! An ordered monomial is a product of powers of the variables in declared order. The product of
-//! two of them is a sum of ordered monomials with whole numbers: the operators of the left one pass
-//! the coordinates of the right one, a differential operator by `d t = t d + 1`, a shift by `h` by
-//! `s t = t s + h s`, a delay by `h` by `D t = t D - h D`.
+//! In an ordered monomial each variable stands once, with its exponent, in the order in which the
+//! variables are declared. Two of them multiplied give a sum of such monomials with whole numbers:
+//! the operators of the left one pass the coordinates of the right one, a differential operator by
+//! `d t = t d + 1`, a shift by `h` by `s t = t s + h s`, a delay by `h` by `D t = t D - h D`.
 //!
 //! `pass` doesn't apply these rules letter by letter. For each coordinate `t` it takes three
 //! numbers: `a`, the exponent of `t` in the right monomial; `c`, the exponent of the differential
@@ -26,6 +26,10 @@
 //! than the whole one. A binomial number is built from the one before it, with the divisor taken
 //! out before the multiplication.
 //!
+//! `pass_by` is that product by any way to pass the variables of a signature one after another
+//! (`VariablePass`), so that a ring with a simpler way has the walk over variables and the sorting
+//! from here; `terms` has terms and how one is lowered.
+//!
 //! It stands on `ore_monomial` (exponents, signatures, letter rule) and `ore_algebra` (domains,
 //! sums of terms).
 #![tactic(auto)]
@@ -34,6 +38,7 @@ mod axis;
 pub mod coordinates;
 mod laws;
 pub mod number;
+pub mod terms;
 pub mod variables;
 
 pub use coordinates::pass;

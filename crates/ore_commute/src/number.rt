@@ -1,6 +1,6 @@
 //! The whole numbers of a product of two monomials.
 
-ghost use Rattle.std.specs.Prelude.{◌≡◌, ◌≢◌, ℕ, ◌+◌, ◌-◌, ◌*◌, ◌^◌, ◌<◌, ◌≤◌, pos, ◌*ℤ◌, nat_abs, SomeIff};
+ghost use Rattle.std.specs.Prelude.{◌≡◌, ◌≢◌, ◌+◌, ◌-◌, ◌*◌, ◌^◌, ◌<◌, ◌≤◌, pos, ◌*ℤ◌, nat_abs, SomeIff};
 ghost use Rattle.ore_algebra.specs.Ring.{power as power_of};
 ghost use Rattle.ore_algebra.proofs.Integers.{integers};
 ghost use Rattle.ore_monomial.specs.Passing.{choose};

@@ -1,6 +1,6 @@
 //! What the variables of a signature do to a coordinate.
 
-ghost use Rattle.std.specs.Prelude.{◌≡◌, ◌*◌, ◌^◌, ◌<◌, ◌≤◌, pos, nat_abs, length, unwrap_or};
+ghost use Rattle.std.specs.Prelude.{◌≡◌, ◌*◌, ◌^◌, ◌<◌, ◌≤◌, pos, nat_abs, unwrap_or};
 ghost use Rattle.std.specs.Option.{ForSome};
 ghost use Rattle.ore_algebra.specs.Ring.{of_nat};
 ghost use Rattle.ore_algebra.proofs.Integers.{integers};

@@ -51,7 +51,7 @@ impl MixedRing {
 }
 
 impl MonomialProduct for MixedRing {
-    ghost signature_of = { λ r. r };
+    ghost sig = { λ r. r };
 
     fn signature(&self) -> &Signature {
         &self.signature

@@ -12,7 +12,7 @@ use Rattle.ore_monomial.specs.Monomial.{Monomial, exponent, with_exponent, unit}
 use Rattle.ore_monomial.specs.Passing.{numbers_to}
 use Rattle.ore_monomial.proofs.Monomials.{exponent-same, exponent-other, exponent-unit, with-with, with_own, same_exponents}
 use native.Mathlib.Decide.{dec_lt, ℕ_discrete}
-use Rattle.ore_algebra.proofs.Solve.{In, AreApart}
+use Rattle.ore_algebra.proofs.Solve.{In, AreDistinct}
 
 pub raised : ℕ → ℕ → ℕ
 raised a zero = 1
@@ -71,7 +71,7 @@ module _ {A : Type 0} where
   In-split z [] ys h = inr h
   In-split z (x ∷ xs) ys h = ⊎_elim (λ e. inl (inl e)) (λ k. ⊎_elim (λ l. inl (inr l)) inr (In-split z xs ys k)) h
 
-  pub apart-append : (xs ys : List A) → AreApart xs → AreApart ys → ((z : A) → In z xs → In z ys → ⊥) → AreApart (xs ++ ys)
+  pub apart-append : (xs ys : List A) → AreDistinct xs → AreDistinct ys → ((z : A) → In z xs → In z ys → ⊥) → AreDistinct (xs ++ ys)
   apart-append [] ys a b d = b
   apart-append (x ∷ xs) ys a b d = (λ h. ⊎_elim a.0 (d x (inl refl)) (In-split x xs ys h), apart-append xs ys a.1 b (λ z h. d z (inr h)))
 
@@ -84,7 +84,7 @@ module _ {A B : Type 0} (f : A → B) where
   In-unmap z [] h = absurd h
   In-unmap z (y ∷ xs) h = ⊎_elim (λ e. (y, inl refl, e)) (λ k. let r = In-unmap z xs k in (r.0, inr r.1, r.2)) h
 
-  pub apart-map : (xs : List A) → AreApart xs → ((x y : A) → In x xs → In y xs → f x ≡ f y → x ≡ y) → AreApart (map f xs)
+  pub apart-map : (xs : List A) → AreDistinct xs → ((x y : A) → In x xs → In y xs → f x ≡ f y → x ≡ y) → AreDistinct (map f xs)
   apart-map [] a e = tt
   apart-map (x ∷ xs) a e = (λ h. let r = In-unmap (f x) xs h in a.0 (subst (λ z. In z xs) (sym (e x r.0 (inl refl) (inr r.1) r.2)) r.1), apart-map xs a.1 (λ y z h k. e y z (inr h) (inr k)))
 
@@ -97,7 +97,7 @@ module _ {A B : Type 0} (f : A → List B) where
   In-unflat z [] h = absurd h
   In-unflat z (y ∷ xs) h = ⊎_elim (λ k. (y, inl refl, k)) (λ k. let r = In-unflat z xs k in (r.0, inr r.1, r.2)) (In-split z (f y) (flat_map f xs) h)
 
-  pub apart-flat_map : (xs : List A) → AreApart xs → ((x : A) → In x xs → AreApart (f x)) → ((x y : A) (z : B) → In x xs → In y xs → In z (f x) → In z (f y) → x ≡ y) → AreApart (flat_map f xs)
+  pub apart-flat_map : (xs : List A) → AreDistinct xs → ((x : A) → In x xs → AreDistinct (f x)) → ((x y : A) (z : B) → In x xs → In y xs → In z (f x) → In z (f y) → x ≡ y) → AreDistinct (flat_map f xs)
   apart-flat_map [] a each e = tt
   apart-flat_map (x ∷ xs) a each e = apart-append (f x) (flat_map f xs) (each x (inl refl)) (apart-flat_map xs a.1 (λ y h. each y (inr h)) (λ y z w h k. e y z w (inr h) (inr k)))
       (λ z h k. let r = In-unflat z xs k in a.0 (subst (λ w. In w xs) (sym (e x r.0 z (inl refl) (inr r.1) h r.2)) r.1))
@@ -124,7 +124,7 @@ unfolding numbers_to
 numbers_to_small zero e h = ⊎_elim (λ p. omega arith) (λ k. absurd k) h
 numbers_to_small (suc n) e h = ⊎_elim (λ p. omega arith) (λ k. let r = In-unmap suc e (numbers_to n) k in let s = numbers_to_small n r.0 r.1 in let t = r.2 in omega arith) h
 
-pub apart-numbers_to : (n : ℕ) → AreApart (numbers_to n)
+pub apart-numbers_to : (n : ℕ) → AreDistinct (numbers_to n)
 unfolding numbers_to
 apart-numbers_to zero = (λ h. h, tt)
 apart-numbers_to (suc n) = (λ h. let r = In-unmap suc 0 (numbers_to n) h in let t = r.2 in absurd (omega arith), apart-map suc (numbers_to n) (apart-numbers_to n) (λ x y h k e. omega arith))
@@ -178,7 +178,7 @@ box_has (suc v) n vl m small past =
     gone y l (yes e) = ap (exponent (with_exponent v 0 m)) e ∙ exponent-same v 0 m (omega arith)
     gone y l (no k) = exponent-other v y 0 m k ∙ past y (omega arith)
 
-pub apart-box : (v n : ℕ) → v ≤ 12 → AreApart (box v n)
+pub apart-box : (v n : ℕ) → v ≤ 12 → AreDistinct (box v n)
 unfolding box
 apart-box zero n vl = (λ h. h, tt)
 apart-box (suc v) n vl =

@@ -26,7 +26,7 @@ use Rattle.ore_monomial.proofs.Operators
 
 module _ (K : Domain) where
   abbrev pub plain_rule : Rule K
-  plain_rule = record { alpha = K.none; beta = K.none; gamma = K.none }
+  plain_rule = record { alpha = K.zero; beta = K.zero; gamma = K.zero }
 
   rule_of_plain : (k : VarKind) → is_acting k ≡ false → rule_of K k ≡ plain_rule
   rule_of_plain Coordinate e = refl
@@ -58,16 +58,16 @@ module _ (K : Domain) where
 
 -- two rules on one coordinate whose letters commute
 pub record Agree (K : Domain) (r q : Rule K) : Type 0 where
-  pub cross : K.times r.gamma q.alpha ≡ K.none
-  pub cross_back : K.times q.gamma r.alpha ≡ K.none
+  pub cross : K.times r.gamma q.alpha ≡ K.zero
+  pub cross_back : K.times q.gamma r.alpha ≡ K.zero
   pub level : K.times r.gamma q.beta ≡ K.times q.gamma r.beta
 
 module _ (K : Domain) where
   swap_rules : (r q : Rule K) → Agree K r q → (Z A B f TZ TA TB T : Operator K) → by_rule K q (by_rule K r TZ Z B TB) Z A (by_rule K r TA A f T) ≡ by_rule K r (by_rule K q TZ Z A TA) Z B (by_rule K q TB B f T)
   unfolding by_rule
-  swap_rules r q a Z A B f TZ TA TB T = simp (Operators.scale-plus K, Operators.scale-scale K, Operators.plus_assoc K, a.cross, a.cross_back, a.level, Operators.none_scale K, Operators.none-plus K, Operators.plus-left_comm K, K.times_comm)
+  swap_rules r q a Z A B f TZ TA TB T = simp (Operators.scale-plus K, Operators.scale-scale K, Operators.plus_assoc K, a.cross, a.cross_back, a.level, Operators.zero_scale K, Operators.zero-plus K, Operators.plus-left_comm K, K.times_comm)
 
-  pub no_gamma : (k : VarKind) → (rule_of K k).gamma ≡ K.none
+  pub no_gamma : (k : VarKind) → (rule_of K k).gamma ≡ K.zero
   no_gamma Coordinate = refl
   no_gamma Constant = refl
   no_gamma Plain = refl
@@ -75,11 +75,11 @@ module _ (K : Domain) where
   no_gamma (Shift on step) = refl
   no_gamma (Delay on step) = refl
 
-  agree : (r q : Rule K) → r.gamma ≡ K.none → q.gamma ≡ K.none → Agree K r q
+  agree : (r q : Rule K) → r.gamma ≡ K.zero → q.gamma ≡ K.zero → Agree K r q
   agree r q e f = record {
-    cross = ap (λ k. K.times k q.alpha) e ∙ Numbers.none_times K _;
-    cross_back = ap (λ k. K.times k r.alpha) f ∙ Numbers.none_times K _;
-    level = ap (λ k. K.times k q.beta) e ∙ Numbers.none_times K _ ∙ sym (ap (λ k. K.times k r.beta) f ∙ Numbers.none_times K _);
+    cross = ap (λ k. K.times k q.alpha) e ∙ Numbers.zero_times K _;
+    cross_back = ap (λ k. K.times k r.alpha) f ∙ Numbers.zero_times K _;
+    level = ap (λ k. K.times k q.beta) e ∙ Numbers.zero_times K _ ∙ sym (ap (λ k. K.times k r.beta) f ∙ Numbers.zero_times K _);
   }
 
 module _ (K : Domain) (s : Signature) where
@@ -98,9 +98,9 @@ module _ (K : Domain) (s : Signature) where
   unfolding rule
   rule_still x y h = elim (ℕ_discrete (coordinate_of (kind_at s x)) y) as (λ d. elim d [ yes e ↦ rule_of K (kind_at s x) | no n ↦ plain_rule K ] ≡ plain_rule K) [ yes e ↦ rule_of_plain K (kind_at s x) h | no n ↦ refl ]
 
-  pub rule_level : (x t : ℕ) → (rule x t).gamma ≡ K.none
+  pub rule_level : (x t : ℕ) → (rule x t).gamma ≡ K.zero
   unfolding rule
-  rule_level x t = elim (ℕ_discrete (coordinate_of (kind_at s x)) t) as (λ (d : Dec (coordinate_of (kind_at s x) ≡ t)). (◌≡◌ {A = K.Number} (let r : Rule K = elim d [ yes e ↦ rule_of K (kind_at s x) | no n ↦ plain_rule K ] in r.gamma) K.none)) [ yes e ↦ no_gamma K (kind_at s x) | no n ↦ refl ]
+  rule_level x t = elim (ℕ_discrete (coordinate_of (kind_at s x)) t) as (λ (d : Dec (coordinate_of (kind_at s x) ≡ t)). (◌≡◌ {A = K.Number} (let r : Rule K = elim d [ yes e ↦ rule_of K (kind_at s x) | no n ↦ plain_rule K ] in r.gamma) K.zero)) [ yes e ↦ no_gamma K (kind_at s x) | no n ↦ refl ]
 
   rules_agree : (x y t : ℕ) → Agree K (rule x t) (rule y t)
   unfolding rule

@@ -10,7 +10,7 @@
 use Rattle.std.proofs.Common.{◌≡◌, ℕ, zero, suc, pred, ◌+◌, ◌-◌, ◌<◌, ◌≤◌, Bool, true, false, cond, List, [], ◌∷◌, map, refl, sym, ap, ◌∙◌, arith}
 use Rattle.ore_algebra.specs.Ring.{of_nat, power}
 use Rattle.ore_algebra.specs.Domain.{Domain}
-use Rattle.ore_algebra.specs.Free.{none, single, plus, scale, collect}
+use Rattle.ore_algebra.specs.Free.{empty_sum, single, plus, scale, collect}
 use Rattle.ore_monomial.specs.Monomial.{Monomial, exponent, with_exponent, raise, lower, plain_cmp}
 use Rattle.ore_monomial.specs.Passing.{Passing, passings, shift_passings, choose, numbers_to}
 use Rattle.ore_monomial.specs.declared.signature.VarKind.{VarKind}
@@ -54,7 +54,7 @@ module _ (K : Domain) where
   -- ---- what passing over t^a gives, where u e stands for t^e with the letter and v e for t^e without
 
   unfoldable pub passed : List (Passing K) → ℕ → (ℕ → Operator K) → (ℕ → Operator K) → Operator K
-  passed [] a u v = none K plain_cmp
+  passed [] a u v = empty_sum K plain_cmp
   passed (p ∷ ps) a u v = plus K plain_cmp (scale K plain_cmp p.number (cond p.stays (u (a - p.falls)) (v (a - p.falls)))) (passed ps a u v)
 
   cond-map : {A B : Type 0} (f : A → B) (b : Bool) (x y : A) → f (cond b x y) ≡ cond b (f x) (f y)
@@ -64,7 +64,7 @@ module _ (K : Domain) where
   pub collect-passed : (x t : ℕ) (m : Monomial) (ps : List (Passing K))
       → collect K plain_cmp (map (λ p. (cond p.stays (raise x (lower t p.falls m)) (lower t p.falls m), p.number)) ps)
       ≡ passed ps (exponent m t) (λ e. one_term (raise x (with_exponent t e m))) (λ e. one_term (with_exponent t e m))
-  unfolding passed none
+  unfolding passed empty_sum
   collect-passed x t m [] = refl
   collect-passed x t m (p ∷ ps) = Operators.collect_more K _ _ _ ∙ (λ i. plus K plain_cmp ((Operators.single_scale K _ p.number ∙ ap (scale K plain_cmp p.number) (cond-map one_term p.stays (raise x (lower t p.falls m)) (lower t p.falls m))) i) (collect-passed x t m ps i))
 
@@ -73,7 +73,7 @@ module _ (K : Domain) where
 
   pub passed-linear : {S : Operator K → Operator K} → IsLinear K plain_cmp S → (ps : List (Passing K)) (a : ℕ) (u v : ℕ → Operator K) → S (passed ps a u v) ≡ passed ps a (λ e. S (u e)) (λ e. S (v e))
   unfolding passed
-  passed-linear l [] a u v = Operators.linear-none K l
+  passed-linear l [] a u v = Operators.linear-empty_sum K l
   passed-linear {S} l (p ∷ ps) a u v =
       let x = u (a - p.falls) in let y = v (a - p.falls) in
       l.plus _ _ ∙ (λ i. plus K plain_cmp ((l.scale p.number (cond p.stays x y) ∙ ap (scale K plain_cmp p.number) (cond-map S p.stays x y)) i) (passed-linear l ps a u v i))
@@ -86,10 +86,10 @@ module _ (K : Domain) where
     pub gamma : K.Number
 
   abbrev pub rule_of : VarKind → Rule
-  rule_of (Differential on) = record { alpha = K.none; beta = K.one; gamma = K.none }
-  rule_of (Shift on step) = record { alpha = of_nat K.ring step; beta = K.none; gamma = K.none }
-  rule_of (Delay on step) = record { alpha = K.minus (of_nat K.ring step); beta = K.none; gamma = K.none }
-  rule_of kind = record { alpha = K.none; beta = K.none; gamma = K.none }
+  rule_of (Differential on) = record { alpha = K.zero; beta = K.one; gamma = K.zero }
+  rule_of (Shift on step) = record { alpha = of_nat K.ring step; beta = K.zero; gamma = K.zero }
+  rule_of (Delay on step) = record { alpha = K.minus (of_nat K.ring step); beta = K.zero; gamma = K.zero }
+  rule_of kind = record { alpha = K.zero; beta = K.zero; gamma = K.zero }
 
   -- a, then alpha b, beta c and gamma d
   unfoldable pub by_rule : Rule → Operator K → Operator K → Operator K → Operator K → Operator K
@@ -106,10 +106,10 @@ module _ (K : Domain) where
   passed_differential on a u v =
       let p : a - 0 ≡ a = omega arith in
       let q : a - 1 ≡ pred a = omega arith in
-      λ i. plus K plain_cmp ((Operators.scale_one K _ ∙ ap u p) i) ((Operators.plus_none K _ ∙ ap (λ e. scale K plain_cmp (of_nat K.ring a) (v e)) q) i)
+      λ i. plus K plain_cmp ((Operators.scale_one K _ ∙ ap u p) i) ((Operators.plus_zero K _ ∙ ap (λ e. scale K plain_cmp (of_nat K.ring a) (v e)) q) i)
 
   differential_none : (on : ℕ) → PassesNone (Differential on)
-  differential_none on u v = passed_differential on 0 u v ∙ ap (plus K plain_cmp (u 0)) (Operators.none_scale K _) ∙ Operators.plus_none K _
+  differential_none on u v = passed_differential on 0 u v ∙ ap (plus K plain_cmp (u 0)) (Operators.zero_scale K _) ∙ Operators.plus_zero K _
 
   differential_more : (on : ℕ) → PassesMore (Differential on)
   unfolding by_rule
@@ -118,10 +118,10 @@ module _ (K : Domain) where
       ∙ ap (plus K plain_cmp (u (suc a))) (Operators.plus-scale K K.one (of_nat K.ring a) (v a) ∙ ap (λ f. plus K plain_cmp f (scale K plain_cmp (of_nat K.ring a) (v a))) (Operators.scale_one K (v a)) ∙ Operators.plus_comm K _ _)
       ∙ sym (Operators.plus_assoc K _ _ _)
       ∙ ap (λ f. plus K plain_cmp f (v a)) (ap (plus K plain_cmp (u (suc a))) (up a) ∙ sym (passed_differential on a (λ e. u (suc e)) (λ e. v (suc e))))
-      ∙ sym (ap (plus K plain_cmp _) (simp (Operators.none_scale K, Operators.scale_one K, Operators.none-plus K, Operators.plus_none K)))
+      ∙ sym (ap (plus K plain_cmp _) (simp (Operators.zero_scale K, Operators.scale_one K, Operators.zero-plus K, Operators.plus_zero K)))
     where
       up : (a : ℕ) → scale K plain_cmp (of_nat K.ring a) (v a) ≡ scale K plain_cmp (of_nat K.ring a) (v (suc (pred a)))
-      up zero = Operators.none_scale K _ ∙ sym (Operators.none_scale K _)
+      up zero = Operators.zero_scale K _ ∙ sym (Operators.zero_scale K _)
       up (suc a) = refl
 
   pub map_after : {A B : Type 0} (f : A → B) (g : ℕ → A) (xs : List ℕ) → map f (map g xs) ≡ map (λ j. f (g j)) xs
@@ -130,7 +130,7 @@ module _ (K : Domain) where
 
   passed_numbers : (F : ℕ → Passing K) (n a : ℕ) (u v : ℕ → Operator K) → passed (map F (numbers_to n)) a u v ≡ sum_to n (λ j. scale K plain_cmp (F j).number (cond (F j).stays (u (a - (F j).falls)) (v (a - (F j).falls))))
   unfolding passed sum_to numbers_to
-  passed_numbers F zero a u v = Operators.plus_none K _
+  passed_numbers F zero a u v = Operators.plus_zero K _
   passed_numbers F (suc n) a u v = ap (plus K plain_cmp _) (ap (λ ps. passed ps a u v) (map_after F suc (numbers_to n)) ∙ passed_numbers (λ j. F (suc j)) n a u v)
 
   unfoldable pub shift_term : K.Number → (ℕ → Operator K) → ℕ → ℕ → Operator K
@@ -141,7 +141,7 @@ module _ (K : Domain) where
   shift_sum h a u v = passed_numbers _ a a u v
 
   pub of_nat-sum : (m n : ℕ) → of_nat K.ring (m + n) ≡ K.plus (of_nat K.ring m) (of_nat K.ring n)
-  of_nat-sum m zero = ap (of_nat K.ring) (Nat.add-zero m) ∙ sym (K.plus_none _)
+  of_nat-sum m zero = ap (of_nat K.ring) (Nat.add-zero m) ∙ sym (K.plus_zero _)
   of_nat-sum m (suc n) = ap (of_nat K.ring) (Nat.add-suc m n) ∙ ap (K.plus K.one) (of_nat-sum m n) ∙ Numbers.plus_left_comm K _ _ _
 
   choose_above : (n k : ℕ) → n < k → choose n k ≡ 0
@@ -177,15 +177,15 @@ module _ (K : Domain) where
       later : (j : ℕ) → j ≤ a → rest j ≡ whole (suc j)
       later j l = let e : a - j ≡ suc a - suc j = omega arith in ap (λ n. scale K plain_cmp (K.times (of_nat K.ring (choose a (suc j))) (power K.ring h (suc j))) (u n)) e
 
-      last : whole (suc a) ≡ none K plain_cmp
-      last = ap (λ n. scale K plain_cmp (K.times (of_nat K.ring n) (power K.ring h (suc a))) (u (suc a - suc a))) (choose_above a (suc a) (omega arith)) ∙ ap (λ k. scale K plain_cmp k (u (suc a - suc a))) (Numbers.none_times K _) ∙ Operators.none_scale K _
+      last : whole (suc a) ≡ empty_sum K plain_cmp
+      last = ap (λ n. scale K plain_cmp (K.times (of_nat K.ring n) (power K.ring h (suc a))) (u (suc a - suc a))) (choose_above a (suc a) (omega arith)) ∙ ap (λ k. scale K plain_cmp k (u (suc a - suc a))) (Numbers.zero_times K _) ∙ Operators.zero_scale K _
 
       up : (j : ℕ) → j ≤ a → whole j ≡ shift_term h (λ e. u (suc e)) a j
       up j l = let e : suc a - j ≡ suc (a - j) = omega arith in ap (λ n. scale K plain_cmp (K.times (of_nat K.ring (choose a j)) (power K.ring h j)) (u n)) e
 
       joined : plus K plain_cmp (shift_term h u (suc a) 0) (sum_to a rest) ≡ sum_to a (shift_term h (λ e. u (suc e)) a)
       joined = ap (plus K plain_cmp (shift_term h u (suc a) 0)) (sum_to_same a rest (λ j. whole (suc j)) later)
-          ∙ sum_to_last a whole ∙ ap (plus K plain_cmp (sum_to a whole)) last ∙ Operators.plus_none K _
+          ∙ sum_to_last a whole ∙ ap (plus K plain_cmp (sum_to a whole)) last ∙ Operators.plus_zero K _
           ∙ sum_to_same a whole _ up
 
   shift_more : (h : K.Number) (a : ℕ) (u v : ℕ → Operator K) → passed (shift_passings K h (suc a)) (suc a) u v ≡ plus K plain_cmp (passed (shift_passings K h a) a (λ e. u (suc e)) (λ e. v (suc e))) (scale K plain_cmp h (passed (shift_passings K h a) a u v))
@@ -193,33 +193,33 @@ module _ (K : Domain) where
 
   shift_none : (h : K.Number) (u v : ℕ → Operator K) → passed (shift_passings K h 0) 0 u v ≡ u 0
   unfolding sum_to shift_term choose
-  shift_none h u v = shift_sum h 0 u v ∙ simp (K.times_one, K.plus_none, Operators.scale_one K)
+  shift_none h u v = shift_sum h 0 u v ∙ simp (K.times_one, K.plus_zero, Operators.scale_one K)
 
   pub passes_none : (k : VarKind) → PassesNone k
   unfolding passings passed
-  passes_none Coordinate u v = Operators.plus_none K _ ∙ Operators.scale_one K _
-  passes_none Constant u v = Operators.plus_none K _ ∙ Operators.scale_one K _
-  passes_none Plain u v = Operators.plus_none K _ ∙ Operators.scale_one K _
+  passes_none Coordinate u v = Operators.plus_zero K _ ∙ Operators.scale_one K _
+  passes_none Constant u v = Operators.plus_zero K _ ∙ Operators.scale_one K _
+  passes_none Plain u v = Operators.plus_zero K _ ∙ Operators.scale_one K _
   passes_none (Differential on) u v = differential_none on u v
   passes_none (Shift on step) u v = shift_none (of_nat K.ring step) u v
   passes_none (Delay on step) u v = shift_none (K.minus (of_nat K.ring step)) u v
 
-  only_alpha : (h : K.Number) (a b c d : Operator K) → plus K plain_cmp a (scale K plain_cmp h b) ≡ by_rule record { alpha = h; beta = K.none; gamma = K.none } a b c d
+  only_alpha : (h : K.Number) (a b c d : Operator K) → plus K plain_cmp a (scale K plain_cmp h b) ≡ by_rule record { alpha = h; beta = K.zero; gamma = K.zero } a b c d
   unfolding by_rule
-  only_alpha h a b c d = simp (Operators.none_scale K, Operators.plus_none K)
+  only_alpha h a b c d = simp (Operators.zero_scale K, Operators.plus_zero K)
 
-  pub nothing_more : (a b c d : Operator K) → a ≡ by_rule record { alpha = K.none; beta = K.none; gamma = K.none } a b c d
+  pub nothing_more : (a b c d : Operator K) → a ≡ by_rule record { alpha = K.zero; beta = K.zero; gamma = K.zero } a b c d
   unfolding by_rule
-  nothing_more a b c d = simp (Operators.none_scale K, Operators.plus_none K)
+  nothing_more a b c d = simp (Operators.zero_scale K, Operators.plus_zero K)
 
   pub raised_plain : (a : ℕ) (u v : ℕ → Operator K) → passed (record { number = K.one; falls = 0; stays = true } ∷ []) a u v ≡ u a
   unfolding passed
-  raised_plain a u v = let e : a - 0 ≡ a = omega arith in Operators.plus_none K _ ∙ Operators.scale_one K _ ∙ ap u e
+  raised_plain a u v = let e : a - 0 ≡ a = omega arith in Operators.plus_zero K _ ∙ Operators.scale_one K _ ∙ ap u e
 
   unfoldable pub only_stays : List (Passing K)
   only_stays = record { number = K.one; falls = 0; stays = true } ∷ []
 
-  plain_more : (a : ℕ) (u v : ℕ → Operator K) → passed only_stays (suc a) u v ≡ by_rule record { alpha = K.none; beta = K.none; gamma = K.none } (passed only_stays a (λ e. u (suc e)) (λ e. v (suc e))) (passed only_stays a u v) (v a) (v (suc a))
+  plain_more : (a : ℕ) (u v : ℕ → Operator K) → passed only_stays (suc a) u v ≡ by_rule record { alpha = K.zero; beta = K.zero; gamma = K.zero } (passed only_stays a (λ e. u (suc e)) (λ e. v (suc e))) (passed only_stays a u v) (v a) (v (suc a))
   unfolding only_stays
   plain_more a u v = raised_plain (suc a) u v ∙ sym (raised_plain a (λ e. u (suc e)) (λ e. v (suc e))) ∙ nothing_more _ _ _ _
 

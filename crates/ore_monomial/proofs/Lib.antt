@@ -11,4 +11,5 @@ pub mod Operators
 pub mod Letters
 pub mod Commute
 pub mod MonomialProducts
+pub mod FallingTerms
 pub mod Box

@@ -6,7 +6,7 @@
 --     the others                      sums, multiples and collected terms, each named for its left side
 use Rattle.std.proofs.Common.{◌≡◌, ◌≢◌, T, List, ◌∷◌, ◌++◌, map}
 use Rattle.ore_algebra.specs.Domain.{Domain}
-use Rattle.ore_algebra.specs.Free.{none, single, plus, scale, extend, collect, terms, coefficient, sum_at}
+use Rattle.ore_algebra.specs.Free.{empty_sum, single, plus, scale, linear_extension, collect, terms, coefficient, sum_at}
 use Rattle.ore_monomial.specs.Monomial.{Monomial, plain_cmp}
 use Rattle.ore_monomial.specs.LetterRule.{Operator}
 use Rattle.ore_algebra.proofs.FreeLaws
@@ -27,13 +27,13 @@ module _ (K : Domain) where
   pub plus-left_comm : (f g h : Operator K) → plus K plain_cmp f (plus K plain_cmp g h) ≡ plus K plain_cmp g (plus K plain_cmp f h)
   plus-left_comm = Linear.plus-left_comm K plain_cmp_total plain_cmp_apart
 
-  pub plus_none : (f : Operator K) → plus K plain_cmp f (none K plain_cmp) ≡ f
-  plus_none = Linear.plus_none K plain_cmp_total plain_cmp_apart
+  pub plus_zero : (f : Operator K) → plus K plain_cmp f (empty_sum K plain_cmp) ≡ f
+  plus_zero = Linear.plus_zero K plain_cmp_total plain_cmp_apart
 
-  pub none-plus : (f : Operator K) → plus K plain_cmp (none K plain_cmp) f ≡ f
-  none-plus = Linear.none-plus K plain_cmp_total plain_cmp_apart
+  pub zero-plus : (f : Operator K) → plus K plain_cmp (empty_sum K plain_cmp) f ≡ f
+  zero-plus = Linear.zero-plus K plain_cmp_total plain_cmp_apart
 
-  pub plus_opposite : (f : Operator K) → plus K plain_cmp f (scale K plain_cmp (K.minus K.one) f) ≡ none K plain_cmp
+  pub plus_opposite : (f : Operator K) → plus K plain_cmp f (scale K plain_cmp (K.minus K.one) f) ≡ empty_sum K plain_cmp
   plus_opposite = Linear.plus_opposite K plain_cmp_total plain_cmp_apart
 
   pub scale-plus : (k : K.Number) (f g : Operator K) → scale K plain_cmp k (plus K plain_cmp f g) ≡ plus K plain_cmp (scale K plain_cmp k f) (scale K plain_cmp k g)
@@ -48,11 +48,11 @@ module _ (K : Domain) where
   pub scale_one : (f : Operator K) → scale K plain_cmp K.one f ≡ f
   scale_one = Linear.scale_one K plain_cmp_total plain_cmp_apart
 
-  pub scale_none : (k : K.Number) → scale K plain_cmp k (none K plain_cmp) ≡ none K plain_cmp
-  scale_none = Linear.scale_none K plain_cmp_total plain_cmp_apart
+  pub scale-empty_sum : (k : K.Number) → scale K plain_cmp k (empty_sum K plain_cmp) ≡ empty_sum K plain_cmp
+  scale-empty_sum = Linear.scale-empty_sum K plain_cmp_total plain_cmp_apart
 
-  pub none_scale : (f : Operator K) → scale K plain_cmp K.none f ≡ none K plain_cmp
-  none_scale = Linear.none_scale K plain_cmp_total plain_cmp_apart
+  pub zero_scale : (f : Operator K) → scale K plain_cmp K.zero f ≡ empty_sum K plain_cmp
+  zero_scale = Linear.zero_scale K plain_cmp_total plain_cmp_apart
 
   pub scale-single : (j k : K.Number) (m : Monomial) → scale K plain_cmp j (single K plain_cmp m k) ≡ single K plain_cmp m (K.times j k)
   scale-single = Linear.scale-single K plain_cmp_total plain_cmp_apart
@@ -60,43 +60,43 @@ module _ (K : Domain) where
   pub single_scale : (m : Monomial) (k : K.Number) → single K plain_cmp m k ≡ scale K plain_cmp k (single K plain_cmp m K.one)
   single_scale = Linear.single_scale K plain_cmp_total plain_cmp_apart
 
-  pub single_none : (m : Monomial) → single K plain_cmp m K.none ≡ none K plain_cmp
-  single_none = Linear.single_none K plain_cmp_total plain_cmp_apart
+  pub single_zero : (m : Monomial) → single K plain_cmp m K.zero ≡ empty_sum K plain_cmp
+  single_zero = Linear.single_zero K plain_cmp_total plain_cmp_apart
 
   pub single-plus : (m : Monomial) (j k : K.Number) → single K plain_cmp m (K.plus j k) ≡ plus K plain_cmp (single K plain_cmp m j) (single K plain_cmp m k)
   single-plus = Linear.single-plus K plain_cmp_total plain_cmp_apart
 
-  pub extend-single : (h : Monomial → Operator K) (m : Monomial) (k : K.Number) → extend K plain_cmp h (single K plain_cmp m k) ≡ scale K plain_cmp k (h m)
+  pub extend-single : (h : Monomial → Operator K) (m : Monomial) (k : K.Number) → linear_extension K plain_cmp h (single K plain_cmp m k) ≡ scale K plain_cmp k (h m)
   extend-single = Linear.extend-single K plain_cmp_total plain_cmp_apart
 
-  pub extend_one : (h : Monomial → Operator K) (m : Monomial) → extend K plain_cmp h (single K plain_cmp m K.one) ≡ h m
+  pub extend_one : (h : Monomial → Operator K) (m : Monomial) → linear_extension K plain_cmp h (single K plain_cmp m K.one) ≡ h m
   extend_one = Linear.extend_one K plain_cmp_total plain_cmp_apart
 
-  pub extend-none : (h : Monomial → Operator K) → extend K plain_cmp h (none K plain_cmp) ≡ none K plain_cmp
+  pub extend-none : (h : Monomial → Operator K) → linear_extension K plain_cmp h (empty_sum K plain_cmp) ≡ empty_sum K plain_cmp
   extend-none = Linear.extend-none K plain_cmp_total plain_cmp_apart
 
-  pub extend-plus : (h : Monomial → Operator K) (f g : Operator K) → extend K plain_cmp h (plus K plain_cmp f g) ≡ plus K plain_cmp (extend K plain_cmp h f) (extend K plain_cmp h g)
+  pub extend-plus : (h : Monomial → Operator K) (f g : Operator K) → linear_extension K plain_cmp h (plus K plain_cmp f g) ≡ plus K plain_cmp (linear_extension K plain_cmp h f) (linear_extension K plain_cmp h g)
   extend-plus = Linear.extend-plus K plain_cmp_total plain_cmp_apart
 
-  pub extend-scale : (h : Monomial → Operator K) (k : K.Number) (f : Operator K) → extend K plain_cmp h (scale K plain_cmp k f) ≡ scale K plain_cmp k (extend K plain_cmp h f)
+  pub extend-scale : (h : Monomial → Operator K) (k : K.Number) (f : Operator K) → linear_extension K plain_cmp h (scale K plain_cmp k f) ≡ scale K plain_cmp k (linear_extension K plain_cmp h f)
   extend-scale = Linear.extend-scale K plain_cmp_total plain_cmp_apart
 
-  pub extend_same : (h g : Monomial → Operator K) (f : Operator K) → ((m : Monomial) → h m ≡ g m) → extend K plain_cmp h f ≡ extend K plain_cmp g f
+  pub extend_same : (h g : Monomial → Operator K) (f : Operator K) → ((m : Monomial) → h m ≡ g m) → linear_extension K plain_cmp h f ≡ linear_extension K plain_cmp g f
   extend_same = Linear.extend_same K plain_cmp_total plain_cmp_apart
 
-  pub extend-extend : (g h : Monomial → Operator K) (f : Operator K) → extend K plain_cmp g (extend K plain_cmp h f) ≡ extend K plain_cmp (λ m. extend K plain_cmp g (h m)) f
+  pub extend-extend : (g h : Monomial → Operator K) (f : Operator K) → linear_extension K plain_cmp g (linear_extension K plain_cmp h f) ≡ linear_extension K plain_cmp (λ m. linear_extension K plain_cmp g (h m)) f
   extend-extend = Linear.extend-extend K plain_cmp_total plain_cmp_apart
 
-  pub extend_plus : (h g : Monomial → Operator K) (f : Operator K) → extend K plain_cmp (λ m. plus K plain_cmp (h m) (g m)) f ≡ plus K plain_cmp (extend K plain_cmp h f) (extend K plain_cmp g f)
+  pub extend_plus : (h g : Monomial → Operator K) (f : Operator K) → linear_extension K plain_cmp (λ m. plus K plain_cmp (h m) (g m)) f ≡ plus K plain_cmp (linear_extension K plain_cmp h f) (linear_extension K plain_cmp g f)
   extend_plus = Linear.extend_plus K plain_cmp_total plain_cmp_apart
 
-  pub extend_scale : (k : K.Number) (h : Monomial → Operator K) (f : Operator K) → extend K plain_cmp (λ m. scale K plain_cmp k (h m)) f ≡ scale K plain_cmp k (extend K plain_cmp h f)
+  pub extend_scale : (k : K.Number) (h : Monomial → Operator K) (f : Operator K) → linear_extension K plain_cmp (λ m. scale K plain_cmp k (h m)) f ≡ scale K plain_cmp k (linear_extension K plain_cmp h f)
   extend_scale = Linear.extend_scale K plain_cmp_total plain_cmp_apart
 
-  pub extend_singles : (f : Operator K) → extend K plain_cmp (λ m. single K plain_cmp m K.one) f ≡ f
+  pub extend_singles : (f : Operator K) → linear_extension K plain_cmp (λ m. single K plain_cmp m K.one) f ≡ f
   extend_singles = Linear.extend_singles K plain_cmp_total plain_cmp_apart
 
-  pub extend_none : (f : Operator K) → extend K plain_cmp (λ m. none K plain_cmp) f ≡ none K plain_cmp
+  pub extend_none : (f : Operator K) → linear_extension K plain_cmp (λ m. empty_sum K plain_cmp) f ≡ empty_sum K plain_cmp
   extend_none = Linear.extend_none K plain_cmp_total plain_cmp_apart
 
   pub collect_more : (m : Monomial) (k : K.Number) (ts : List (Monomial × K.Number)) → collect K plain_cmp ((m, k) ∷ ts) ≡ plus K plain_cmp (single K plain_cmp m k) (collect K plain_cmp ts)
@@ -111,13 +111,13 @@ module _ (K : Domain) where
   pub collect-terms : (f : Operator K) → collect K plain_cmp (terms K plain_cmp f) ≡ f
   collect-terms = Linear.collect-terms K plain_cmp_total plain_cmp_apart
 
-  pub by_terms {ℓ} : (P : Operator K → Type ℓ) → P (none K plain_cmp) → ((m : Monomial) (k : K.Number) (f : Operator K) → P f → P (plus K plain_cmp (single K plain_cmp m k) f)) → (f : Operator K) → P f
+  pub by_terms {ℓ} : (P : Operator K → Type ℓ) → P (empty_sum K plain_cmp) → ((m : Monomial) (k : K.Number) (f : Operator K) → P f → P (plus K plain_cmp (single K plain_cmp m k) f)) → (f : Operator K) → P f
   by_terms = Linear.by_terms K plain_cmp_total plain_cmp_apart
 
-  pub linear-none : {S : Operator K → Operator K} → IsLinear K plain_cmp S → S (none K plain_cmp) ≡ none K plain_cmp
-  linear-none = Linear.linear-none K plain_cmp_total plain_cmp_apart
+  pub linear-empty_sum : {S : Operator K → Operator K} → IsLinear K plain_cmp S → S (empty_sum K plain_cmp) ≡ empty_sum K plain_cmp
+  linear-empty_sum = Linear.linear-empty_sum K plain_cmp_total plain_cmp_apart
 
-  pub linear_is : {S : Operator K → Operator K} → IsLinear K plain_cmp S → (f : Operator K) → S f ≡ extend K plain_cmp (λ m. S (single K plain_cmp m K.one)) f
+  pub linear_is : {S : Operator K → Operator K} → IsLinear K plain_cmp S → (f : Operator K) → S f ≡ linear_extension K plain_cmp (λ m. S (single K plain_cmp m K.one)) f
   linear_is = Linear.linear_is K plain_cmp_total plain_cmp_apart
 
   pub same_linear : {S T : Operator K → Operator K} → IsLinear K plain_cmp S → IsLinear K plain_cmp T → ((m : Monomial) → S (single K plain_cmp m K.one) ≡ T (single K plain_cmp m K.one)) → (f : Operator K) → S f ≡ T f
@@ -126,7 +126,7 @@ module _ (K : Domain) where
   pub linear_itself : IsLinear K plain_cmp (λ f. f)
   linear_itself = Linear.linear_itself K plain_cmp_total plain_cmp_apart
 
-  pub linear_extend : (h : Monomial → Operator K) → IsLinear K plain_cmp (extend K plain_cmp h)
+  pub linear_extend : (h : Monomial → Operator K) → IsLinear K plain_cmp (linear_extension K plain_cmp h)
   linear_extend = Linear.linear_extend K plain_cmp_total plain_cmp_apart
 
   pub linear_after : {S T : Operator K → Operator K} → IsLinear K plain_cmp S → IsLinear K plain_cmp T → IsLinear K plain_cmp (λ f. S (T f))
@@ -141,7 +141,7 @@ module _ (K : Domain) where
   pub linear_scale : {S : Operator K → Operator K} (j : K.Number) → IsLinear K plain_cmp S → IsLinear K plain_cmp (λ f. scale K plain_cmp j (S f))
   linear_scale = Linear.linear_scale K plain_cmp_total plain_cmp_apart
 
-  pub linear_weights : (f : Operator K) (h : Monomial → Operator K → Operator K) → ((m : Monomial) → IsLinear K plain_cmp (h m)) → IsLinear K plain_cmp (λ g. extend K plain_cmp (λ m. h m g) f)
+  pub linear_weights : (f : Operator K) (h : Monomial → Operator K → Operator K) → ((m : Monomial) → IsLinear K plain_cmp (h m)) → IsLinear K plain_cmp (λ g. linear_extension K plain_cmp (λ m. h m g) f)
   linear_weights = Linear.linear_weights K plain_cmp_total plain_cmp_apart
 
   pub coefficient-collect : (ts : List (Monomial × K.Number)) (q : Monomial) → coefficient K plain_cmp (collect K plain_cmp ts) q ≡ sum_at K plain_cmp q ts
@@ -150,7 +150,7 @@ module _ (K : Domain) where
   pub same_sum : (f g : Operator K) → ((q : Monomial) → coefficient K plain_cmp f q ≡ coefficient K plain_cmp g q) → f ≡ g
   same_sum = FreeLaws.same_sum K plain_cmp_total plain_cmp_apart
 
-  pub total-extend : (w : Monomial → K.Number) (h : Monomial → Operator K) (f : Operator K) → total w (extend K plain_cmp h f) ≡ total (λ m. total w (h m)) f
+  pub total-extend : (w : Monomial → K.Number) (h : Monomial → Operator K) (f : Operator K) → total w (linear_extension K plain_cmp h f) ≡ total (λ m. total w (h m)) f
   total-extend = FreeLaws.total-extend K plain_cmp_total plain_cmp_apart
 
   pub total_same : (w v : Monomial → K.Number) (f : Operator K) → ((m : Monomial) → w m ≡ v m) → total w f ≡ total v f
@@ -162,10 +162,10 @@ module _ (K : Domain) where
   pub total_multiple : (k : K.Number) (w : Monomial → K.Number) (f : Operator K) → total (λ m. K.times k (w m)) f ≡ K.times k (total w f)
   total_multiple = FreeLaws.total_multiple K plain_cmp_total plain_cmp_apart
 
-  pub total_vanish : (w : Monomial → K.Number) (f : Operator K) → ((q : Monomial) → K.times (coefficient K plain_cmp f q) (w q) ≡ K.none) → total w f ≡ K.none
+  pub total_vanish : (w : Monomial → K.Number) (f : Operator K) → ((q : Monomial) → K.times (coefficient K plain_cmp f q) (w q) ≡ K.zero) → total w f ≡ K.zero
   total_vanish = FreeLaws.total_vanish K plain_cmp_total plain_cmp_apart
 
-  pub total_only : (w : Monomial → K.Number) (f : Operator K) (m : Monomial) → ((q : Monomial) → q ≢ m → K.times (coefficient K plain_cmp f q) (w q) ≡ K.none) → total w f ≡ K.times (coefficient K plain_cmp f m) (w m)
+  pub total_only : (w : Monomial → K.Number) (f : Operator K) (m : Monomial) → ((q : Monomial) → q ≢ m → K.times (coefficient K plain_cmp f q) (w q) ≡ K.zero) → total w f ≡ K.times (coefficient K plain_cmp f m) (w m)
   total_only = FreeLaws.total_only K plain_cmp_total plain_cmp_apart
 
   pub coefficient-plus : (f g : Operator K) (q : Monomial) → coefficient K plain_cmp (plus K plain_cmp f g) q ≡ K.plus (coefficient K plain_cmp f q) (coefficient K plain_cmp g q)
@@ -174,17 +174,17 @@ module _ (K : Domain) where
   pub coefficient-scale : (k : K.Number) (f : Operator K) (q : Monomial) → coefficient K plain_cmp (scale K plain_cmp k f) q ≡ K.times k (coefficient K plain_cmp f q)
   coefficient-scale = FreeLaws.coefficient-scale K plain_cmp_total plain_cmp_apart
 
-  pub coefficient-none : (q : Monomial) → coefficient K plain_cmp (none K plain_cmp) q ≡ K.none
-  coefficient-none = FreeLaws.coefficient-none K plain_cmp_total plain_cmp_apart
+  pub coefficient-empty_sum : (q : Monomial) → coefficient K plain_cmp (empty_sum K plain_cmp) q ≡ K.zero
+  coefficient-empty_sum = FreeLaws.coefficient-empty_sum K plain_cmp_total plain_cmp_apart
 
   pub coefficient-own : (m : Monomial) (k : K.Number) → coefficient K plain_cmp (single K plain_cmp m k) m ≡ k
   coefficient-own = FreeLaws.coefficient-own K plain_cmp_total plain_cmp_apart
 
-  pub coefficient-other : (m : Monomial) (k : K.Number) (q : Monomial) → q ≢ m → coefficient K plain_cmp (single K plain_cmp m k) q ≡ K.none
+  pub coefficient-other : (m : Monomial) (k : K.Number) (q : Monomial) → q ≢ m → coefficient K plain_cmp (single K plain_cmp m k) q ≡ K.zero
   coefficient-other = FreeLaws.coefficient-other K plain_cmp_total plain_cmp_apart
 
-  pub coefficient-extend : (h : Monomial → Operator K) (f : Operator K) (q : Monomial) → coefficient K plain_cmp (extend K plain_cmp h f) q ≡ total (λ m. coefficient K plain_cmp (h m) q) f
+  pub coefficient-extend : (h : Monomial → Operator K) (f : Operator K) (q : Monomial) → coefficient K plain_cmp (linear_extension K plain_cmp h f) q ≡ total (λ m. coefficient K plain_cmp (h m) q) f
   coefficient-extend = FreeLaws.coefficient-extend K plain_cmp_total plain_cmp_apart
 
-  pub named_of_apart : (f : Operator K) (q : Monomial) → coefficient K plain_cmp f q ≢ K.none → T (FreeLaws.named K plain_cmp_total plain_cmp_apart q (terms K plain_cmp f))
+  pub named_of_apart : (f : Operator K) (q : Monomial) → coefficient K plain_cmp f q ≢ K.zero → T (FreeLaws.named K plain_cmp_total plain_cmp_apart q (terms K plain_cmp f))
   named_of_apart = FreeLaws.named_of_apart K plain_cmp_total plain_cmp_apart

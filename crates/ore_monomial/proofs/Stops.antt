@@ -4,12 +4,9 @@ use Rattle.std.proofs.Common.{◌≡◌}
 use Rattle.std.specs.declared.result.Result.{Result}
 use Rattle.std.specs.declared.result.Result.TheVariants.{Err}
 use Rattle.ore_algebra.specs.Limits.{Cause}
-use Rattle.ore_algebra.specs.Limits as cause
+use Rattle.ore_algebra.proofs.ResultLaws.{refused_like}
 use Rattle.ore_monomial.specs.declared.stop.RingStop.{RingStop}
-use Rattle.ore_monomial.specs.declared.stop.RingStop.TheVariants as stop
-use Rattle.ore_monomial.specs.Gives.{Fails}
+use Rattle.ore_monomial.specs.Gives.{cause_of, Fails}
 
 pub fails_like : {X Y : Type 0} (e : RingStop) (r : Result X Cause) (s : Result Y Cause) → ((c : Cause) → r ≡ Err c → s ≡ Err c) → Fails e r → Fails e s
-fails_like stop.Overflow r s h f = h cause.Overflow f
-fails_like stop.Degree r s h f = h cause.Degree f
-fails_like stop.Memory r s h f = tt
+fails_like e = refused_like (Unit {0}) (cause_of e)

@@ -7,7 +7,7 @@
 --     monomial_times       a monomial times an operator
 use Rattle.std.specs.Prelude.{ℕ, zero, suc, cond, List, [], ◌∷◌, map}
 use Rattle.ore_algebra.specs.Domain.{Domain}
-use Rattle.ore_algebra.specs.Free.{Free, extend, collect}
+use Rattle.ore_algebra.specs.Free.{Free, linear_extension, collect}
 use Rattle.ore_monomial.specs.Monomial.{Monomial, exponent, raise, lower, plain_cmp}
 use Rattle.ore_monomial.specs.Signature.{Signature, kind_at, coordinate_of}
 use Rattle.ore_monomial.specs.Passing.{passings}
@@ -25,7 +25,7 @@ module _ (K : Domain) (s : Signature) where
 
   -- one letter times an operator
   unfoldable pub letter_times : ℕ → Operator K → Operator K
-  letter_times x f = extend K plain_cmp (letter x) f
+  letter_times x f = linear_extension K plain_cmp (letter x) f
 
   -- n times the same letter
   unfoldable pub power_times : ℕ → ℕ → Operator K → Operator K

@@ -3,6 +3,7 @@ pub mod MonomialCode
 pub mod StoredExps
 pub mod Term
 pub mod Signature
+pub mod FaultWords
 pub mod SignatureCode
 pub mod Passing
 pub mod LetterRule

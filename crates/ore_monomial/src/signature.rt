@@ -3,6 +3,7 @@
 ghost use Rattle.std.specs.Prelude.{◌≡◌, ◌<◌, ◌≤◌, ◌↔◌, length, slice_index_or, IsOk, IfOk, IfErr, IsTrue};
 ghost use Rattle.std.specs.List.{list_any};
 ghost use Rattle.std.specs.declared.option.Option.TheVariants.{None, Some};
+ghost use Rattle.ore_monomial.specs.FaultWords.{signature_word};
 ghost use Rattle.ore_monomial.specs.Signature.{first_fault, kind_at};
 ghost use Rattle.ore_monomial.specs.Signature as rule;
 
@@ -41,6 +42,21 @@ pub enum SignatureFault {
     BadStep(usize),
     /// Its group comes before the group of the variable before it.
     GroupOrder(usize),
+}
+
+impl SignatureFault {
+    /// Its word in a reply, whichever variable has it.
+    pub fn word(self) -> &'static [u8]
+        ensures { result.now ≡ signature_word self }
+    {
+        match self {
+            SignatureFault::TooMany => b"too-many-variables",
+            SignatureFault::BadCoordinate(_) => b"bad-coordinate",
+            SignatureFault::TwoDifferentials(_) => b"two-differentials",
+            SignatureFault::BadStep(_) => b"bad-step",
+            SignatureFault::GroupOrder(_) => b"group-order",
+        }
+    }
 }
 
 /// The greatest number of variables.

@@ -9,7 +9,7 @@
 use Rattle.std.specs.Prelude.{◌≡◌, ℕ, zero, suc, ◌*◌, ◌/◌, ◌<◌, ℤ, pos, negsuc, ◌+ℤ◌, ◌*ℤ◌, neg_ℤ, nat_abs, int_div}
 use Rattle.std.proofs.Common.{refl, subst, zero-lt-suc}
 use Rattle.std.proofs.lemmas.Nat.Gcd.{dvd_refl}
-use native.Mathlib.Nat.{div-mul_cancel, pos_of_dvd_of_pos, one-dvd, ∣_prop}
+use native.Mathlib.Nat.{div-mul_cancel, pos_of_dvd_of_pos, one-dvd}
 use Prim.Native.Nat.{◌∣◌}
 use Rattle.std.specs.Int.{IsGcd}
 use Rattle.ore_rational.specs.Gcd.{gcd, gcd_is, coprime_over}

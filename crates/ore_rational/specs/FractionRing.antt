@@ -9,7 +9,7 @@
 --     mul-inverse, mul_apart, ..       what makes the ring a field
 use Rattle.std.proofs.Common.{◌≡◌, ℕ, zero, suc, ◌+◌, ◌*◌, ◌/◌, ◌<◌, ℤ, pos, negsuc, ◌+ℤ◌, ◌*ℤ◌, neg_ℤ, nat_abs, arith, refl, sym, ap, ap₂, ◌∙◌, subst, zero-lt-suc, mul-pos, ◌≢◌, List, [], ◌∷◌}
 use Rattle.std.proofs.lemmas.Int.{unsigned_abs-mul}
-use native.Mathlib.Nat.{div-mul_cancel, dvd_antisymm, ∣_prop, dvd-mul_left, dvd-mul_right, one-dvd, dvd_trans, pos_of_dvd_of_pos, mul-div_assoc}
+use native.Mathlib.Nat.{div-mul_cancel, dvd_antisymm, dvd-mul_left}
 use native.Mathlib.Nat as NatL
 use native.Mathlib.Decide.{ℕ_discrete}
 use Prim.Native.Nat.{◌∣◌}

@@ -7,7 +7,7 @@
 --     product_within                         the product where it fits
 use Rattle.std.specs.Prelude.{ℕ, ◌*◌, ◌/◌, Bool, ◌&&◌, ℤ, pos, ◌+ℤ◌, ◌*ℤ◌, nat_abs}
 use Rattle.std.specs.declared.result.Result.{Result}
-use Rattle.ore_algebra.specs.Limits.{Limits, Cause, Overflow, is_within, where_test}
+use Rattle.ore_algebra.specs.Limits.{Limits, Cause, Overflow, is_within, guard}
 use Rattle.ore_rational.specs.Gcd.{gcd}
 use Rattle.ore_rational.specs.Fraction.{Fraction, add, mul}
 
@@ -32,10 +32,10 @@ sum_fits l p q =
     && is_within l.magnitude (sum_den p q)))
 
 unfoldable pub sum_within : Limits → Fraction → Fraction → Result Fraction Cause
-sum_within l p q = where_test (sum_fits l p q) (add p q) Overflow
+sum_within l p q = guard (sum_fits l p q) (add p q) Overflow
 
 unfoldable pub fits : Limits → Fraction → Bool
 fits l p = is_within l.magnitude (nat_abs p.num) && is_within l.magnitude p.den
 
 unfoldable pub product_within : Limits → Fraction → Fraction → Result Fraction Cause
-product_within l p q = where_test (fits l (mul p q)) (mul p q) Overflow
+product_within l p q = guard (fits l (mul p q)) (mul p q) Overflow

@@ -6,29 +6,26 @@
 --     shifted_over                where its number is beyond the range, the terms are
 --     axis_same                   where no operator is spent, the terms stay
 --     passed_axis, passed_same    one more coordinate of the product
---     numbers_checked             the numbers of a product, where its degree fits
-use Rattle.std.proofs.Common.{◌≡◌, ◌≢◌, ℕ, zero, suc, ◌+◌, ◌-◌, ◌*◌, ◌^◌, ◌<◌, ◌≤◌, min, Bool, true, false, cond, List, [], ◌∷◌, ◌++◌, length, map, drop, nat_le, refl, sym, ap, ◌∙◌, true≢false, subst, arith}
+use Rattle.std.proofs.Common.{◌≡◌, ◌≢◌, ℕ, zero, suc, ◌+◌, ◌-◌, ◌*◌, ◌^◌, ◌<◌, ◌≤◌, min, Bool, true, false, List, [], ◌∷◌, ◌++◌, length, map, drop, refl, sym, ap, ◌∙◌, true≢false, subst, arith}
 use Rattle.std.specs.Prelude.{ℤ, pos, ◌*ℤ◌, nat_abs}
 use Rattle.std.specs.List.{flat_map}
 use Rattle.std.specs.declared.result.Result.TheVariants.{Err}
 use Rattle.std.proofs.lemmas.List.{append-nil, get_or_past}
-use Rattle.std.proofs.lemmas.Bool.Decides.{nat_tests}
 use native.Mathlib.Decide.{dec_lt}
 use borrow.Author.Tests.{eqb-true}
 use Rattle.ore_algebra.specs.Ring.{of_nat, power}
-use Rattle.ore_algebra.specs.Limits.{Overflow, Degree, program, where_test}
+use Rattle.ore_algebra.specs.Limits.{Overflow}
 use Rattle.ore_algebra.proofs.DomainLaws as Numbers
 use Rattle.ore_algebra.proofs.Integers.{integers, one_times as integer_one-times}
 use Rattle.ore_monomial.specs.declared.signature.VarKind.{VarKind}
 use Rattle.ore_monomial.specs.declared.signature.VarKind.TheVariants.{Coordinate, Constant, Plain, Differential, Shift, Delay}
-use Rattle.ore_monomial.specs.Monomial.{Monomial, exponent, degree, with_exponent, lower}
-use Rattle.ore_monomial.specs.Numbers.{numbers}
+use Rattle.ore_monomial.specs.Monomial.{Monomial, exponent, with_exponent, lower}
 use Rattle.ore_monomial.specs.Passing.{choose, numbers_to}
 use Rattle.ore_monomial.specs.Signature.{Signature, kind_at, is_acting, is_coordinate, coordinate_of, is_differential_on}
 use Rattle.ore_monomial.proofs.Monomials.{with_own}
 use Rattle.ore_monomial.proofs.Signatures.{lawful}
 use Rattle.ore_commute.specs.ClosedForm.{falling, fallen, divisor, number, lowered, shifted_terms, axis_terms, passed, step_on, step_sum, total_step, axes_below, differential_of}
-use Rattle.ore_commute.specs.Product.{Terms, divided, are_within, checked, pass_within, IsStarted}
+use Rattle.ore_commute.specs.Product.{Terms, divided, checked, IsStarted}
 use Rattle.ore_commute.proofs.Axes.{found, coordinate_is}
 use Rattle.ore_commute.proofs.Divisors.{quotient-divisor}
 use Rattle.ore_commute.proofs.Kept.{lowered_none, lowered_some}
@@ -36,7 +33,6 @@ use Rattle.ore_commute.proofs.Lists.{drop-numbers_to, flat_map-map, flat_none}
 use Rattle.ore_commute.proofs.Numbers.{number_is, number_first, number_apart, choose_none}
 use Rattle.ore_commute.proofs.Shifted as shifted
 use Rattle.ore_commute.proofs.Walk.{axes_coordinate, axes_other}
-use Rattle.ore_ring.specs.Within.{numbers_within}
 use Rattle.ore_weyl.specs.Shifts.{is_shift, HasNoShift}
 
 -- ---- variables
@@ -75,7 +71,7 @@ module _ (s : Signature) (unshifted : HasNoShift s) where
   still_sum : (t x : ℕ) (es : List ℕ) → step_sum integers s t x es ≡ pos 0
   unfolding step_sum
   still_sum t x [] = refl
-  still_sum t x (b ∷ es) = (λ i. integers.plus (integers.times (of_nat integers.ring b) (no_step t (kind_at s x) (unshifted x) i)) (still_sum t (suc x) es i)) ∙ integers.plus_none _ ∙ Numbers.times_none integers (of_nat integers.ring b)
+  still_sum t x (b ∷ es) = (λ i. integers.plus (integers.times (of_nat integers.ring b) (no_step t (kind_at s x) (unshifted x) i)) (still_sum t (suc x) es i)) ∙ integers.plus_zero _ ∙ Numbers.times_zero integers (of_nat integers.ring b)
 
   pub still : (t : ℕ) (m : Monomial) → total_step integers s t m ≡ pos 0
   unfolding total_step
@@ -87,9 +83,9 @@ module _ (s : Signature) (unshifted : HasNoShift s) where
 still_number : (c a k j : ℕ) → number integers (pos 0) c a k (suc j) ≡ pos 0
 unfolding number
 still_number c a k j =
-    ap (λ z. integers.times (of_nat integers.ring (choose c k * falling a k)) (integers.times (of_nat integers.ring (choose (a - k) (suc j))) z)) (Numbers.none_times integers (power integers.ring (pos 0) j))
-    ∙ ap (integers.times (of_nat integers.ring (choose c k * falling a k))) (Numbers.times_none integers (of_nat integers.ring (choose (a - k) (suc j))))
-    ∙ Numbers.times_none integers (of_nat integers.ring (choose c k * falling a k))
+    ap (λ z. integers.times (of_nat integers.ring (choose c k * falling a k)) (integers.times (of_nat integers.ring (choose (a - k) (suc j))) z)) (Numbers.zero_times integers (power integers.ring (pos 0) j))
+    ∙ ap (integers.times (of_nat integers.ring (choose c k * falling a k))) (Numbers.times_zero integers (of_nat integers.ring (choose (a - k) (suc j))))
+    ∙ Numbers.times_zero integers (of_nat integers.ring (choose c k * falling a k))
 
 number_here : (c a k : ℕ) → number integers (pos 0) c a k 0 ≡ pos (choose c k * falling a k)
 number_here c a k =
@@ -160,12 +156,3 @@ module _ (s : Signature) (unshifted : HasNoShift s) (m n : Monomial) (t : ℕ) w
       by : (b : Bool) → is_coordinate (kind_at s t) ≡ b → passed integers s (axes_below s (t + 1)) m n ≡ passed integers s (axes_below s t) m n
       by true e = passed_axis (coordinate_is (kind_at s t) e) ∙ axis_same (t, differential_of s t) (exponent m (differential_of s t)) (exponent n t) (passed integers s (axes_below s t) m n) few
       by false e = ap (λ ts. passed integers s ts m n) (axes_other s t e)
-
--- ---- the product
-
-pub numbers_checked : (s : Signature) (m n : Monomial) → degree m + degree n ≤ 32767 → numbers_within program (numbers s m n) ≡ pass_within program s m n
-unfolding numbers_within pass_within
-numbers_checked s m n h = sym (ap (λ b. cond b (where_test (are_within program (numbers s m n)) (numbers s m n) Overflow) (Err Degree)) fits)
-  where
-    fits : nat_le (degree m + degree n) 32767 ≡ true
-    fits = grind (arith, nat_tests)

@@ -1,66 +1,19 @@
 //! One coordinate that powers of its differential operator pass.
 
-ghost use Rattle.std.specs.Prelude.{ℕ, ◌≡◌, ◌≢◌, ◌+◌, ◌*◌, ◌^◌, ◌<◌, ◌≤◌, pos, [], OkIff, IsOkAnd, MatchResult, map};
+ghost use Rattle.std.specs.Prelude.{ℕ, ◌≡◌, ◌≢◌, ◌+◌, ◌*◌, ◌^◌, ◌<◌, ◌≤◌, pos, [], IsOkAnd, MatchResult};
 ghost use Rattle.ore_monomial.specs.declared.stop.RingStop.TheVariants.{Overflow};
 ghost use Rattle.std.specs.List.{All};
 ghost use Rattle.ore_algebra.proofs.Integers.{integers};
-ghost use Rattle.ore_monomial.specs.Gives.{Gives, Turns};
-ghost use Rattle.ore_monomial.specs.Monomial.{Divides, with_exponent, unit, exponent, degree};
+ghost use Rattle.ore_monomial.specs.Gives.{Gives};
+ghost use Rattle.ore_monomial.specs.Monomial.{exponent, degree};
 ghost use Rattle.ore_monomial.specs.Passing.{choose};
 ghost use Rattle.ore_commute.specs.ClosedForm.{divisor as divisor_of, falling as falling_of, axis_terms};
-ghost use Rattle.ore_commute.specs.Product.{divided, in_range, checked, IsStarted, HasRoom};
+ghost use Rattle.ore_commute.specs.Product.{checked, IsStarted, HasRoom};
 
 use crate::number::number;
-use ore_commute::number::product;
+use ore_commute::terms::{Lowering, Term, variable_power};
 use ore_monomial::{DegreePassed, Exps, RingStop};
 use std::alloc::Global;
-
-/// A monomial with its whole number.
-pub type Term = (Exps, i128);
-
-/// One way to pass a coordinate: terms are divided by a monomial, and times a number.
-#[derive(Drop)]
-struct Lowering {
-    divisor: Exps,
-    factor: i128,
-}
-
-impl Lowering {
-    // The lowered term, where its number is in range.
-    #[tactic(auto, unfolding(ore_commute::specs::Product::divided))]
-    fn of(&self, term: &Term) -> Result<Term, RingStop>
-        requires { Divides self.now.divisor term.now.0 }
-        ensures { Gives (λ t. t) result (in_range (divided self.now.divisor self.now.factor term.now)) }
-    {
-        let (monomial, number) = *term;
-        match product(self.factor, number) {
-            Some(scaled) => Ok((monomial.minus(&self.divisor), scaled)),
-            None => Err(RingStop::Overflow),
-        }
-    }
-
-    // The lowered terms go to the end.
-    fn add_to(&self, out: &mut Vec<Term>, terms: &[Term]) -> Result<(), RingStop>
-        requires { All (λ t. Divides self.now.divisor t.0) terms.now }
-        ensures { let made = map (divided self.now.divisor self.now.factor) terms.now in
-            Turns result out.new.items (checked out.old.items made) }
-    {
-        for term in terms {
-            out.push(self.of(term)?)?;
-        }
-        Ok(())
-    }
-}
-
-// A power of one variable.
-fn power(variable: usize, exponent: u16) -> Result<Exps, DegreePassed>
-    requires { variable < 12 }
-    ensures { OkIff result (exponent ≤ 32767) (with_exponent variable exponent unit) }
-{
-    let mut values = [0; 12];
-    values[variable] = exponent;
-    Exps::from_list(&values)
-}
 
 /// A coordinate of the right monomial, with its differential operator in the left one.
 #[derive(Drop)]
@@ -105,8 +58,8 @@ impl Axis {
         requires coordinate { k ≤ self.now.right }
         ensures { IsOkAnd result (λ m. m ≡ divisor_of self.now.coordinate self.now.operator k 0) }
     {
-        let fallen = power(self.coordinate, k)?;
-        power(self.operator, k)?.plus(&fallen)
+        let fallen = variable_power(self.coordinate, k)?;
+        variable_power(self.operator, k)?.plus(&fallen)
     }
 
     // The same with its number, where that is in range.

@@ -21,8 +21,9 @@
 //! found before, by `ore_ring`.
 //!
 //! The definitions and lemmas on the closed form of a product come from `ore_commute`, whose closed
-//! form is the one above where the sum of the steps is zero (`proofs/Unshifted.antt`), and so do its
-//! products and binomial numbers of whole numbers in range. The crate stands further on `ore_ring` (operators, products over a way to
+//! form is the one above where the sum of the steps is zero (`proofs/Unshifted.antt`), and so do the
+//! walk over the variables, the lowering of terms, and the products and binomial numbers of whole
+//! numbers in range. The crate stands further on `ore_ring` (operators, products over a way to
 //! multiply two monomials), `ore_monomial` (monomials, signatures, the letter rule), `ore_rational`
 //! and `ore_algebra`.
 #![tactic(auto)]

@@ -1,6 +1,6 @@
 //! The whole numbers of a product of two monomials.
 
-ghost use Rattle.std.specs.Prelude.{◌≡◌, ◌*◌, ◌^◌, ◌<◌, ◌≤◌, pos, SomeIff};
+ghost use Rattle.std.specs.Prelude.{◌*◌, ◌^◌, ◌<◌, ◌≤◌, pos, SomeIff};
 ghost use Rattle.ore_monomial.specs.Passing.{choose};
 ghost use Rattle.ore_commute.specs.ClosedForm.{falling as falling_of};
 

@@ -3,8 +3,9 @@
 ghost use Rattle.std.specs.Prelude.{SomeIff};
 ghost use Rattle.ore_weyl.specs.Shifts.{HasNoShift};
 
-use crate::monomials::product_terms;
+use crate::monomials::Unshifted;
 use crate::variables::has_no_shift;
+use ore_commute::coordinates::pass_by;
 use ore_monomial::{Exps, RingStop, Signature};
 use ore_ring::MonomialProduct;
 use std::alloc::Global;
@@ -44,7 +45,7 @@ impl WeylRing {
 }
 
 impl MonomialProduct for WeylRing {
-    ghost signature_of = { λ r. r };
+    ghost sig = { λ r. r };
 
     fn signature(&self) -> &Signature {
         &self.signature
@@ -56,6 +57,6 @@ impl MonomialProduct for WeylRing {
         left: &Exps,
         right: &Exps,
     ) -> Result<Vec<(Exps, i128)>, RingStop> {
-        product_terms(alloc, &self.signature, left, right)
+        pass_by(&Unshifted, alloc, &self.signature, left, right)
     }
 }

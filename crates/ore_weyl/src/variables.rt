@@ -1,8 +1,6 @@
 //! What the variables of a signature are.
 
 ghost use Rattle.std.specs.Prelude.{◌≡◌, IsTrue, ◌↔◌};
-ghost use Rattle.std.specs.Option.{ForSome};
-ghost use Rattle.ore_monomial.specs.Signature.{is_differential_on as is_differential_of};
 ghost use Rattle.ore_weyl.specs.Shifts.{is_shift as is_shift_kind, HasNoShift};
 
 use ore_monomial::{Signature, VarKind};

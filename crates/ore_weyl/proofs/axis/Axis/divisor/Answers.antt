@@ -10,7 +10,7 @@ returns c =
     let z : c.args.k + 0 ≡ c.args.k = omega arith in
     let small = s.small in
     let e = subst (λ j. product (with_exponent s.operator c.args.k unit) (with_exponent s.coordinate j unit) ≡ divisor_of s.coordinate s.operator c.args.k 0) z (divisor-product s.coordinate s.operator c.args.k 0 s.within s.declared s.apart) in
-    let k_is = (c.in_ok-power.ensures {u = tt}).1 in
+    let k_is = (c.in_ok-variable_power.ensures {u = tt}).1 in
     let t_is = (c.in_ok-fallen.ensures {u = tt}).1 in
     let dk = ap degree k_is ∙ degree-power s.operator c.args.k s.declared in
     let dt = ap degree t_is ∙ degree-power s.coordinate c.args.k s.within in

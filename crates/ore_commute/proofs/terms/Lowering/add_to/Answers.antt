@@ -3,7 +3,7 @@ use Rattle.std.proofs.lemmas.Result.{err_from_is_err_and}
 use Rattle.ore_monomial.proofs.Stops.{fails_like}
 use Rattle.ore_commute.specs.Product.{divided}
 use Rattle.ore_commute.proofs.Checked.{mapped_next, mapped_stops, mapped_end}
-use Rattle.ore_commute.proofs.axis.Lowering.add_to.Goals as goal
+use Rattle.ore_commute.proofs.terms.Lowering.add_to.Goals as goal
 
 pub returns-in_err-of : goal.returns-in_err-of
 returns-in_err-of c =

@@ -7,7 +7,7 @@ use Rattle.ore_commute.specs.ClosedForm.{axes_below, axis_terms, passed as passe
 use Rattle.ore_commute.specs.Product.{checked, IsStarted, HasRoom}
 use Rattle.ore_commute.proofs.Checked.{fitting}
 use Rattle.ore_commute.proofs.Walk.{axes_coordinate, axes_other, not_coordinate, passed_absent, passed_started, passed_room}
-use Rattle.ore_commute.proofs.coordinates.passed_next.Goals as goal
+use Rattle.ore_commute.proofs.coordinates.AnyVariableVariablePass.pass_next.Goals as goal
 
 pub new-requires-clause-within : goal.new-requires-clause-within
 new-requires-clause-within c = let few = count_at_most_12 c.args.signature.now in omega arith

@@ -11,13 +11,13 @@ use Rattle.ore_commute.specs.Product.{checked, IsStarted, HasRoom}
 use Rattle.ore_commute.proofs.Checked.{fitting}
 use Rattle.ore_commute.proofs.Walk.{passed_started, passed_room}
 use Rattle.ore_weyl.proofs.Unshifted.{operator_is, passed_axis, passed_same}
-use Rattle.ore_weyl.proofs.monomials.passed_next.Goals as goal
+use Rattle.ore_weyl.proofs.monomials.UnshiftedVariablePass.pass_next.Goals as goal
 
 pub returns-then-get-eq0 : goal.returns-then-get-eq0
 returns-then-get-eq0 c =
     let index : c.in-Some.operator ≡ differential_of c.args.signature.now c.args.variable = ap (λ o. unwrap_or o 12) (sym c.in-Some.is) ∙ c.differential_of.ensures.index in
     let none : exponent c.args.left.now (differential_of c.args.signature.now c.args.variable) ≡ 0 = ap (exponent c.args.left.now) (sym index) ∙ sym c.get.ensures ∙ c.if-get-eq0.true in
-    ap (checked []) (passed_same c.args.signature.now c.requires.unshifted c.args.left.now c.args.right.now c.args.variable (omega arith) ∙ sym c.requires.before)
+    ap (checked []) (passed_same c.args.signature.now c.requires.serves c.args.left.now c.args.right.now c.args.variable (omega arith) ∙ sym c.requires.before)
     ∙ fitting c.args.terms.items c.requires.within
 
 pub get-requires-in-Some : goal.get-requires-in-Some
@@ -26,14 +26,14 @@ get-requires-in-Some c = let few = count_at_most_12 c.args.signature.now in omeg
 pub returns-then-get-eq0-2 : goal.returns-then-get-eq0-2
 returns-then-get-eq0-2 c =
     let none : exponent c.args.right.now c.args.variable ≡ 0 = sym c.get-in-Some.ensures ∙ c.if-get-eq0-2.true in
-    ap (checked []) (passed_same c.args.signature.now c.requires.unshifted c.args.left.now c.args.right.now c.args.variable (omega arith) ∙ sym c.requires.before)
+    ap (checked []) (passed_same c.args.signature.now c.requires.serves c.args.left.now c.args.right.now c.args.variable (omega arith) ∙ sym c.requires.before)
     ∙ fitting c.args.terms.items c.requires.within
 
 pub returns-in-None : goal.returns-in-None
 returns-in-None c =
     let index : 12 ≡ differential_of c.args.signature.now c.args.variable = ap (λ o. unwrap_or o 12) (sym c.in-None.is) ∙ c.differential_of.ensures.index in
     let none : exponent c.args.left.now (differential_of c.args.signature.now c.args.variable) ≡ 0 = ap (exponent c.args.left.now) (sym index) ∙ exponent_past 12 c.args.left.now (lit≤ tt) in
-    ap (checked []) (passed_same c.args.signature.now c.requires.unshifted c.args.left.now c.args.right.now c.args.variable (omega arith) ∙ sym c.requires.before)
+    ap (checked []) (passed_same c.args.signature.now c.requires.serves c.args.left.now c.args.right.now c.args.variable (omega arith) ∙ sym c.requires.before)
     ∙ fitting c.args.terms.items c.requires.within
 
 pub new-requires-clause-within : goal.new-requires-clause-within
@@ -69,5 +69,5 @@ returns-else-get-eq0-2 c =
     let coordinate = (operator_is c.args.signature.now c.args.variable (omega arith)).1 in
     subst (λ ts. Gives (λ v. v.items) c.pass.result (checked [] ts))
     ((λ i. axis_terms integers (pos 0) (n.coordinate i, (n.operator ∙ index) i) ((n.left ∙ ap (exponent c.args.left.now) index) i) (n.right i) ((c.as_slice.ensures.value ∙ c.requires.before) i))
-    ∙ sym (passed_axis c.args.signature.now c.requires.unshifted c.args.left.now c.args.right.now c.args.variable coordinate))
+    ∙ sym (passed_axis c.args.signature.now c.requires.serves c.args.left.now c.args.right.now c.args.variable coordinate))
     c.pass.ensures
