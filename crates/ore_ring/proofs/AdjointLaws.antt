@@ -4,9 +4,10 @@
 --     adjoint_value        so an Ok is the adjoint
 use Rattle.std.proofs.Common.{◌≡◌, [], ◌∷◌, pos, sym, ap, ◌∙◌}
 use Rattle.std.specs.declared.result.Result.TheVariants.{Ok}
-use Rattle.ore_algebra.specs.Free.{none, single, plus, scale, collect}
-use Rattle.ore_algebra.specs.Limits.{Limits, unlimited, ◌>>=◌, fold_within}
-use Rattle.ore_rational.specs.Fraction.{Fraction, whole, mul}
+use Rattle.ore_algebra.specs.Free.{empty_sum, single}
+use Rattle.ore_algebra.specs.Limits.{Limits, unlimited, ◌>>=◌, fold_within, IsAtMost}
+use Rattle.ore_algebra.proofs.LimitLaws.{most_fold, value_from}
+use Rattle.ore_rational.specs.Fraction.{whole, mul}
 use Rattle.ore_rational.proofs.FractionLaws.{rationals}
 use Rattle.ore_monomial.specs.Monomial.{plain_cmp}
 use Rattle.ore_monomial.specs.Signature.{Signature}
@@ -18,18 +19,8 @@ use Rattle.ore_monomial.specs.Numbers.{numbers}
 use Rattle.ore_ring.specs.Terms.{Term, Terms, falling}
 use Rattle.ore_ring.proofs.AdjointParts.{adjoint_split}
 use Rattle.ore_ring.proofs.Adjoints.{adjoint-linear, adjoint_one}
-use Rattle.ore_ring.proofs.TermLaws.{collect-falling}
-use Rattle.ore_ring.proofs.WithinLaws.{IsAtMost, most_fold, most_value, product_contributed, contributions_at_most}
-
-abbrev C : Terms → Operator rationals
-C = collect rationals plain_cmp
-
-infixl 10 ◌+◌
-abbrev ◌+◌ : Operator rationals → Operator rationals → Operator rationals
-f + g = plus rationals plain_cmp f g
-
-abbrev sc : Fraction → Operator rationals → Operator rationals
-sc = scale rationals plain_cmp
+use Rattle.ore_ring.proofs.TermLaws.{C, ◌+◌, sc, collect-falling}
+use Rattle.ore_ring.proofs.WithinLaws.{product_contributed, contributions_at_most}
 
 module _ (s : Signature) where
   term_is : (acc : Operator rationals) (t : Term) → adjoint_term_within unlimited s acc t ≡ Ok (acc + sc t.1 (adjoint_monomial rationals s t.0))
@@ -41,8 +32,8 @@ module _ (s : Signature) where
       ∙ ap (λ g. Ok (acc + g)) (ap (λ x. sc x f) (rationals.times_comm k t.1) ∙ sym (Operators.scale-scale rationals t.1 k f) ∙ ap (sc t.1) (sym (adjoint_split rationals s t.0)))
 
   terms_are : (acc : Operator rationals) (ts : Terms) → fold_within (adjoint_term_within unlimited s) acc ts ≡ Ok (acc + adjoint rationals s (C ts))
-  unfolding none
-  terms_are acc [] = ap Ok (sym (ap (λ f. acc + f) (Operators.linear-none rationals (adjoint-linear rationals s)) ∙ Operators.plus_none rationals acc))
+  unfolding empty_sum
+  terms_are acc [] = ap Ok (sym (ap (λ f. acc + f) (Operators.linear-empty_sum rationals (adjoint-linear rationals s)) ∙ Operators.plus_zero rationals acc))
   terms_are acc (t ∷ ts) =
       let linear = adjoint-linear rationals s in
       ap (λ r. r >>= λ a. fold_within (adjoint_term_within unlimited s) a ts) (term_is acc t)
@@ -52,7 +43,7 @@ module _ (s : Signature) where
 
   pub adjoint_unlimited : (f : Operator rationals) → adjoint_within unlimited s f ≡ Ok (adjoint rationals s f)
   unfolding adjoint_within
-  adjoint_unlimited f = terms_are (none rationals plain_cmp) (falling s.order f) ∙ ap Ok (Operators.none-plus rationals _ ∙ ap (adjoint rationals s) (collect-falling s.order f))
+  adjoint_unlimited f = terms_are (empty_sum rationals plain_cmp) (falling s.order f) ∙ ap Ok (Operators.zero-plus rationals _ ∙ ap (adjoint rationals s) (collect-falling s.order f))
 
 module _ (l : Limits) (s : Signature) where
   term_at_most : (acc : Operator rationals) (t : Term) → IsAtMost (adjoint_term_within l s acc t) (adjoint_term_within unlimited s acc t)
@@ -61,7 +52,7 @@ module _ (l : Limits) (s : Signature) where
 
   pub adjoint_at_most : (f : Operator rationals) → IsAtMost (adjoint_within l s f) (adjoint_within unlimited s f)
   unfolding adjoint_within
-  adjoint_at_most f = most_fold _ _ term_at_most (none rationals plain_cmp) (falling s.order f)
+  adjoint_at_most f = most_fold _ _ term_at_most (empty_sum rationals plain_cmp) (falling s.order f)
 
   pub adjoint_value : (f x : Operator rationals) → adjoint_within l s f ≡ Ok x → x ≡ adjoint rationals s f
-  adjoint_value f x e = most_value _ _ x (adjoint rationals s f) (adjoint_at_most f) e (adjoint_unlimited s f)
+  adjoint_value f x e = value_from (adjoint_within l s f) _ x (adjoint rationals s f) (adjoint_at_most f) (adjoint_unlimited s f) e

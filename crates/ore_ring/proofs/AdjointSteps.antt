@@ -11,7 +11,7 @@ use Rattle.std.specs.declared.result.Result.{Result}
 use Rattle.std.specs.declared.result.Result.TheVariants.{Ok, Err}
 use Rattle.std.specs.List.{sum}
 use native.Mathlib.Decide.{ℕ_discrete}
-use Rattle.ore_algebra.specs.Free.{none}
+use Rattle.ore_algebra.specs.Free.{empty_sum}
 use Rattle.ore_algebra.specs.Limits.{Cause, program, ◌>>=◌, fold_within}
 use Rattle.ore_algebra.specs.Ring.{power}
 use Rattle.ore_algebra.proofs.DomainLaws as Numbers
@@ -125,18 +125,18 @@ odd_power n x = (signs n x).1
 -- ---- an adjoint, from the contributions of its terms
 
 module _ (s : Signature) (v : Ordered) (ts : Terms) (te : ts ≡ falling v.by v.sum) (vo : Belongs s v) where
-  chosen : (z : Operator rationals) → z ≡ none rationals plain_cmp → adjoint_within program s v.sum ≡ fold_within (adjoint_term_within program s) z ts
+  chosen : (z : Operator rationals) → z ≡ empty_sum rationals plain_cmp → adjoint_within program s v.sum ≡ fold_within (adjoint_term_within program s) z ts
   unfolding adjoint_within
   chosen z n = λ i. fold_within (adjoint_term_within program s) (sym n i) (sym (te ∙ ap (λ o. falling o v.sum) vo.order) i)
 
-  collected : adjoint_within program s v.sum ≡ (fold_within (push_adjoint program s) [] ts >>= add_terms_within program (none rationals plain_cmp))
-  collected = chosen (none rationals plain_cmp) refl ∙ sym (adjoint_collected program s ts)
+  collected : adjoint_within program s v.sum ≡ (fold_within (push_adjoint program s) [] ts >>= add_terms_within program (empty_sum rationals plain_cmp))
+  collected = chosen (empty_sum rationals plain_cmp) refl ∙ sym (adjoint_collected program s ts)
 
   pub adjoint_stops : (c : Cause) (z : Terms) → z ≡ [] → fold_within (push_adjoint program s) z ts ≡ Err c → adjoint_within program s v.sum ≡ Err c
-  adjoint_stops c z n h = collected ∙ ap (λ r. r >>= add_terms_within program (none rationals plain_cmp)) (ap (λ z. fold_within (push_adjoint program s) z ts) (sym n) ∙ h)
+  adjoint_stops c z n h = collected ∙ ap (λ r. r >>= add_terms_within program (empty_sum rationals plain_cmp)) (ap (λ z. fold_within (push_adjoint program s) z ts) (sym n) ∙ h)
 
-  pub adjoint_made : (z out : Terms) → z ≡ [] → fold_within (push_adjoint program s) z ts ≡ Ok out → adjoint_within program s v.sum ≡ add_terms_within program (none rationals plain_cmp) out
-  adjoint_made z out n h = collected ∙ ap (λ r. r >>= add_terms_within program (none rationals plain_cmp)) (ap (λ z. fold_within (push_adjoint program s) z ts) (sym n) ∙ h)
+  pub adjoint_made : (z out : Terms) → z ≡ [] → fold_within (push_adjoint program s) z ts ≡ Ok out → adjoint_within program s v.sum ≡ add_terms_within program (empty_sum rationals plain_cmp) out
+  adjoint_made z out n h = collected ∙ ap (λ r. r >>= add_terms_within program (empty_sum rationals plain_cmp)) (ap (λ z. fold_within (push_adjoint program s) z ts) (sym n) ∙ h)
 
   pub adjoint_belongs : (x : Ordered) → x.by ≡ v.by → adjoint_within program s v.sum ≡ Ok x.sum → Belongs s x
   adjoint_belongs x b e = record { order = b ∙ vo.order; variables = subst (OperatorOf rationals s) (sym (adjoint_value program s v.sum x.sum e)) (of_adjoint rationals s v.sum vo.variables) }

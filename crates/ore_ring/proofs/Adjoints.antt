@@ -10,7 +10,7 @@ use Rattle.std.proofs.Common.{◌≡◌, ℕ, zero, suc, ◌+◌, ◌<◌, ◌�
 use native.Mathlib.Nat
 use native.Mathlib.Decide.{dec_lt, ℕ_discrete}
 use Rattle.ore_algebra.specs.Domain.{Domain}
-use Rattle.ore_algebra.specs.Free.{none, plus, scale}
+use Rattle.ore_algebra.specs.Free.{empty_sum, plus, scale}
 use Rattle.ore_monomial.specs.Monomial.{Monomial, exponent, with_exponent, raise, unit, plain_cmp}
 use Rattle.ore_monomial.specs.Signature.{Signature, kind_at, coordinate_of, is_acting, IsLawful}
 use Rattle.ore_monomial.specs.declared.signature.VarKind.{VarKind}
@@ -51,20 +51,20 @@ module _ (K : Domain) where
   sign_coordinate = refl
 
   -- to turn the sign of the coordinate turns a rule round
-  turned_rule : (r : Rule K) → r.gamma ≡ K.none → (Z X U Y V : Operator K) → by_rule K r (scale K plain_cmp (K.minus K.one) (by_rule K r Z X U Y)) X U V ≡ scale K plain_cmp (K.minus K.one) Z
+  turned_rule : (r : Rule K) → r.gamma ≡ K.zero → (Z X U Y V : Operator K) → by_rule K r (scale K plain_cmp (K.minus K.one) (by_rule K r Z X U Y)) X U V ≡ scale K plain_cmp (K.minus K.one) Z
   unfolding by_rule
   turned_rule r e Z X U Y V =
       ap (plus K plain_cmp _) (ap (λ f. plus K plain_cmp (scale K plain_cmp r.alpha X) (plus K plain_cmp (scale K plain_cmp r.beta U) f)) (gone V ∙ sym (gone Y)))
       ∙ ap (λ f. plus K plain_cmp f rest) (Operators.scale-plus K _ Z rest)
       ∙ Operators.plus_assoc K _ _ _
       ∙ ap (plus K plain_cmp (scale K plain_cmp (K.minus K.one) Z)) (Operators.plus_comm K _ _ ∙ Operators.plus_opposite K rest)
-      ∙ Operators.plus_none K _
+      ∙ Operators.plus_zero K _
     where
       rest : Operator K
       rest = plus K plain_cmp (scale K plain_cmp r.alpha X) (plus K plain_cmp (scale K plain_cmp r.beta U) (scale K plain_cmp r.gamma Y))
 
-      gone : (W : Operator K) → scale K plain_cmp r.gamma W ≡ none K plain_cmp
-      gone W = ap (λ k. scale K plain_cmp k W) e ∙ Operators.none_scale K W
+      gone : (W : Operator K) → scale K plain_cmp r.gamma W ≡ empty_sum K plain_cmp
+      gone W = ap (λ k. scale K plain_cmp k W) e ∙ Operators.zero_scale K W
 
 module _ (K : Domain) (s : Signature) where
   twice : (z w : ℕ) (f : Operator K) → adjoint_letter_times K s z (adjoint_letter_times K s w f) ≡ scale K plain_cmp (K.times (sign K (kind_at s z)) (sign K (kind_at s w))) (letter_times K s z (letter_times K s w f))

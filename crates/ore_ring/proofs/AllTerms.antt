@@ -13,7 +13,7 @@ use Rattle.std.specs.FinMap.Entries.{below_all}
 use Rattle.ore_rational.specs.Fraction.{Fraction, whole, add}
 use Rattle.ore_rational.proofs.FractionLaws.{rationals}
 use Rattle.ore_algebra.specs.Free.{NonZero, Free, terms, collect, coefficient, sum_at}
-use Rattle.ore_algebra.proofs.DomainLaws.{none_plus}
+use Rattle.ore_algebra.proofs.DomainLaws.{zero_plus}
 use Rattle.ore_algebra.proofs.FreeLaws
 use Rattle.ore_monomial.specs.Monomial.{Monomial, plain_cmp}
 use Rattle.ore_monomial.specs.declared.order.Order.{Order}
@@ -22,7 +22,7 @@ use Rattle.ore_monomial.proofs.Monomials.{plain_cmp_total, plain_cmp_apart}
 use Rattle.ore_monomial.proofs.Operators
 use Rattle.ore_ring.specs.Terms.{Term, Terms, falling, AreApart, IsFalling}
 use Rattle.ore_monomial.specs.Numbers.{back, falling_over}
-use Rattle.ore_ring.proofs.TermLaws.{eq_either, back_order, back_apart}
+use Rattle.ore_monomial.proofs.FallingTerms.{eq_either, back_order, back_apart}
 use Rattle.ore_ring.proofs.Falls.{first, second, less_of, left_true, right_true}
 
 abbrev pub at : Monomial → Terms → Fraction
@@ -34,11 +34,11 @@ AreDistinct (t ∷ ts) = (sum_at rationals plain_cmp t.0 ts ≡ whole (pos 0)) �
 
 pub at_skip : (q : Monomial) (t : Term) (ts : Terms) → eq_by_cmp plain_cmp q t.0 ≡ false → at q (t ∷ ts) ≡ at q ts
 unfolding sum_at
-at_skip q t ts e = ap (λ b. add (cond b t.1 (whole (pos 0))) (at q ts)) e ∙ none_plus rationals _
+at_skip q t ts e = ap (λ b. add (cond b t.1 (whole (pos 0))) (at q ts)) e ∙ zero_plus rationals _
 
 pub at_own : (q : Monomial) (t : Term) (ts : Terms) → eq_by_cmp plain_cmp q t.0 ≡ true → at q ts ≡ whole (pos 0) → at q (t ∷ ts) ≡ t.1
 unfolding sum_at
-at_own q t ts e z = ap (λ b. add (cond b t.1 (whole (pos 0))) (at q ts)) e ∙ ap (add t.1) z ∙ rationals.plus_none t.1
+at_own q t ts e z = ap (λ b. add (cond b t.1 (whole (pos 0))) (at q ts)) e ∙ ap (add t.1) z ∙ rationals.plus_zero t.1
 
 -- ---- sorted terms are distinct
 
@@ -46,7 +46,7 @@ module _ {R : Monomial → Monomial → Ordering} (o : IsTotalOrder R) (a : IsAn
   at_below : (q : Monomial) (ts : Terms) → T (below_all R q ts) → at q ts ≡ whole (pos 0)
   unfolding sum_at
   at_below q [] h = refl
-  at_below q (t ∷ ts) h = at_skip q t ts (eq_either {R = plain_cmp} {S = R} plain_cmp_total plain_cmp_apart o a q t.0 ∙ ap is_eq (less_of _ (first _ _ h))) ∙ at_below q ts (second _ _ h)
+  at_below q (t ∷ ts) h = at_skip q t ts (eq_either rationals {R = plain_cmp} {S = R} plain_cmp_total plain_cmp_apart o a q t.0 ∙ ap is_eq (less_of _ (first _ _ h))) ∙ at_below q ts (second _ _ h)
 
   pub sorted_distinct : (ts : Terms) → T (is_sorted R ts) → AreDistinct ts
   sorted_distinct [] h = tt

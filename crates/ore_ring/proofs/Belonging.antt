@@ -4,7 +4,7 @@
 use Rattle.std.proofs.Common.{◌≡◌, ℕ, ◌<◌, ◌≤◌, length, arith}
 use native.Mathlib.Decide.{dec_lt}
 use Rattle.ore_algebra.specs.Domain.{Domain}
-use Rattle.ore_algebra.specs.Free.{none, single, plus, scale, coefficient}
+use Rattle.ore_algebra.specs.Free.{empty_sum, single, plus, scale, coefficient}
 use Rattle.ore_monomial.specs.Monomial.{Monomial, exponent, plain_cmp}
 use Rattle.ore_monomial.specs.Signature.{Signature, MonomialOf}
 use Rattle.ore_monomial.specs.LetterRule.{Operator}
@@ -19,9 +19,9 @@ module _ (K : Domain) (s : Signature) where
   IsClear f = (y : ℕ) → length s.kinds ≤ y → AtMost K y 0 f
 
   pub clear_of : (f : Operator K) → OperatorOf K s f → IsClear f
-  clear_of f h y l q p = by (K.discrete (coefficient K plain_cmp f q) K.none)
+  clear_of f h y l q p = by (K.discrete (coefficient K plain_cmp f q) K.zero)
     where
-      by : Dec (coefficient K plain_cmp f q ≡ K.none) → coefficient K plain_cmp f q ≡ K.none
+      by : Dec (coefficient K plain_cmp f q ≡ K.zero) → coefficient K plain_cmp f q ≡ K.zero
       by (yes e) = e
       by (no n) = let z : exponent q y ≡ 0 = h q n y l in absurd (omega arith)
 
@@ -32,7 +32,7 @@ module _ (K : Domain) (s : Signature) where
       by (yes p) = absurd (n (h y l m p))
       by (no q) = omega arith
 
-  pub of_none : OperatorOf K s (none K plain_cmp)
+  pub of_none : OperatorOf K s (empty_sum K plain_cmp)
   of_none = of_clear _ (λ y l. most_none K y 0)
 
   pub of_single : (m : Monomial) (k : K.Number) → MonomialOf s m → OperatorOf K s (single K plain_cmp m k)

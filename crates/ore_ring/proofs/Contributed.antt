@@ -1,29 +1,29 @@
 -- Contributions that are collected first and then added, against products and adjoints that add them at once.
+--     Overflows                               a result stops with Overflow alone
+--     bind_overflows                          so does what goes on from one that does
 --     product_collected, adjoint_collected    what the collected contributions make is what the definition gives
-use Rattle.std.proofs.Common.{◌≡◌, Bool, true, false, List, [], ◌∷◌, ◌++◌, ℤ, refl, sym, ap, ◌∙◌}
+--     times_overflows, plus_overflows         a product whose degrees fit, and a sum, stop with Overflow alone
+use Rattle.std.proofs.Common.{◌≡◌, Bool, true, false, cond, List, [], ◌∷◌, ◌++◌, ℤ, refl, sym, ap, ◌∙◌, subst}
 use Rattle.std.specs.declared.result.Result.{Result}
 use Rattle.std.specs.declared.result.Result.TheVariants.{Ok, Err}
-use Rattle.ore_algebra.specs.Free.{none}
-use Rattle.ore_algebra.specs.Limits.{Limits, Cause, Overflow, ◌>>=◌, where_test, fold_within}
+use Rattle.ore_algebra.specs.Free.{empty_sum}
+use Rattle.ore_algebra.proofs.ResultLaws.{bind_assoc}
+use Rattle.ore_algebra.specs.Limits.{Limits, Cause, Overflow, Degree, ◌>>=◌, guard, fold_within}
 use Rattle.ore_rational.specs.Fraction.{Fraction, whole, mul}
 use Rattle.ore_rational.specs.Within.{sum_fits, sum_within, fits, product_within}
 use Rattle.ore_rational.proofs.FractionLaws.{rationals}
 use Rattle.ore_monomial.specs.Monomial.{Monomial, plain_cmp}
 use Rattle.ore_monomial.specs.Signature.{Signature}
 use Rattle.ore_monomial.specs.LetterRule.{Operator}
-use Rattle.ore_monomial.specs.Numbers.{numbers}
-use Rattle.ore_ring.specs.Terms.{Term, Terms}
-use Rattle.ore_ring.specs.Within.{add_term_within, numbers_within, contribute, pair_within, row_within}
+use Rattle.ore_monomial.specs.Numbers.{numbers, numbers_within}
+use Rattle.ore_ring.specs.Terms.{Term, Terms, falling}
+use Rattle.ore_ring.specs.Within.{add_term_within, contribute, pair_within, row_within, plus_within, times_within, degrees_fit}
 use Rattle.ore_ring.specs.AdjointWithin.{adjoint_term_within, coordinate_part, letter_part, sign_of}
 use Rattle.ore_ring.specs.Contributions.{add_terms_within, push_number, push_product, push_pair, push_row, push_adjoint}
 
 -- it stops with Overflow alone
-abbrev Overflows : {A : Type 0} → Result A Cause → Type 0
+abbrev pub Overflows : {A : Type 0} → Result A Cause → Type 0
 Overflows r = (e : Cause) → r ≡ Err e → e ≡ Overflow
-
-bind_assoc : {A B D : Type 0} (r : Result A Cause) (f : A → Result B Cause) (g : B → Result D Cause) → ((r >>= f) >>= g) ≡ (r >>= λ x. f x >>= g)
-bind_assoc (Ok x) f g = refl
-bind_assoc (Err e) f g = refl
 
 bind_like : {A B : Type 0} (r : Result A Cause) (f g : A → Result B Cause) → ((x : A) → f x ≡ g x) → (r >>= f) ≡ (r >>= g)
 bind_like (Ok x) f g h = h x
@@ -36,11 +36,11 @@ swap (Ok x) (Err e) f h k = refl
 swap (Err e) (Ok y) f h k = refl
 swap (Err e) (Err d) f h k = ap Err (h e refl ∙ sym (k d refl))
 
-test_overflows : {A : Type 0} (b : Bool) (x : A) → Overflows (where_test b x Overflow)
+test_overflows : {A : Type 0} (b : Bool) (x : A) → Overflows (guard b x Overflow)
 test_overflows true x e h = let no : ⊥ = cc in absurd no
 test_overflows false x e h = cc
 
-bind_overflows : {A B : Type 0} (r : Result A Cause) (f : A → Result B Cause) → Overflows r → ((x : A) → Overflows (f x)) → Overflows (r >>= f)
+pub bind_overflows : {A B : Type 0} (r : Result A Cause) (f : A → Result B Cause) → Overflows r → ((x : A) → Overflows (f x)) → Overflows (r >>= f)
 bind_overflows (Ok x) f h k e g = k x e g
 bind_overflows (Err d) f h k e g = let w : d ≡ e = cc in sym w ∙ h d refl
 
@@ -84,11 +84,11 @@ module _ (l : Limits) where
 
   -- from the zero operator
   abbrev made : Terms → Result (Operator rationals) Cause
-  made ts = add_terms_within l (none rationals plain_cmp) ts
+  made ts = add_terms_within l (empty_sum rationals plain_cmp) ts
 
   made_overflows : (ts : Terms) → Overflows (made ts)
   unfolding add_terms_within
-  made_overflows ts = fold_overflows step step_overflows (none rationals plain_cmp) ts
+  made_overflows ts = fold_overflows step step_overflows (empty_sum rationals plain_cmp) ts
 
   fold_snoc : (f : Operator rationals) (ts : Terms) (t : Term) → fold_within step f (ts ++ t ∷ []) ≡ (fold_within step f ts >>= λ g. step g t)
   fold_snoc f [] t = by (step f t)
@@ -100,7 +100,7 @@ module _ (l : Limits) where
 
   made_snoc : (ts : Terms) (t : Term) → made (ts ++ t ∷ []) ≡ (made ts >>= λ g. step g t)
   unfolding add_terms_within
-  made_snoc ts t = fold_snoc (none rationals plain_cmp) ts t
+  made_snoc ts t = fold_snoc (empty_sum rationals plain_cmp) ts t
 
   number_made : (uv : Fraction) (out : Terms) (k : Monomial × ℤ) → (push_number l uv out k >>= made) ≡ (made out >>= λ f. contribute l uv f k)
   unfolding push_number contribute
@@ -120,6 +120,10 @@ module _ (l : Limits) where
       ∙ bind_like (numbers_within l ks) _ _ (λ rs. numbers_made uv out rs)
       ∙ swap (numbers_within l ks) (made out) (λ rs f. fold_within (contribute l uv) f rs) (numbers_overflow ks) (made_overflows out)
 
+  pub plus_overflows : (f g : Operator rationals) → Overflows (plus_within l f g)
+  unfolding plus_within
+  plus_overflows f g = test_overflows _ _
+
   module _ (s : Signature) where
     pair_made : (t : Term) (out : Terms) (u : Term) → (push_pair l s t out u >>= made) ≡ (made out >>= λ f. pair_within l s t f u)
     unfolding push_pair push_product pair_within
@@ -133,7 +137,27 @@ module _ (l : Limits) where
     unfolding push_row row_within
     row_made us out t = fold_through (push_pair l s t) (pair_within l s t) made (pair_made t) out us
 
-    pub product_collected : (ts us : Terms) → (fold_within (push_row l s us) [] ts >>= made) ≡ fold_within (row_within l s us) (none rationals plain_cmp) ts
+    contribute_overflows : (uv : Fraction) (f : Operator rationals) (k : Monomial × ℤ) → Overflows (contribute l uv f k)
+    unfolding contribute
+    contribute_overflows uv f k = bind_overflows (product_within l uv (whole k.1)) _ (product_overflows uv (whole k.1)) (λ x. step_overflows f (k.0, x))
+
+    pair_overflows : (t : Term) (f : Operator rationals) (u : Term) → Overflows (pair_within l s t f u)
+    unfolding pair_within
+    pair_overflows t f u =
+        bind_overflows (product_within l t.1 u.1) _ (product_overflows t.1 u.1)
+        (λ x. bind_overflows (numbers_within l (numbers s t.0 u.0)) _ (numbers_overflow (numbers s t.0 u.0)) (λ ks. fold_overflows (contribute l x) (contribute_overflows x) f ks))
+
+    row_overflows : (us : Terms) (f : Operator rationals) (t : Term) → Overflows (row_within l s us f t)
+    unfolding row_within
+    row_overflows us f t = fold_overflows (pair_within l s t) (pair_overflows t) f us
+
+    pub times_overflows : (f g : Operator rationals) → degrees_fit l (falling s.order f) (falling s.order g) ≡ true → Overflows (times_within l s f g)
+    unfolding times_within
+    times_overflows f g h =
+        let all = fold_within (row_within l s (falling s.order g)) (empty_sum rationals plain_cmp) (falling s.order f) in
+        subst (λ b. Overflows (cond b all (Err Degree))) (sym h) (fold_overflows (row_within l s (falling s.order g)) (row_overflows (falling s.order g)) (empty_sum rationals plain_cmp) (falling s.order f))
+
+    pub product_collected : (ts us : Terms) → (fold_within (push_row l s us) [] ts >>= made) ≡ fold_within (row_within l s us) (empty_sum rationals plain_cmp) ts
     unfolding add_terms_within
     product_collected ts us = fold_through (push_row l s us) (row_within l s us) made (row_made us) [] ts
 
@@ -141,6 +165,6 @@ module _ (l : Limits) where
     unfolding push_adjoint push_product adjoint_term_within
     adjoint_made out t = product_made (mul (sign_of rationals s t.0) t.1) out (numbers s (letter_part s t.0) (coordinate_part s t.0))
 
-    pub adjoint_collected : (ts : Terms) → (fold_within (push_adjoint l s) [] ts >>= made) ≡ fold_within (adjoint_term_within l s) (none rationals plain_cmp) ts
+    pub adjoint_collected : (ts : Terms) → (fold_within (push_adjoint l s) [] ts >>= made) ≡ fold_within (adjoint_term_within l s) (empty_sum rationals plain_cmp) ts
     unfolding add_terms_within
     adjoint_collected ts = fold_through (push_adjoint l s) (adjoint_term_within l s) made adjoint_made [] ts

@@ -9,9 +9,9 @@ use Rattle.std.specs.FinMap.{is_sorted}
 use Rattle.std.specs.FinMap.Entries.{below_all}
 use Rattle.std.specs.declared.result.Result.TheVariants.{Ok}
 use native.Mathlib.Nat.{div-one}
-use Rattle.ore_algebra.specs.Free.{collect, none, plus, single, sum_at}
+use Rattle.ore_algebra.specs.Free.{collect, empty_sum, plus, single, sum_at}
 use Rattle.ore_algebra.specs.Limits.{program, ◌>>=◌, fold_within}
-use Rattle.ore_algebra.proofs.DomainLaws.{none_plus}
+use Rattle.ore_algebra.proofs.DomainLaws.{zero_plus}
 use Rattle.ore_algebra.proofs.Normal.{nil, one, ◌⊕◌, ◌⊗◌, v0}
 use Rattle.ore_rational.specs.Gcd.{gcd}
 use Rattle.ore_rational.specs.Fraction.{Fraction, whole}
@@ -57,7 +57,7 @@ module _ (c : Fraction) where
   zero_sum h k =
       sum_ok (whole (pos 0)) c
       (sum_fits_from (whole (pos 0)) c (subst InRange (sym zero_part) (omega arith)) (subst InRange (sym own_part) h) (subst InRange (sym num_is) h) (subst (λ d. d < 2 ^ 127) (sym den_is) k))
-      ∙ ap Ok (none_plus rationals c)
+      ∙ ap Ok (zero_plus rationals c)
 
 -- ---- terms that fall
 
@@ -89,8 +89,8 @@ falling_from o ds (t ∷ ts) h r =
     ∙ falling_from o (ds ++ t ∷ []) ts (subst (λ us. T (is_sorted (back o) us)) (sym e) h) r.1
     ∙ ap (λ us. Ok (collect rationals plain_cmp us)) e
 
-pub falling_sum : (o : Order) (ts : Terms) → IsFalling o ts → AreInRange ts → add_terms_within program (none rationals plain_cmp) ts ≡ Ok (collect rationals plain_cmp ts)
-unfolding add_terms_within none
+pub falling_sum : (o : Order) (ts : Terms) → IsFalling o ts → AreInRange ts → add_terms_within program (empty_sum rationals plain_cmp) ts ≡ Ok (collect rationals plain_cmp ts)
+unfolding add_terms_within empty_sum
 falling_sum o ts h r = falling_from o [] ts h.falls r
 
 -- ---- one more term

@@ -14,7 +14,7 @@ use Rattle.std.specs.FinMap.Entries.{below_all}
 use Rattle.ore_rational.specs.Fraction.{Fraction, whole}
 use Rattle.ore_monomial.specs.Monomial.{Monomial, order_cmp, plain_cmp}
 use Rattle.ore_monomial.specs.declared.order.Order.{Order}
-use Rattle.ore_algebra.specs.Free.{none, single}
+use Rattle.ore_algebra.specs.Free.{empty_sum, single}
 use Rattle.ore_monomial.proofs.Monomials.{order_total}
 use Rattle.ore_rational.proofs.FractionLaws.{rationals}
 use Rattle.ore_ring.specs.Terms.{Term, Terms, falling, AreApart, IsFalling, IsBelowLast}
@@ -80,8 +80,8 @@ apart_snoc (u ∷ ts) t h n = (h.0, apart_snoc ts t h.1 n)
 pub falls_snoc : (o : Order) (ts : Terms) (t : Term) → IsFalling o ts → IsBelowLast o ts t.0 → t.1 ≢ whole (pos 0) → IsFalling o (ts ++ t ∷ [])
 falls_snoc o ts t h b n = record { falls = sorted_snoc o ts t h.falls b; apart = apart_snoc ts t h.apart n }
 
-pub falling-none : (o : Order) → falling o (none rationals plain_cmp) ≡ []
-unfolding none
+pub falling-none : (o : Order) → falling o (empty_sum rationals plain_cmp) ≡ []
+unfolding empty_sum
 falling-none o = falling-collect o [] (falls_none o)
 
 pub single_falling : (o : Order) (m : Monomial) (x : Fraction) → x ≢ whole (pos 0) → falling o (single rationals plain_cmp m x) ≡ (m, x) ∷ []

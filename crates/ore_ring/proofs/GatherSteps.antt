@@ -21,7 +21,7 @@ use Rattle.ore_monomial.specs.declared.order.Order.{Order}
 use Rattle.ore_monomial.specs.Monomial.{rank}
 use Rattle.ore_monomial.proofs.Operators
 use Rattle.ore_rational.proofs.FractionLaws.{rationals}
-use Rattle.ore_algebra.specs.Limits.{Limits, Cause, Overflow, program, ◌>>=◌, where_test}
+use Rattle.ore_algebra.specs.Limits.{Limits, Cause, Overflow, program, ◌>>=◌, guard}
 use Rattle.ore_rational.specs.Within.{sum_fits, sum_within}
 use Rattle.ore_ring.specs.Terms.{Term, Terms, IsFalling}
 use Rattle.ore_ring.specs.Within.{add_term_within}
@@ -37,7 +37,7 @@ pub sum_value : (l : Limits) (p q s : Fraction) → sum_within l p q ≡ Ok s �
 unfolding sum_within
 sum_value l p q s e = by (sum_fits l p q) e
   where
-    by : (b : Bool) → where_test b (add p q) Overflow ≡ Ok s → s ≡ add p q
+    by : (b : Bool) → guard b (add p q) Overflow ≡ Ok s → s ≡ add p q
     by true f = cc
     by false f = cc
 

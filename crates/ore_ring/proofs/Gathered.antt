@@ -4,12 +4,12 @@
 --     insert_is                 to insert at a rank is to put at that monomial
 --     put_value, put_sorted     what is put is added, and the terms still rise
 --     drained_value, drained_falls    taken out from the last, they make the same operator, and fall
-use Rattle.std.proofs.Common.{◌≡◌, ◌≢◌, ℕ, Bool, true, false, cond, ◌&&◌, T, List, [], ◌∷◌, ◌++◌, map, pos, refl, sym, ap, ap₂, ◌∙◌, subst, true≢false, append_assoc, nat_cmp}
+use Rattle.std.proofs.Common.{◌≡◌, Bool, true, cond, T, [], ◌∷◌, ◌++◌, map, refl, sym, ap, ap₂, ◌∙◌, subst, append_assoc, nat_cmp}
 use Rattle.std.specs.declared.option.Option.{Option}
 use Rattle.std.specs.declared.option.Option.TheVariants.{Some}
 use Rattle.std.specs.declared.cmp.Ordering.{Ordering}
 use Rattle.std.specs.declared.cmp.Ordering.TheVariants.{Less, Equal, Greater}
-use Rattle.std.specs.Ordering.{eq_by_cmp, is_eq, is_lt, match_ordering, ordering_reverse}
+use Rattle.std.specs.Ordering.{is_eq, match_ordering, ordering_reverse}
 use Rattle.std.specs.Cmp.Lexicographic.{slice_cmp}
 use Rattle.std.specs.Cmp.{tied_itself}
 use Rattle.std.proofs.lemmas.Cmp.{nat_list_cmp_total}
@@ -19,11 +19,11 @@ use Rattle.std.specs.FinMap.{is_sorted}
 use Rattle.std.specs.FinMap.Entries.{below_all, put, is_sorted-put}
 use Rattle.ore_rational.specs.Fraction.{Fraction, add}
 use Rattle.ore_rational.proofs.FractionLaws.{fraction_discrete, rationals}
-use Rattle.ore_algebra.specs.Free.{collect, none, single, plus}
+use Rattle.ore_algebra.specs.Free.{collect, empty_sum, single, plus}
 use Rattle.ore_monomial.specs.Monomial.{Monomial, order_cmp, plain_cmp, rank}
 use Rattle.ore_monomial.specs.declared.order.Order.{Order}
 use Rattle.ore_monomial.specs.LetterRule.{Operator}
-use Rattle.ore_algebra.proofs.DomainLaws.{none_plus}
+use Rattle.ore_algebra.proofs.DomainLaws.{zero_plus}
 use Rattle.ore_monomial.proofs.Monomials.{order_total, order_apart}
 use Rattle.ore_monomial.proofs.WellFounded.{rank_less}
 use Rattle.ore_monomial.proofs.Operators
@@ -33,7 +33,8 @@ use Rattle.ore_ring.specs.Merge.{kept}
 use Rattle.ore_ring.specs.Gathered.{keyed, drained}
 use Rattle.ore_ring.specs.IsGathered.{number_of}
 use Rattle.ore_ring.proofs.Falls.{both, first, second, less_of, of_less, falls_none, falls_snoc}
-use Rattle.ore_ring.proofs.MergeIs.{C, ◌+◌, at, zero, eq_order, at_skip, at_own, kept_value}
+use Rattle.ore_ring.proofs.MergeIs.{at, zero, eq_order, at_skip, at_own, kept_value}
+use Rattle.ore_ring.proofs.TermLaws.{C, ◌+◌}
 
 -- the order of keys is that of the monomials
 pub rank_cmp : (o : Order) (m n : Monomial) → slice_cmp nat_cmp (rank o m) (rank o n) ≡ order_cmp o m n
@@ -88,15 +89,15 @@ module _ (o : Order) where
   less_below m n (u ∷ us) e h = both _ _ (of_less _ ((order_total o).trans m n u.0 e (less_of _ (first _ _ h)))) (less_below m n us e (second _ _ h))
 
   pub put_value : (m : Monomial) (s c : Fraction) (ts : Terms) → T (is_sorted (order_cmp o) ts) → s ≡ add (at m ts) c → C (put (order_cmp o) m s ts) ≡ C ts + one_of m c
-  unfolding Rattle.ore_algebra.specs.Free.sum_at none
-  put_value m s c [] h e = Operators.collect_more rationals m s [] ∙ Operators.plus_none rationals (one_of m s) ∙ ap (one_of m) (e ∙ none_plus rationals c) ∙ sym (Operators.none-plus rationals (one_of m c))
+  unfolding Rattle.ore_algebra.specs.Free.sum_at empty_sum
+  put_value m s c [] h e = Operators.collect_more rationals m s [] ∙ Operators.plus_zero rationals (one_of m s) ∙ ap (one_of m) (e ∙ zero_plus rationals c) ∙ sym (Operators.zero-plus rationals (one_of m c))
   put_value m s c (t ∷ ts) h e = by (order_cmp o m t.0) refl (λ f. put_value m s c ts (second _ _ h) (e ∙ ap (λ x. add x c) f))
     where
       by : (r : Ordering) → order_cmp o m t.0 ≡ r → (at m (t ∷ ts) ≡ at m ts → C (put (order_cmp o) m s ts) ≡ C ts + one_of m c)
           → C (Rattle.std.specs.FinMap.Entries.by_order r ((m, s) ∷ t ∷ ts) ((t.0, s) ∷ ts) (t ∷ put (order_cmp o) m s ts)) ≡ C (t ∷ ts) + one_of m c
       by Less f ih =
           Operators.collect_more rationals m s (t ∷ ts)
-          ∙ ap (λ x. one_of m x + C (t ∷ ts)) (e ∙ ap (λ x. add x c) (at_skip unlimited o m t ts (eq_order unlimited o m t.0 Less f) ∙ at_below m ts (less_below m t.0 ts f (first _ _ h))) ∙ none_plus rationals c)
+          ∙ ap (λ x. one_of m x + C (t ∷ ts)) (e ∙ ap (λ x. add x c) (at_skip unlimited o m t ts (eq_order unlimited o m t.0 Less f) ∙ at_below m ts (less_below m t.0 ts f (first _ _ h))) ∙ zero_plus rationals c)
           ∙ Operators.plus_comm rationals (one_of m c) (C (t ∷ ts))
       by Equal f ih =
           Operators.collect_more rationals t.0 s ts
@@ -123,7 +124,7 @@ module _ (o : Order) where
   drained-snoc (u ∷ ts) t = ap (λ us. us ++ kept u.0 u.1 []) (drained-snoc ts t) ∙ append_assoc (kept t.0 t.1 []) (drained ts) (kept u.0 u.1 [])
 
   pub drained_value : (ts : Terms) → C (drained ts) ≡ C ts
-  unfolding none
+  unfolding empty_sum
   drained_value [] = refl
   drained_value (t ∷ ts) =
       Operators.collect-append rationals (drained ts) (kept t.0 t.1 [])
@@ -131,7 +132,7 @@ module _ (o : Order) where
       ∙ Operators.plus_comm rationals (C ts) (one_of t.0 t.1) ∙ sym (Operators.collect_more rationals t.0 t.1 ts)
     where
       last : (f : Operator rationals) → f + C [] ≡ f
-      last f = Operators.plus_none rationals f
+      last f = Operators.plus_zero rationals f
 
   abbrev AllAbove : Monomial → Terms → Type 0
   AllAbove m [] = Unit {0}

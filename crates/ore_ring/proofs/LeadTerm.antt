@@ -7,7 +7,7 @@ use Rattle.std.specs.declared.cmp.Ordering.TheVariants.{Less}
 use Rattle.std.specs.Ordering.{eq_by_cmp, is_eq, is_gt}
 use Rattle.std.specs.Cmp.{tied_itself}
 use Rattle.std.specs.FinMap.Entries.{below_all}
-use Rattle.ore_algebra.specs.Free.{none, collect, coefficient}
+use Rattle.ore_algebra.specs.Free.{empty_sum, collect, coefficient}
 use Rattle.ore_algebra.proofs.FreeLaws
 use Rattle.ore_rational.specs.Fraction.{whole}
 use Rattle.ore_rational.proofs.FractionLaws.{rationals}
@@ -19,7 +19,8 @@ use Rattle.ore_monomial.proofs.Operators
 use Rattle.ore_ring.specs.Lead.{IsLead}
 use Rattle.ore_ring.specs.Terms.{Term, Terms, falling, IsFalling}
 use Rattle.ore_monomial.specs.Numbers.{back}
-use Rattle.ore_ring.proofs.TermLaws.{collect-falling, back_order, back_apart}
+use Rattle.ore_ring.proofs.TermLaws.{collect-falling}
+use Rattle.ore_monomial.proofs.FallingTerms.{back_order, back_apart}
 use Rattle.ore_ring.proofs.Falls.{first, second, less_of}
 use Rattle.ore_ring.proofs.AllTerms.{at, at_skip, at_own, sorted_distinct, falls-falling}
 
@@ -54,8 +55,8 @@ module _ (o : Order) (t : Term) (ts : Terms) (h : IsFalling o (t ∷ ts)) where
     greatest = λ q n. highest q (λ z. n (Operators.coefficient-collect rationals (t ∷ ts) q ∙ z));
   }
 
-pub lead_is : (o : Order) (f : Operator rationals) → MatchOption (slice_get (falling o f) 0) (f ≡ none rationals plain_cmp) (λ t. IsLead rationals o f t.0 t.1)
-unfolding none
+pub lead_is : (o : Order) (f : Operator rationals) → MatchOption (slice_get (falling o f) 0) (f ≡ empty_sum rationals plain_cmp) (λ t. IsLead rationals o f t.0 t.1)
+unfolding empty_sum
 lead_is o f = by (falling o f) (falls-falling o f) (collect-falling o f)
   where
     by : (ts : Terms) → IsFalling o ts → collect rationals plain_cmp ts ≡ f → MatchOption (slice_get ts 0) (f ≡ collect rationals plain_cmp []) (λ t. IsLead rationals o f t.0 t.1)

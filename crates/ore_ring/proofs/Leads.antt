@@ -11,7 +11,7 @@ use Rattle.std.specs.Ordering.{is_gt, nat_cmp, ordering_reverse, ordering_then, 
 use Rattle.std.proofs.lemmas.Cmp.{ranked}
 use Rattle.std.specs.Cmp.{upto, tied_itself}
 use Rattle.ore_algebra.specs.Domain.{Domain}
-use Rattle.ore_algebra.specs.Free.{none, plus, scale, extend, coefficient}
+use Rattle.ore_algebra.specs.Free.{empty_sum, plus, scale, linear_extension, coefficient}
 use Rattle.ore_monomial.specs.Monomial.{Monomial, degree, raise, product, plain_cmp, order_cmp}
 use Rattle.ore_monomial.specs.declared.order.Order.{Order}
 use Rattle.ore_monomial.specs.declared.order.Order.TheVariants.{DegLex, DegRevLex}
@@ -63,16 +63,16 @@ product_reached o m' m n' n h k e =
 
 module _ (K : Domain) where
   abbrev pub Within : ℕ → Operator K → Type 0
-  Within d f = (q : Monomial) → d ≤ degree q → coefficient K plain_cmp f q ≡ K.none
+  Within d f = (q : Monomial) → d ≤ degree q → coefficient K plain_cmp f q ≡ K.zero
 
-  within_none : (d : ℕ) → Within d (none K plain_cmp)
-  within_none d q h = Operators.coefficient-none K q
+  within_none : (d : ℕ) → Within d (empty_sum K plain_cmp)
+  within_none d q h = Operators.coefficient-empty_sum K q
 
   within_plus : (d : ℕ) (f g : Operator K) → Within d f → Within d g → Within d (plus K plain_cmp f g)
-  within_plus d f g a b q h = Operators.coefficient-plus K f g q ∙ (λ i. K.plus (a q h i) (b q h i)) ∙ K.plus_none _
+  within_plus d f g a b q h = Operators.coefficient-plus K f g q ∙ (λ i. K.plus (a q h i) (b q h i)) ∙ K.plus_zero _
 
   within_scale : (d : ℕ) (k : K.Number) (f : Operator K) → Within d f → Within d (scale K plain_cmp k f)
-  within_scale d k f a q h = Operators.coefficient-scale K k f q ∙ ap (K.times k) (a q h) ∙ Numbers.times_none K k
+  within_scale d k f a q h = Operators.coefficient-scale K k f q ∙ ap (K.times k) (a q h) ∙ Numbers.times_zero K k
 
   within_one : (d : ℕ) (m : Monomial) → degree m < d → Within d (one_term K m)
   within_one d m l q h = Operators.coefficient-other K m K.one q (λ e. let same : degree q ≡ degree m = ap degree e in absurd (omega arith))
@@ -80,12 +80,12 @@ module _ (K : Domain) where
   within_more : (d e : ℕ) (f : Operator K) → d ≤ e → Within d f → Within e f
   within_more d e f l a q h = a q (omega arith)
 
-  within_extend : (d e : ℕ) (h : Monomial → Operator K) (f : Operator K) → ((m : Monomial) → degree m < d → Within e (h m)) → Within d f → Within e (extend K plain_cmp h f)
+  within_extend : (d e : ℕ) (h : Monomial → Operator K) (f : Operator K) → ((m : Monomial) → degree m < d → Within e (h m)) → Within d f → Within e (linear_extension K plain_cmp h f)
   within_extend d e h f a b q l = Operators.coefficient-extend K h f q ∙ Operators.total_vanish K _ f (λ m. by m (dec_lt (degree m) d))
     where
-      by : (m : Monomial) → Dec (degree m < d) → K.times (coefficient K plain_cmp f m) (coefficient K plain_cmp (h m) q) ≡ K.none
-      by m (yes s) = ap (K.times _) (a m s q l) ∙ Numbers.times_none K _
-      by m (no n) = ap (λ k. K.times k (coefficient K plain_cmp (h m) q)) (b m (omega arith)) ∙ Numbers.none_times K _
+      by : (m : Monomial) → Dec (degree m < d) → K.times (coefficient K plain_cmp f m) (coefficient K plain_cmp (h m) q) ≡ K.zero
+      by m (yes s) = ap (K.times _) (a m s q l) ∙ Numbers.times_zero K _
+      by m (no n) = ap (λ k. K.times k (coefficient K plain_cmp (h m) q)) (b m (omega arith)) ∙ Numbers.zero_times K _
 
   -- f is the monomial m and what has lower degree than d
   abbrev pub Led : ℕ → Monomial → Operator K → Type 0
@@ -97,7 +97,7 @@ module _ (K : Domain) (s : Signature) (lawful : IsLawful s) where
   letter_led x xl = by (is_acting (kind_at s x)) refl
     where
       plain : (m : Monomial) → letter K s x m ≡ one_term K (raise x m) → Led K (suc (degree m)) (raise x m) (letter K s x m)
-      plain m e = (none K plain_cmp, e ∙ sym (Operators.plus_none K _), within_none K _)
+      plain m e = (empty_sum K plain_cmp, e ∙ sym (Operators.plus_zero K _), within_none K _)
 
       more : is_acting (kind_at s x) ≡ true → (m : Monomial) → Led K (suc (degree m)) (raise x m) (letter K s x m) → Led K (suc (degree (raise (coordinate_of (kind_at s x)) m))) (raise x (raise (coordinate_of (kind_at s x)) m)) (letter K s x (raise (coordinate_of (kind_at s x)) m))
       more h m ih = (rest, is, low)
@@ -156,7 +156,7 @@ module _ (K : Domain) (s : Signature) (lawful : IsLawful s) where
 
   product_led : (m n : Monomial) → Led K (degree m + degree n) (product m n) (monomial_times K s m (one_term K n))
   product_led m n = by_first (λ m. Led K (degree m + degree n) (product m n) (monomial_times K s m (one_term K n)))
-      (none K plain_cmp, monomial_unit K s _ ∙ ap (one_term K) (sym (product-unit n)) ∙ sym (Operators.plus_none K _), within_none K _)
+      (empty_sum K plain_cmp, monomial_unit K s _ ∙ ap (one_term K) (sym (product-unit n)) ∙ sym (Operators.plus_zero K _), within_none K _)
       (λ x xl m b ih. more x xl m b ih (letter_led x xl (product m n))) m
     where
       more : (x : ℕ) → x < 12 → (m : Monomial) → IsBelow x m → Led K (degree m + degree n) (product m n) (monomial_times K s m (one_term K n)) → Led K (suc (degree (product m n))) (raise x (product m n)) (letter K s x (product m n)) → Led K (degree (raise x m) + degree n) (product (raise x m) n) (monomial_times K s (raise x m) (one_term K n))
@@ -173,12 +173,12 @@ module _ (K : Domain) (s : Signature) (lawful : IsLawful s) where
   product_at : (m n : Monomial) → coefficient K plain_cmp (monomial_times K s m (one_term K n)) (product m n) ≡ K.one
   product_at m n =
       let l = product_led m n in let p = degree-product m n in
-      ap (λ f. coefficient K plain_cmp f (product m n)) l.1 ∙ Operators.coefficient-plus K _ _ _ ∙ (λ i. K.plus (Operators.coefficient-own K (product m n) K.one i) (l.2 (product m n) (omega arith) i)) ∙ K.plus_none _
+      ap (λ f. coefficient K plain_cmp f (product m n)) l.1 ∙ Operators.coefficient-plus K _ _ _ ∙ (λ i. K.plus (Operators.coefficient-own K (product m n) K.one i) (l.2 (product m n) (omega arith) i)) ∙ K.plus_zero _
 
-  product_off : (m n q : Monomial) → q ≢ product m n → degree (product m n) ≤ degree q → coefficient K plain_cmp (monomial_times K s m (one_term K n)) q ≡ K.none
+  product_off : (m n q : Monomial) → q ≢ product m n → degree (product m n) ≤ degree q → coefficient K plain_cmp (monomial_times K s m (one_term K n)) q ≡ K.zero
   product_off m n q a d =
       let l = product_led m n in let p = degree-product m n in
-      ap (λ f. coefficient K plain_cmp f q) l.1 ∙ Operators.coefficient-plus K _ _ _ ∙ (λ i. K.plus (Operators.coefficient-other K (product m n) K.one q a i) (l.2 q (omega arith) i)) ∙ K.plus_none _
+      ap (λ f. coefficient K plain_cmp f q) l.1 ∙ Operators.coefficient-plus K _ _ _ ∙ (λ i. K.plus (Operators.coefficient-other K (product m n) K.one q a i) (l.2 q (omega arith) i)) ∙ K.plus_zero _
 
   coefficient-monomial : (m : Monomial) (g : Operator K) (q : Monomial) → coefficient K plain_cmp (monomial_times K s m g) q ≡ Operators.total K (λ n. coefficient K plain_cmp (monomial_times K s m (one_term K n)) q) g
   coefficient-monomial m g q = ap (λ f. coefficient K plain_cmp f q) (Operators.linear_is K (monomial-linear K s m) g) ∙ Operators.coefficient-extend K _ g q
@@ -189,17 +189,17 @@ module _ (K : Domain) (s : Signature) (lawful : IsLawful s) where
 
   module _ (o : Order) {f g : Operator K} {m n : Monomial} {j k : K.Number} (a : IsLead K o f m j) (b : IsLead K o g n k) where
     -- a part of the product at q, which is not below the product of the leads, is none where q is not its own product
-    part : (m' n' q : Monomial) → IsUpto o (product m n) q → coefficient K plain_cmp f m' ≢ K.none → coefficient K plain_cmp g n' ≢ K.none → q ≢ product m' n' → coefficient K plain_cmp (monomial_times K s m' (one_term K n')) q ≡ K.none
+    part : (m' n' q : Monomial) → IsUpto o (product m n) q → coefficient K plain_cmp f m' ≢ K.zero → coefficient K plain_cmp g n' ≢ K.zero → q ≢ product m' n' → coefficient K plain_cmp (monomial_times K s m' (one_term K n')) q ≡ K.zero
     part m' n' q h u v apart = product_off m' n' q apart (degree_upto o _ _ (upto (order_total o) (product m' n') (product m n) q (product_upto o m' m n' n (a.greatest m' u) (b.greatest n' v)) h))
 
-    off : (x y : K.Number) → (x ≢ K.none → y ≡ K.none) → K.times x y ≡ K.none
-    off x y h = by (K.discrete x K.none)
+    off : (x y : K.Number) → (x ≢ K.zero → y ≡ K.zero) → K.times x y ≡ K.zero
+    off x y h = by (K.discrete x K.zero)
       where
-        by : Dec (x ≡ K.none) → K.times x y ≡ K.none
-        by (yes e) = ap (λ z. K.times z y) e ∙ Numbers.none_times K y
-        by (no n) = ap (K.times x) (h n) ∙ Numbers.times_none K x
+        by : Dec (x ≡ K.zero) → K.times x y ≡ K.zero
+        by (yes e) = ap (λ z. K.times z y) e ∙ Numbers.zero_times K y
+        by (no n) = ap (K.times x) (h n) ∙ Numbers.times_zero K x
 
-    above : (q : Monomial) → is_gt (order_cmp o q (product m n)) ≡ true → coefficient K plain_cmp (times K s f g) q ≡ K.none
+    above : (q : Monomial) → is_gt (order_cmp o q (product m n)) ≡ true → coefficient K plain_cmp (times K s f g) q ≡ K.zero
     above q h = coefficient-times f g q ∙ Operators.total_vanish K _ f (λ m'. off _ _ (λ u. coefficient-monomial m' g q ∙ Operators.total_vanish K _ g (λ n'. off _ _ (λ v. part m' n' q beyond u v (λ e. true≢false (sym h ∙ ap (λ p. is_gt (order_cmp o p (product m n))) e ∙ product_upto o m' m n' n (a.greatest m' u) (b.greatest n' v)))))))
       where
         turned : (r : Ordering) → is_gt r ≡ true → is_gt (ordering_reverse r) ≡ false
@@ -229,6 +229,6 @@ module _ (K : Domain) (s : Signature) (lawful : IsLawful s) where
       greatest = λ q u. by q u (is_gt (order_cmp o q (product m n))) refl;
     }
       where
-        by : (q : Monomial) → coefficient K plain_cmp (times K s f g) q ≢ K.none → (c : Bool) → is_gt (order_cmp o q (product m n)) ≡ c → is_gt (order_cmp o q (product m n)) ≡ false
+        by : (q : Monomial) → coefficient K plain_cmp (times K s f g) q ≢ K.zero → (c : Bool) → is_gt (order_cmp o q (product m n)) ≡ c → is_gt (order_cmp o q (product m n)) ≡ false
         by q u true h = absurd (u (above q h))
         by q u false h = h

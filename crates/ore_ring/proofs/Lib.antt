@@ -6,7 +6,6 @@ pub mod Support
 pub mod Belonging
 pub mod AdjointParts
 pub mod PlainNumbers
-mod TestRing
 pub mod TermLaws
 pub mod Mapped
 pub mod WithinLaws
@@ -19,12 +18,14 @@ pub mod FractionSteps
 pub mod Degrees
 pub mod MergeIs
 pub mod MergeSteps
+pub mod Negated
 pub mod Splice
 pub mod StoredOp
 pub mod OpSums
 pub mod AddTerm
 pub mod Wholes
 pub mod ProductSteps
+pub mod OneTimes
 pub mod Rearranged
 pub mod TermSums
 pub mod Contributed

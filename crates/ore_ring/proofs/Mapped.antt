@@ -1,5 +1,4 @@
 -- Operators over one domain sent to another by a map of its numbers.
---     IsRingMap            a map that keeps 0, 1, sums, products and opposites
 --     sent                 the operator with each coefficient sent
 --     monomial_times-sent  a product of monomials over one domain, sent, is that over the other
 --     numbers_are          the whole numbers of a product of monomials are its coefficients as fractions
@@ -7,8 +6,9 @@ use Rattle.std.proofs.Common.{◌≡◌, ℕ, zero, suc, cond, true, false, Bool
 use Rattle.std.specs.Ordering.{eq_by_cmp}
 use Rattle.ore_algebra.specs.Ring.{of_nat, power}
 use Rattle.ore_algebra.specs.Domain.{Domain}
-use Rattle.ore_algebra.specs.Free.{none, single, plus, scale, extend, collect, terms, coefficient, sum_at}
+use Rattle.ore_algebra.specs.Free.{empty_sum, single, plus, scale, linear_extension, collect, terms, coefficient, sum_at}
 use Rattle.ore_algebra.proofs.Integers.{integers}
+use Rattle.ore_algebra.proofs.RingMaps.{IsRingMap, sent-of_nat, sent-power, sum_at-sent}
 use Rattle.ore_rational.specs.Fraction.{whole}
 use Rattle.ore_rational.proofs.FractionLaws.{rationals, whole-add, whole-mul, whole-neg}
 use Rattle.ore_monomial.specs.Monomial.{Monomial, exponent, raise, lower, plain_cmp}
@@ -19,14 +19,7 @@ use Rattle.ore_monomial.specs.Passing.{Passing, passings, shift_passings, choose
 use Rattle.ore_monomial.specs.LetterRule.{Operator, letter, letter_times, power_times, letters_times, monomial_times}
 use Rattle.ore_monomial.proofs.Operators
 use Rattle.ore_monomial.specs.Numbers.{numbers}
-use Rattle.ore_ring.proofs.TermLaws.{collect-falling_over}
-
-pub record IsRingMap (K L : Domain) (f : K.Number → L.Number) : Type 0 where
-  pub none : f K.none ≡ L.none
-  pub one : f K.one ≡ L.one
-  pub plus : (x y : K.Number) → f (K.plus x y) ≡ L.plus (f x) (f y)
-  pub times : (x y : K.Number) → f (K.times x y) ≡ L.times (f x) (f y)
-  pub minus : (x : K.Number) → f (K.minus x) ≡ L.minus (f x)
+use Rattle.ore_monomial.proofs.FallingTerms.{collect-falling_over}
 
 module _ (K L : Domain) (f : K.Number → L.Number) (r : IsRingMap K L f) where
   abbrev pub sent_terms : List (Monomial × K.Number) → List (Monomial × L.Number)
@@ -35,30 +28,21 @@ module _ (K L : Domain) (f : K.Number → L.Number) (r : IsRingMap K L f) where
   unfoldable pub sent : Operator K → Operator L
   sent g = collect L plain_cmp (sent_terms (terms K plain_cmp g))
 
-  sum_at-sent : (q : Monomial) (ts : List (Monomial × K.Number)) → sum_at L plain_cmp q (sent_terms ts) ≡ f (sum_at K plain_cmp q ts)
-  unfolding sum_at
-  sum_at-sent q [] = sym r.none
-  sum_at-sent q (t ∷ ts) = (λ i. L.plus (chosen (eq_by_cmp plain_cmp q t.0) i) (sum_at-sent q ts i)) ∙ sym (r.plus _ _)
-    where
-      chosen : (b : Bool) → cond b (f t.1) L.none ≡ f (cond b t.1 K.none)
-      chosen true = refl
-      chosen false = sym r.none
-
   pub collect-sent : (ts : List (Monomial × K.Number)) → sent (collect K plain_cmp ts) ≡ collect L plain_cmp (sent_terms ts)
   unfolding sent
   collect-sent ts = Operators.same_sum L _ _ (λ q.
       Operators.coefficient-collect L _ q
-      ∙ sum_at-sent q (terms K plain_cmp (collect K plain_cmp ts))
+      ∙ sum_at-sent K L f r plain_cmp q (terms K plain_cmp (collect K plain_cmp ts))
       ∙ ap f (sym (Operators.coefficient-collect K (terms K plain_cmp (collect K plain_cmp ts)) q) ∙ ap (λ g. coefficient K plain_cmp g q) (Operators.collect-terms K (collect K plain_cmp ts)) ∙ Operators.coefficient-collect K ts q)
-      ∙ sym (sum_at-sent q ts)
+      ∙ sym (sum_at-sent K L f r plain_cmp q ts)
       ∙ sym (Operators.coefficient-collect L (sent_terms ts) q))
 
   pub coefficient-sent : (g : Operator K) (q : Monomial) → coefficient L plain_cmp (sent g) q ≡ f (coefficient K plain_cmp g q)
   unfolding sent
-  coefficient-sent g q = Operators.coefficient-collect L _ q ∙ sum_at-sent q (terms K plain_cmp g) ∙ ap f (sym (Operators.coefficient-collect K (terms K plain_cmp g) q) ∙ ap (λ g. coefficient K plain_cmp g q) (Operators.collect-terms K g))
+  coefficient-sent g q = Operators.coefficient-collect L _ q ∙ sum_at-sent K L f r plain_cmp q (terms K plain_cmp g) ∙ ap f (sym (Operators.coefficient-collect K (terms K plain_cmp g) q) ∙ ap (λ g. coefficient K plain_cmp g q) (Operators.collect-terms K g))
 
-  sent-none : sent (none K plain_cmp) ≡ none L plain_cmp
-  sent-none = Operators.same_sum L _ _ (λ q. coefficient-sent _ q ∙ ap f (Operators.coefficient-none K q) ∙ r.none ∙ sym (Operators.coefficient-none L q))
+  sent-empty_sum : sent (empty_sum K plain_cmp) ≡ empty_sum L plain_cmp
+  sent-empty_sum = Operators.same_sum L _ _ (λ q. coefficient-sent _ q ∙ ap f (Operators.coefficient-empty_sum K q) ∙ r.zero ∙ sym (Operators.coefficient-empty_sum L q))
 
   sent-plus : (g h : Operator K) → sent (plus K plain_cmp g h) ≡ plus L plain_cmp (sent g) (sent h)
   sent-plus g h = Operators.same_sum L _ _ (λ q. coefficient-sent _ q ∙ ap f (Operators.coefficient-plus K g h q) ∙ r.plus _ _ ∙ (λ i. L.plus (sym (coefficient-sent g q) i) (sym (coefficient-sent h q) i)) ∙ sym (Operators.coefficient-plus L (sent g) (sent h) q))
@@ -70,24 +54,16 @@ module _ (K L : Domain) (f : K.Number → L.Number) (r : IsRingMap K L f) where
   unfolding single
   sent-single m k = collect-sent ((m, k) ∷ [])
 
-  sent-extend : (h : Monomial → Operator K) (h' : Monomial → Operator L) → ((m : Monomial) → sent (h m) ≡ h' m) → (g : Operator K) → sent (extend K plain_cmp h g) ≡ extend L plain_cmp h' (sent g)
-  sent-extend h h' e = Operators.by_terms K (λ g. sent (extend K plain_cmp h g) ≡ extend L plain_cmp h' (sent g))
-      (ap sent (Operators.extend-none K h) ∙ sent-none ∙ sym (ap (extend L plain_cmp h') sent-none ∙ Operators.extend-none L h'))
+  sent-extend : (h : Monomial → Operator K) (h' : Monomial → Operator L) → ((m : Monomial) → sent (h m) ≡ h' m) → (g : Operator K) → sent (linear_extension K plain_cmp h g) ≡ linear_extension L plain_cmp h' (sent g)
+  sent-extend h h' e = Operators.by_terms K (λ g. sent (linear_extension K plain_cmp h g) ≡ linear_extension L plain_cmp h' (sent g))
+      (ap sent (Operators.extend-none K h) ∙ sent-empty_sum ∙ sym (ap (linear_extension L plain_cmp h') sent-empty_sum ∙ Operators.extend-none L h'))
       (λ m k g ih.
       ap sent (Operators.extend-plus K h (single K plain_cmp m k) g) ∙ sent-plus _ _
-      ∙ (λ i. plus L plain_cmp ((ap sent (Operators.extend-single K h m k) ∙ sent-scale k (h m) ∙ ap (scale L plain_cmp (f k)) (e m) ∙ sym (ap (extend L plain_cmp h') (sent-single m k) ∙ Operators.extend-single L h' m (f k))) i) (ih i))
+      ∙ (λ i. plus L plain_cmp ((ap sent (Operators.extend-single K h m k) ∙ sent-scale k (h m) ∙ ap (scale L plain_cmp (f k)) (e m) ∙ sym (ap (linear_extension L plain_cmp h') (sent-single m k) ∙ Operators.extend-single L h' m (f k))) i) (ih i))
       ∙ sym (Operators.extend-plus L h' (sent (single K plain_cmp m k)) (sent g))
-      ∙ sym (ap (extend L plain_cmp h') (sent-plus (single K plain_cmp m k) g)))
+      ∙ sym (ap (linear_extension L plain_cmp h') (sent-plus (single K plain_cmp m k) g)))
 
   -- ---- the letter rule
-
-  sent-of_nat : (n : ℕ) → f (of_nat K.ring n) ≡ of_nat L.ring n
-  sent-of_nat zero = r.none
-  sent-of_nat (suc n) = r.plus _ _ ∙ (λ i. L.plus (r.one i) (sent-of_nat n i))
-
-  sent-power : (x : K.Number) (y : L.Number) → f x ≡ y → (n : ℕ) → f (power K.ring x n) ≡ power L.ring y n
-  sent-power x y e zero = r.one
-  sent-power x y e (suc n) = r.times _ _ ∙ (λ i. L.times (e i) (sent-power x y e n i))
 
   sent_passing : Passing K → Passing L
   sent_passing p = record { number = f p.number; falls = p.falls; stays = p.stays }
@@ -99,16 +75,16 @@ module _ (K L : Domain) (f : K.Number → L.Number) (r : IsRingMap K L f) where
       over : (js : List ℕ) → map sent_passing (map (λ j. record { number = K.times (of_nat K.ring (choose a j)) (power K.ring x j); falls = j; stays = true }) js)
           ≡ map (λ j. record { number = L.times (of_nat L.ring (choose a j)) (power L.ring y j); falls = j; stays = true }) js
       over [] = refl
-      over (j ∷ js) = λ i. record { number = (r.times _ _ ∙ (λ l. L.times (sent-of_nat (choose a j) l) (sent-power x y e j l))) i; falls = j; stays = true } ∷ over js i
+      over (j ∷ js) = λ i. record { number = (r.times _ _ ∙ (λ l. L.times (sent-of_nat K L f r (choose a j) l) (sent-power K L f r x y e j l))) i; falls = j; stays = true } ∷ over js i
 
   sent-passings : (v : VarKind) (a : ℕ) → map sent_passing (passings K v a) ≡ passings L v a
   unfolding passings sent_passing
   sent-passings Coordinate a = λ i. record { number = r.one i; falls = 0; stays = true } ∷ []
   sent-passings Constant a = λ i. record { number = r.one i; falls = 0; stays = true } ∷ []
   sent-passings Plain a = λ i. record { number = r.one i; falls = 0; stays = true } ∷ []
-  sent-passings (Differential on) a = λ i. record { number = r.one i; falls = 0; stays = true } ∷ record { number = sent-of_nat a i; falls = 1; stays = false } ∷ []
-  sent-passings (Shift on step) a = sent-shift _ _ (sent-of_nat step) a
-  sent-passings (Delay on step) a = sent-shift _ _ (r.minus _ ∙ ap L.minus (sent-of_nat step)) a
+  sent-passings (Differential on) a = λ i. record { number = r.one i; falls = 0; stays = true } ∷ record { number = sent-of_nat K L f r a i; falls = 1; stays = false } ∷ []
+  sent-passings (Shift on step) a = sent-shift _ _ (sent-of_nat K L f r step) a
+  sent-passings (Delay on step) a = sent-shift _ _ (r.minus _ ∙ ap L.minus (sent-of_nat K L f r step)) a
 
   module _ (s : Signature) where
     sent-letter : (x : ℕ) (m : Monomial) → sent (letter K s x m) ≡ letter L s x m
@@ -140,7 +116,7 @@ module _ (K L : Domain) (f : K.Number → L.Number) (r : IsRingMap K L f) where
     monomial_times-sent m g = letters_times-sent 0 m.exponents g
 
 pub wholes : IsRingMap integers rationals whole
-wholes = record { none = refl; one = refl; plus = whole-add; times = whole-mul; minus = whole-neg }
+wholes = record { zero = refl; one = refl; plus = whole-add; times = whole-mul; minus = whole-neg }
 
 -- the whole numbers of a product of monomials are its coefficients over the fractions
 pub numbers_are : (s : Signature) (m n : Monomial) → collect rationals plain_cmp (map (λ k. (k.0, whole k.1)) (numbers s m n)) ≡ monomial_times rationals s m (single rationals plain_cmp n (whole (pos 1)))

@@ -15,29 +15,23 @@ use Rattle.std.specs.List.{list_all}
 use Rattle.std.specs.FinMap.Entries.{below_all}
 use Rattle.ore_rational.specs.Fraction.{Fraction, whole, add}
 use Rattle.ore_rational.proofs.FractionLaws.{fraction_discrete, rationals}
-use Rattle.ore_algebra.specs.Free.{sum_at, coefficient, collect, none, single, plus}
+use Rattle.ore_algebra.specs.Free.{sum_at, coefficient, empty_sum, single}
 use Rattle.ore_monomial.specs.Monomial.{Monomial, order_cmp, plain_cmp}
 use Rattle.ore_monomial.specs.declared.order.Order.{Order}
 use Rattle.ore_monomial.specs.LetterRule.{Operator}
-use Rattle.ore_algebra.proofs.DomainLaws.{none_plus}
+use Rattle.ore_algebra.proofs.DomainLaws.{zero_plus}
 use Rattle.ore_monomial.proofs.Monomials.{plain_cmp_total, plain_cmp_apart, order_total, order_apart}
 use Rattle.ore_monomial.proofs.Operators
-use Rattle.ore_algebra.specs.Limits.{Limits, Cause, Overflow, ◌>>=◌, where_test}
+use Rattle.ore_algebra.specs.Limits.{Limits, Cause, Overflow, ◌>>=◌, guard}
 use Rattle.ore_rational.specs.Within.{sum_fits, sum_within}
 use Rattle.ore_ring.specs.Terms.{Term, Terms, IsFalling}
 use Rattle.ore_monomial.specs.Numbers.{back}
 use Rattle.ore_ring.specs.Within.{shared_fits, all_shared_fit, plus_within}
 use Rattle.ore_ring.specs.Merge.{kept, step_within, into_within, merge_within}
-use Rattle.ore_ring.proofs.TermLaws.{eq_either}
+use Rattle.ore_monomial.proofs.FallingTerms.{eq_either}
 use Rattle.ore_ring.proofs.AllTerms.{all_terms}
+use Rattle.ore_ring.proofs.TermLaws.{C, ◌+◌}
 use Rattle.ore_ring.proofs.Falls.{both, first, second, less_of, of_less, falls_tail, below_more}
-
-abbrev pub C : Terms → Operator rationals
-C = collect rationals plain_cmp
-
-infixl 10 ◌+◌
-abbrev pub ◌+◌ : Operator rationals → Operator rationals → Operator rationals
-f + g = plus rationals plain_cmp f g
 
 abbrev pub at : Monomial → Terms → Fraction
 at q ts = sum_at rationals plain_cmp q ts
@@ -52,15 +46,15 @@ module _ (l : Limits) (o : Order) where
   -- ---- a key that is below or above
 
   pub eq_order : (q m : Monomial) (r : Ordering) → order_cmp o q m ≡ r → eq_by_cmp plain_cmp q m ≡ is_eq r
-  eq_order q m r e = eq_either {R = plain_cmp} {S = order_cmp o} plain_cmp_total plain_cmp_apart (order_total o) (order_apart o) q m ∙ ap is_eq e
+  eq_order q m r e = eq_either rationals {R = plain_cmp} {S = order_cmp o} plain_cmp_total plain_cmp_apart (order_total o) (order_apart o) q m ∙ ap is_eq e
 
   pub at_skip : (q : Monomial) (u : Term) (us : Terms) → eq_by_cmp plain_cmp q u.0 ≡ false → at q (u ∷ us) ≡ at q us
   unfolding sum_at
-  at_skip q u us e = ap (λ b. add (cond b u.1 zero) (at q us)) e ∙ none_plus rationals _
+  at_skip q u us e = ap (λ b. add (cond b u.1 zero) (at q us)) e ∙ zero_plus rationals _
 
   pub at_own : (q : Monomial) (u : Term) (us : Terms) → eq_by_cmp plain_cmp q u.0 ≡ true → at q us ≡ zero → at q (u ∷ us) ≡ u.1
   unfolding sum_at
-  at_own q u us e z = ap (λ b. add (cond b u.1 zero) (at q us)) e ∙ ap (add u.1) z ∙ rationals.plus_none u.1
+  at_own q u us e z = ap (λ b. add (cond b u.1 zero) (at q us)) e ∙ ap (add u.1) z ∙ rationals.plus_zero u.1
 
   pub turn : (q m : Monomial) (r : Ordering) → order_cmp o m q ≡ r → order_cmp o q m ≡ ordering_reverse r
   turn q m r e = (order_total o).antisymm q m ∙ ap ordering_reverse e
@@ -123,12 +117,12 @@ module _ (l : Limits) (o : Order) where
   fits_none (t ∷ ts) = λ i. shared_none t.1 zero refl i && fits_none ts i
 
   none_left : (us : Terms) → C us ≡ C [] + C us
-  unfolding none
-  none_left us = sym (Operators.none-plus rationals (C us))
+  unfolding empty_sum
+  none_left us = sym (Operators.zero-plus rationals (C us))
 
   none_right : (ts : Terms) → C ts ≡ C ts + C []
-  unfolding none
-  none_right ts = sym (Operators.plus_none rationals (C ts))
+  unfolding empty_sum
+  none_right ts = sym (Operators.plus_zero rationals (C ts))
 
   pub add_front : (t : Term) (ts : Terms) → t.1 ≢ zero → T (below_all (back o) t.0 ts) → IsFalling o ts → IsFalling o (t ∷ ts)
   add_front t ts n b h = record { falls = both _ _ b h.falls; apart = (n, h.apart) }
@@ -175,7 +169,7 @@ module _ (l : Limits) (o : Order) where
   kept_value m x rs = by (fraction_discrete x zero)
     where
       by : (d : Dec (x ≡ zero)) → C (elim d [ yes e ↦ rs | no n ↦ (m, x) ∷ rs ]) ≡ single rationals plain_cmp m x + C rs
-      by (yes e) = sym (ap (λ f. f + C rs) (ap (single rationals plain_cmp m) e ∙ Operators.single_none rationals m) ∙ Operators.none-plus rationals (C rs))
+      by (yes e) = sym (ap (λ f. f + C rs) (ap (single rationals plain_cmp m) e ∙ Operators.single_zero rationals m) ∙ Operators.zero-plus rationals (C rs))
       by (no n) = Operators.collect_more rationals m x rs
 
   kept_falls : (m : Monomial) (x : Fraction) (rs : Terms) → T (below_all (back o) m rs) → IsFalling o rs → IsFalling o (kept m x rs)
@@ -209,7 +203,7 @@ module _ (l : Limits) (o : Order) where
       fit : fits (t ∷ ts) (u ∷ us) ≡ (sum_fits l t.1 u.1 && fits ts us)
       fit = fits_cons t ts (u ∷ us) (sum_fits l t.1 u.1) (ap (shared_fits l t.1) own ∙ shared_some t.1 u.1 k.apart.0) ∙ ap (λ b. sum_fits l t.1 u.1 && b) (fits_skip u us ts above)
 
-      by : (b : Bool) → sum_fits l t.1 u.1 ≡ b → (r : Result Terms Cause) → Meets ts us r → Meets (t ∷ ts) (u ∷ us) (where_test b (add t.1 u.1) Overflow >>= λ s. r >>= λ rs. Ok (kept t.0 s rs))
+      by : (b : Bool) → sum_fits l t.1 u.1 ≡ b → (r : Result Terms Cause) → Meets ts us r → Meets (t ∷ ts) (u ∷ us) (guard b (add t.1 u.1) Overflow >>= λ s. r >>= λ rs. Ok (kept t.0 s rs))
       by true f (Ok rs) m = record {
         falls = kept_falls t.0 (add t.1 u.1) rs (m.below t.0 (first _ _ h.falls) (subst (λ q. T (below_all (back o) q us)) (sym same) (first _ _ k.falls))) m.falls;
         value = kept_value t.0 (add t.1 u.1) rs
@@ -244,18 +238,18 @@ module _ (l : Limits) (o : Order) where
   fits_is [] us = refl
   fits_is (t ∷ ts) us = λ i. shared_fits l t.1 (Operators.coefficient-collect rationals us t.0 i) && fits_is ts us i
 
-  pub plus_is : (ts us : Terms) → IsFalling o ts → plus_within l (C ts) (C us) ≡ where_test (fits ts us) (C ts + C us) Overflow
+  pub plus_is : (ts us : Terms) → IsFalling o ts → plus_within l (C ts) (C us) ≡ guard (fits ts us) (C ts + C us) Overflow
   unfolding plus_within all_shared_fit
-  plus_is ts us h = ap (λ b. where_test b (C ts + C us) Overflow) (all_terms (λ t. shared_fits l t.1 (coefficient rationals plain_cmp (C us) t.0)) o ts h ∙ fits_is ts us)
+  plus_is ts us h = ap (λ b. guard b (C ts + C us) Overflow) (all_terms (λ t. shared_fits l t.1 (coefficient rationals plain_cmp (C us) t.0)) o ts h ∙ fits_is ts us)
 
   -- Ok, with falling terms of the sum
   pub merge_ok : (ts us rs : Terms) → IsFalling o ts → IsFalling o us → merge_within l o ts us ≡ Ok rs → IsFalling o rs × (plus_within l (C ts) (C us) ≡ Ok (C rs))
   merge_ok ts us rs h k e =
       let m = subst (Meets ts us) e (merge_meets ts us h k) in
-      (m.falls, plus_is ts us h ∙ ap (λ b. where_test b (C ts + C us) Overflow) m.fit ∙ ap Ok (sym m.value))
+      (m.falls, plus_is ts us h ∙ ap (λ b. guard b (C ts + C us) Overflow) m.fit ∙ ap Ok (sym m.value))
 
   -- a stop is that of the definition
   pub merge_stops : (ts us : Terms) (c : Cause) → IsFalling o ts → IsFalling o us → merge_within l o ts us ≡ Err c → plus_within l (C ts) (C us) ≡ Err c
   merge_stops ts us c h k e =
       let m = subst (Meets ts us) e (merge_meets ts us h k) in
-      plus_is ts us h ∙ ap (λ b. where_test b (C ts + C us) Overflow) m.1 ∙ ap Err (sym m.0)
+      plus_is ts us h ∙ ap (λ b. guard b (C ts + C us) Overflow) m.1 ∙ ap Err (sym m.0)

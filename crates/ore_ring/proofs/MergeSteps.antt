@@ -14,10 +14,12 @@ use Rattle.ore_rational.specs.Fraction.{Fraction, whole, neg}
 use Rattle.ore_rational.proofs.FractionLaws.{fraction_discrete}
 use Rattle.ore_monomial.specs.Monomial.{Monomial, order_cmp}
 use Rattle.ore_monomial.specs.declared.order.Order.{Order}
-use Rattle.ore_algebra.specs.Limits.{Limits, Cause, ◌>>=◌}
+use Rattle.ore_algebra.specs.Limits.{Limits, Cause}
+use Rattle.ore_algebra.specs.Results.{◌>>=◌, fronted}
+use Rattle.ore_algebra.proofs.ResultLaws.{front_more}
 use Rattle.ore_rational.specs.Within.{sum_within}
 use Rattle.ore_ring.specs.Terms.{Term, Terms}
-use Rattle.ore_ring.specs.Merge.{kept, with_front, step_within, into_within, merge_within, opposite_terms}
+use Rattle.ore_ring.specs.Merge.{kept, step_within, into_within, merge_within, opposite_terms}
 
 pub kept-append : (m : Monomial) (x : Fraction) (ts : Terms) → kept m x [] ++ ts ≡ kept m x ts
 kept-append m x ts = by (fraction_discrete x (whole (pos 0)))
@@ -40,11 +42,7 @@ kept_there m x n = by (fraction_discrete x (whole (pos 0)))
     by (yes e) = absurd (n e)
     by (no k) = refl
 
-front_more : (front : Terms) (t : Term) (r : Result Terms Cause) → with_front front (r >>= λ ts. Ok (t ∷ ts)) ≡ with_front (front ++ t ∷ []) r
-front_more front t (Ok ts) = ap Ok (sym (append_assoc front (t ∷ []) ts))
-front_more front t (Err e) = refl
-
-front_kept : (front : Terms) (m : Monomial) (x : Fraction) (r : Result Terms Cause) → with_front front (r >>= λ ts. Ok (kept m x ts)) ≡ with_front (front ++ kept m x []) r
+front_kept : (front : Terms) (m : Monomial) (x : Fraction) (r : Result Terms Cause) → fronted front (r >>= λ ts. Ok (kept m x ts)) ≡ fronted (front ++ kept m x []) r
 front_kept front m x (Ok ts) = ap Ok (ap (λ us. front ++ us) (sym (kept-append m x ts)) ∙ sym (append_assoc front (kept m x []) ts))
 front_kept front m x (Err e) = refl
 
@@ -68,41 +66,41 @@ module _ (l : Limits) (o : Order) where
 
   module _ (front : Terms) (t u : Term) (a b : Terms) (i j : ℕ) (ti : t ≡ get_or a i t) (il : i < length a) (uj : u ≡ get_or b j u) (jl : j < length b) where
     abbrev W : Result Terms Cause
-    W = with_front front (merge_within l o (drop i a) (drop j b))
+    W = fronted front (merge_within l o (drop i a) (drop j b))
 
-    at_heads : (r : Ordering) → r ≡ order_cmp o t.0 u.0 → W ≡ with_front front (step_within l r t u (merge_within l o (drop (i + 1) a) (drop j b)) (merge_within l o (drop (i + 1) a) (drop (j + 1) b)) (merge_within l o (drop i a) (drop (j + 1) b)))
+    at_heads : (r : Ordering) → r ≡ order_cmp o t.0 u.0 → W ≡ fronted front (step_within l r t u (merge_within l o (drop (i + 1) a) (drop j b)) (merge_within l o (drop (i + 1) a) (drop (j + 1) b)) (merge_within l o (drop i a) (drop (j + 1) b)))
     at_heads r e =
-        ap₂ (λ x y. with_front front (merge_within l o x y)) (next a i t il ti) (next b j u jl uj)
-        ∙ ap (with_front front) (heads t u (drop (i + 1) a) (drop (j + 1) b))
-        ∙ (λ k. with_front front (step_within l (sym e k) t u (merge_within l o (drop (i + 1) a) (sym (next b j u jl uj) k)) (merge_within l o (drop (i + 1) a) (drop (j + 1) b)) (merge_within l o (sym (next a i t il ti) k) (drop (j + 1) b))))
+        ap₂ (λ x y. fronted front (merge_within l o x y)) (next a i t il ti) (next b j u jl uj)
+        ∙ ap (fronted front) (heads t u (drop (i + 1) a) (drop (j + 1) b))
+        ∙ (λ k. fronted front (step_within l (sym e k) t u (merge_within l o (drop (i + 1) a) (sym (next b j u jl uj) k)) (merge_within l o (drop (i + 1) a) (drop (j + 1) b)) (merge_within l o (sym (next a i t il ti) k) (drop (j + 1) b))))
 
-    pub at_less : Less ≡ order_cmp o t.0 u.0 → W ≡ with_front (front ++ u ∷ []) (merge_within l o (drop i a) (drop (j + 1) b))
+    pub at_less : Less ≡ order_cmp o t.0 u.0 → W ≡ fronted (front ++ u ∷ []) (merge_within l o (drop i a) (drop (j + 1) b))
     at_less e = at_heads Less e ∙ front_more front u _
 
-    pub at_greater : Greater ≡ order_cmp o t.0 u.0 → W ≡ with_front (front ++ t ∷ []) (merge_within l o (drop (i + 1) a) (drop j b))
+    pub at_greater : Greater ≡ order_cmp o t.0 u.0 → W ≡ fronted (front ++ t ∷ []) (merge_within l o (drop (i + 1) a) (drop j b))
     at_greater e = at_heads Greater e ∙ front_more front t _
 
-    pub at_equal : Equal ≡ order_cmp o t.0 u.0 → (s : Fraction) → sum_within l t.1 u.1 ≡ Ok s → W ≡ with_front (front ++ kept t.0 s []) (merge_within l o (drop (i + 1) a) (drop (j + 1) b))
+    pub at_equal : Equal ≡ order_cmp o t.0 u.0 → (s : Fraction) → sum_within l t.1 u.1 ≡ Ok s → W ≡ fronted (front ++ kept t.0 s []) (merge_within l o (drop (i + 1) a) (drop (j + 1) b))
     at_equal e s f =
         at_heads Equal e
-        ∙ ap (λ r. with_front front (r >>= λ s. merge_within l o (drop (i + 1) a) (drop (j + 1) b) >>= λ ts. Ok (kept t.0 s ts))) f
+        ∙ ap (λ r. fronted front (r >>= λ s. merge_within l o (drop (i + 1) a) (drop (j + 1) b) >>= λ ts. Ok (kept t.0 s ts))) f
         ∙ front_kept front t.0 s _
 
     pub at_stop : Equal ≡ order_cmp o t.0 u.0 → (c : Cause) → sum_within l t.1 u.1 ≡ Err c → W ≡ Err c
-    at_stop e c f = at_heads Equal e ∙ ap (λ r. with_front front (r >>= λ s. merge_within l o (drop (i + 1) a) (drop (j + 1) b) >>= λ ts. Ok (kept t.0 s ts))) f
+    at_stop e c f = at_heads Equal e ∙ ap (λ r. fronted front (r >>= λ s. merge_within l o (drop (i + 1) a) (drop (j + 1) b) >>= λ ts. Ok (kept t.0 s ts))) f
 
   -- one list is used up
-  pub at_end_left : (front a b : Terms) (i j : ℕ) → length a ≤ i → with_front front (merge_within l o (drop i a) (drop j b)) ≡ Ok ((front ++ drop i a) ++ drop j b)
+  pub at_end_left : (front a b : Terms) (i j : ℕ) → length a ≤ i → fronted front (merge_within l o (drop i a) (drop j b)) ≡ Ok ((front ++ drop i a) ++ drop j b)
   at_end_left front a b i j h =
-      ap (λ x. with_front front (merge_within l o x (drop j b))) (gone a i h) ∙ ap (with_front front) (nil_merge (drop j b))
+      ap (λ x. fronted front (merge_within l o x (drop j b))) (gone a i h) ∙ ap (fronted front) (nil_merge (drop j b))
       ∙ ap Ok (ap (λ x. x ++ drop j b) (sym (append-nil front)) ∙ ap (λ x. (front ++ x) ++ drop j b) (sym (gone a i h)))
     where
       gone : (a : Terms) (i : ℕ) → length a ≤ i → drop i a ≡ []
       gone a i h = Rattle.std.proofs.Math.ListN.drop_of_length-le a h
 
-  pub at_end_right : (front a b : Terms) (i j : ℕ) → length b ≤ j → with_front front (merge_within l o (drop i a) (drop j b)) ≡ Ok ((front ++ drop i a) ++ drop j b)
+  pub at_end_right : (front a b : Terms) (i j : ℕ) → length b ≤ j → fronted front (merge_within l o (drop i a) (drop j b)) ≡ Ok ((front ++ drop i a) ++ drop j b)
   at_end_right front a b i j h =
-      ap (λ x. with_front front (merge_within l o (drop i a) x)) (gone b j h) ∙ ap (with_front front) (merge_nil (drop i a))
+      ap (λ x. fronted front (merge_within l o (drop i a) x)) (gone b j h) ∙ ap (fronted front) (merge_nil (drop i a))
       ∙ ap Ok (sym (append-nil (front ++ drop i a)) ∙ ap (λ x. (front ++ drop i a) ++ x) (sym (gone b j h)))
     where
       gone : (a : Terms) (i : ℕ) → length a ≤ i → drop i a ≡ []

@@ -23,10 +23,10 @@ use Rattle.ore_ring.specs.Ordered.{Ordered}
 use Rattle.ore_ring.specs.Belongs.{Belongs, OperatorOf}
 use Rattle.ore_ring.specs.Within.{plus_within, minus_within, opposite}
 use Rattle.ore_ring.specs.Merge.{merge_within, opposite_terms}
-use Rattle.ore_ring.proofs.TermLaws.{collect-falling}
+use Rattle.ore_ring.proofs.TermLaws.{collect-falling, C}
 use Rattle.ore_ring.proofs.Belonging.{of_plus, of_scale}
 use Rattle.ore_ring.proofs.WithinLaws.{plus_value}
-use Rattle.ore_ring.proofs.MergeIs.{C, merge_ok, merge_stops}
+use Rattle.ore_ring.proofs.MergeIs.{merge_ok, merge_stops}
 
 module _ (o : Order) (f g : Operator rationals) (ts us : Terms) (te : C ts ≡ f) (ue : C us ≡ g) (h : IsFalling o ts) (k : IsFalling o us) where
   pub sum_ok : (rs : Terms) → merge_within program o ts us ≡ Ok rs → IsFalling o rs × (plus_within program f g ≡ Ok (C rs))

@@ -10,14 +10,13 @@ use Rattle.ore_algebra.specs.Limits.{Cause, program, ◌>>=◌, fold_within}
 use Rattle.ore_algebra.proofs.Integers.{integers}
 use Rattle.ore_monomial.specs.Monomial.{Monomial, product}
 use Rattle.ore_monomial.specs.Signature.{Signature, kind_at, is_acting}
-use Rattle.ore_monomial.specs.Numbers.{numbers}
+use Rattle.ore_monomial.specs.Numbers.{numbers, numbers_within}
 use Rattle.ore_monomial.specs.Numbers.{falling_over}
 use Rattle.ore_rational.specs.Fraction.{Fraction}
 use Rattle.ore_ring.specs.Terms.{Terms}
-use Rattle.ore_ring.specs.Within.{numbers_within}
 use Rattle.ore_ring.specs.Contributions.{push_number, push_product}
 use Rattle.ore_ring.proofs.AdjointParts.{MeetsNone, clear_product}
-use Rattle.ore_ring.proofs.TermLaws.{falling_over-collect}
+use Rattle.ore_monomial.proofs.FallingTerms.{falling_over-collect}
 
 pub plain_numbers : (s : Signature) (m n : Monomial) → MeetsNone integers s m n → numbers s m n ≡ (product m n, pos 1) ∷ []
 unfolding numbers single

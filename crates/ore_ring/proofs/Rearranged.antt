@@ -9,13 +9,7 @@ use Rattle.std.specs.List.{filter}
 use Rattle.std.specs.declared.result.Result.{Result}
 use Rattle.std.specs.declared.result.Result.TheVariants.{Ok, Err}
 use Rattle.ore_algebra.specs.Limits.{Cause, Overflow, ◌>>=◌, fold_within}
-
-ok_is : {A : Type 0} (x y : A) → ◌≡◌ {A = Result A Cause} (Ok x) (Ok y) → x ≡ y
-ok_is {A} x y e = ap inside e
-  where
-    inside : Result A Cause → A
-    inside (Ok z) = z
-    inside (Err c) = x
+use Rattle.ore_algebra.proofs.ResultLaws.{same_ok}
 
 module _ {M O F : Type 0} (tie : M → M → Bool) (value : O → M → F) (put : O → M → F → O) (sum : F → F → Result F Cause)
     (tie_same : (m q : M) → tie m q ≡ true → m ≡ q) (tie_own : (m : M) → tie m m ≡ true)
@@ -59,7 +53,7 @@ module _ {M O F : Type 0} (tie : M → M → Bool) (value : O → M → F) (put 
   stopped f t ts c h = at_tied t.0 (value f t.0) t ts (tie_own t.0) ∙ ap (λ r. r >>= λ b. at t.0 b ts) h
 
   sound : (f g : O) (ts : List (M × F)) → all f ts ≡ Ok g → (m : M) → at m (value f m) ts ≡ Ok (value g m)
-  sound f g [] e m = ap (λ h. Ok (value h m)) (ok_is f g e)
+  sound f g [] e m = ap (λ h. Ok (value h m)) (same_ok f g e)
   sound f g (t ∷ ts) e m = by (sum (value f t.0) t.1) refl (sound (put f t.0 t.1) g ts) e
     where
       by : (r : Result F Cause) → sum (value f t.0) t.1 ≡ r → (all (put f t.0 t.1) ts ≡ Ok g → (m : M) → at m (value (put f t.0 t.1) m) ts ≡ Ok (value g m)) → (r >>= (λ s. Ok (put f t.0 t.1)) >>= λ h. all h ts) ≡ Ok g → at m (value f m) (t ∷ ts) ≡ Ok (value g m)
@@ -96,7 +90,7 @@ module _ {M O F : Type 0} (tie : M → M → Bool) (value : O → M → F) (put 
       never g us vs c k d e = let r = complete f vs (λ m. (value g m, like g us vs k d m)) in let w : ◌≡◌ {A = Result O Cause} (Err c) (Ok r.0) = sym e ∙ r.1 in cc
 
       by : (r : Result O Cause) → all f xs ≡ r → (s : Result O Cause) → all f ys ≡ s → r ≡ s
-      by (Ok g) d (Ok k) e = ap Ok (same g k (λ m. ok_is _ _ (sym (like g xs ys h d m) ∙ sound f k ys e m)))
+      by (Ok g) d (Ok k) e = ap Ok (same g k (λ m. same_ok _ _ (sym (like g xs ys h d m) ∙ sound f k ys e m)))
       by (Err c) d (Err b) e = ap Err (overflow f xs c d ∙ sym (overflow f ys b e))
       by (Ok g) d (Err b) e = absurd (never g xs ys b h d e)
       by (Err c) d (Ok k) e = absurd (never k ys xs c (λ m. sym (h m)) e d)

@@ -13,7 +13,8 @@ use Rattle.ore_rational.specs.Fraction.{Fraction}
 use Rattle.ore_monomial.specs.Monomial.{Monomial, order_cmp}
 use Rattle.ore_monomial.specs.declared.order.Order.{Order}
 use Rattle.ore_monomial.proofs.Monomials.{order_total}
-use Rattle.ore_algebra.specs.Limits.{Limits, Cause, ◌>>=◌}
+use Rattle.ore_algebra.specs.Limits.{Limits, Cause}
+use Rattle.ore_algebra.specs.Results.{◌>>=◌, fronted}
 use Rattle.ore_rational.specs.Within.{sum_within}
 use Rattle.std.specs.FinMap.{is_sorted}
 use Rattle.std.specs.FinMap.Entries.{below_all}
@@ -21,7 +22,7 @@ use Rattle.ore_ring.specs.Terms.{Term, Terms}
 use Rattle.ore_monomial.specs.Numbers.{back}
 use Rattle.ore_ring.proofs.Falls.{first, second, less_of}
 use Rattle.ore_ring.specs.Place.{IsOver}
-use Rattle.ore_ring.specs.Merge.{kept, with_front, step_within, merge_within}
+use Rattle.ore_ring.specs.Merge.{kept, step_within, merge_within}
 use Rattle.ore_ring.proofs.MergeSteps.{next, heads, merge_nil, nil_merge}
 
 set_split : {A : Type 0} (xs : List A) (i : ℕ) (y : A) → i < length xs → set xs i y ≡ take i xs ++ y ∷ drop (suc i) xs
@@ -33,16 +34,16 @@ pub set-split : {A : Type 0} (xs : List A) (i : ℕ) (y : A) → i < length xs �
 set-split xs i y h = set_split xs i y h ∙ ap (λ n. take i xs ++ y ∷ drop n xs) (sym (add-one i))
 
 module _ (l : Limits) (o : Order) (u : Term) where
-  one_more : (t : Term) (r : Result Terms Cause) (xs : Terms) → (with_front xs r >>= λ ts. Ok (t ∷ ts)) ≡ with_front (t ∷ xs) r
+  one_more : (t : Term) (r : Result Terms Cause) (xs : Terms) → (fronted xs r >>= λ ts. Ok (t ∷ ts)) ≡ fronted (t ∷ xs) r
   one_more t (Ok ys) xs = refl
   one_more t (Err e) xs = refl
 
-  none_before : (r : Result Terms Cause) → r ≡ with_front [] r
+  none_before : (r : Result Terms Cause) → r ≡ fronted [] r
   none_before (Ok ys) = refl
   none_before (Err e) = refl
 
   -- the walk goes past the terms above
-  pub merge_past : (ts : Terms) (k : ℕ) → IsOver o u.0 ts k → merge_within l o ts (u ∷ []) ≡ with_front (take k ts) (merge_within l o (drop k ts) (u ∷ []))
+  pub merge_past : (ts : Terms) (k : ℕ) → IsOver o u.0 ts k → merge_within l o ts (u ∷ []) ≡ fronted (take k ts) (merge_within l o (drop k ts) (u ∷ []))
   merge_past ts zero h = none_before _
   merge_past [] (suc k) h = none_before _
   merge_past (t ∷ ts) (suc k) h =
@@ -57,31 +58,31 @@ module _ (l : Limits) (o : Order) (u : Term) where
     pub splice_end : length ts ≤ k → merge_within l o ts (u ∷ []) ≡ Ok (take k ts ++ u ∷ drop k ts)
     splice_end h =
         let e : drop k ts ≡ [] = Rattle.std.proofs.Math.ListN.drop_of_length-le ts h in
-        merge_past ts k over ∙ ap (λ ys. with_front (take k ts) (merge_within l o ys (u ∷ []))) e ∙ ap (with_front (take k ts)) (nil_merge l o (u ∷ []))
+        merge_past ts k over ∙ ap (λ ys. fronted (take k ts) (merge_within l o ys (u ∷ []))) e ∙ ap (fronted (take k ts)) (nil_merge l o (u ∷ []))
         ∙ ap (λ ys. Ok (take k ts ++ u ∷ ys)) (sym e)
 
     at_term : (t : Term) (r : Ordering) → k < length ts → t ≡ get_or ts k t → r ≡ order_cmp o u.0 t.0
-        → merge_within l o ts (u ∷ []) ≡ with_front (take k ts) (step_within l (ordering_reverse r) t u (merge_within l o (drop (k + 1) ts) (u ∷ [])) (merge_within l o (drop (k + 1) ts) []) (merge_within l o (t ∷ drop (k + 1) ts) []))
+        → merge_within l o ts (u ∷ []) ≡ fronted (take k ts) (step_within l (ordering_reverse r) t u (merge_within l o (drop (k + 1) ts) (u ∷ [])) (merge_within l o (drop (k + 1) ts) []) (merge_within l o (t ∷ drop (k + 1) ts) []))
     at_term t r h e f =
-        merge_past ts k over ∙ ap (λ ys. with_front (take k ts) (merge_within l o ys (u ∷ []))) (next ts k t h e)
-        ∙ ap (with_front (take k ts)) (heads l o t u (drop (k + 1) ts) [] ∙ ap (λ q. step_within l q t u (merge_within l o (drop (k + 1) ts) (u ∷ [])) (merge_within l o (drop (k + 1) ts) []) (merge_within l o (t ∷ drop (k + 1) ts) [])) ((order_total o).antisymm t.0 u.0 ∙ ap ordering_reverse (sym f)))
+        merge_past ts k over ∙ ap (λ ys. fronted (take k ts) (merge_within l o ys (u ∷ []))) (next ts k t h e)
+        ∙ ap (fronted (take k ts)) (heads l o t u (drop (k + 1) ts) [] ∙ ap (λ q. step_within l q t u (merge_within l o (drop (k + 1) ts) (u ∷ [])) (merge_within l o (drop (k + 1) ts) []) (merge_within l o (t ∷ drop (k + 1) ts) [])) ((order_total o).antisymm t.0 u.0 ∙ ap ordering_reverse (sym f)))
 
     -- before a smaller term
     pub splice_before : (t : Term) → k < length ts → t ≡ get_or ts k t → Greater ≡ order_cmp o u.0 t.0 → merge_within l o ts (u ∷ []) ≡ Ok (take k ts ++ u ∷ drop k ts)
     splice_before t h e f =
         at_term t Greater h e f
-        ∙ ap (λ r. with_front (take k ts) (r >>= λ ys. Ok (u ∷ ys))) (merge_nil l o (t ∷ drop (k + 1) ts))
+        ∙ ap (λ r. fronted (take k ts) (r >>= λ ys. Ok (u ∷ ys))) (merge_nil l o (t ∷ drop (k + 1) ts))
         ∙ ap (λ ys. Ok (take k ts ++ u ∷ ys)) (sym (next ts k t h e))
 
     -- at an equal one
     pub splice_at : (t : Term) (s : Fraction) → k < length ts → t ≡ get_or ts k t → Equal ≡ order_cmp o u.0 t.0 → sum_within l t.1 u.1 ≡ Ok s → merge_within l o ts (u ∷ []) ≡ Ok (take k ts ++ kept t.0 s (drop (k + 1) ts))
     splice_at t s h e f g =
         at_term t Equal h e f
-        ∙ (λ i. with_front (take k ts) (g i >>= λ s. merge_nil l o (drop (k + 1) ts) i >>= λ ys. Ok (kept t.0 s ys)))
+        ∙ (λ i. fronted (take k ts) (g i >>= λ s. merge_nil l o (drop (k + 1) ts) i >>= λ ys. Ok (kept t.0 s ys)))
 
     pub splice_stops : (t : Term) (c : Cause) → k < length ts → t ≡ get_or ts k t → Equal ≡ order_cmp o u.0 t.0 → sum_within l t.1 u.1 ≡ Err c → merge_within l o ts (u ∷ []) ≡ Err c
     splice_stops t c h e f g =
-        at_term t Equal h e f ∙ ap (λ r. with_front (take k ts) (r >>= λ s. merge_within l o (drop (k + 1) ts) [] >>= λ ys. Ok (kept t.0 s ys))) g
+        at_term t Equal h e f ∙ ap (λ r. fronted (take k ts) (r >>= λ s. merge_within l o (drop (k + 1) ts) [] >>= λ ys. Ok (kept t.0 s ys))) g
 
 -- ---- places, by index
 

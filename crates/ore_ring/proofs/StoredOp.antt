@@ -4,7 +4,7 @@
 --     collect_snoc      one more term is one more summand
 --     Decides-terms     the test of two lists of terms for equality
 use Rattle.std.proofs.Common.{◌≡◌, length, [], ◌∷◌, ◌++◌, refl, sym, ap, ◌∙◌, arith}
-use Rattle.ore_algebra.specs.Free.{none, single, plus, collect}
+use Rattle.ore_algebra.specs.Free.{empty_sum, single, plus, collect}
 use Rattle.ore_monomial.specs.Monomial.{plain_cmp}
 use Rattle.ore_monomial.specs.declared.order.Order.{Order}
 use Rattle.ore_monomial.proofs.Operators
@@ -34,8 +34,8 @@ pub no_terms : (ts : Terms) → length ts ≡ 0 → ts ≡ []
 no_terms [] h = refl
 no_terms (t ∷ ts) h = absurd (omega arith)
 
-pub none_of : (ts : Terms) → ts ≡ [] → collect rationals plain_cmp ts ≡ none rationals plain_cmp
-unfolding none
+pub none_of : (ts : Terms) → ts ≡ [] → collect rationals plain_cmp ts ≡ empty_sum rationals plain_cmp
+unfolding empty_sum
 none_of ts e = ap (collect rationals plain_cmp) e
 
 pub collect_snoc : (ts : Terms) (t : Term) → collect rationals plain_cmp (ts ++ t ∷ []) ≡ plus rationals plain_cmp (collect rationals plain_cmp ts) (single rationals plain_cmp t.0 t.1)

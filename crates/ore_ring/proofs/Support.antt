@@ -8,7 +8,7 @@ use Rattle.std.proofs.Common.{◌≡◌, ◌≢◌, ℕ, ◌+◌, ◌<◌, ◌�
 use native.Mathlib.Decide.{dec_lt, ℕ_discrete}
 use Rattle.std.proofs.lemmas.List.Sums.{get_or-le-sum_by}
 use Rattle.ore_algebra.specs.Domain.{Domain}
-use Rattle.ore_algebra.specs.Free.{none, single, plus, scale, extend, coefficient}
+use Rattle.ore_algebra.specs.Free.{empty_sum, single, plus, scale, linear_extension, coefficient}
 use Rattle.ore_monomial.specs.Monomial.{Monomial, exponent, degree, raise, unit, plain_cmp}
 use Rattle.ore_monomial.specs.Signature.{Signature, kind_at, coordinate_of, is_acting, IsLawful}
 use Rattle.ore_monomial.specs.LetterRule.{Operator, letter, letter_times, monomial_times}
@@ -43,16 +43,16 @@ exponent-raise_any x y m h = by (ℕ_discrete y x)
 module _ (K : Domain) (y : ℕ) where
   -- f has no exponent of y above d
   abbrev pub AtMost : ℕ → Operator K → Type 0
-  AtMost d f = (q : Monomial) → d < exponent q y → coefficient K plain_cmp f q ≡ K.none
+  AtMost d f = (q : Monomial) → d < exponent q y → coefficient K plain_cmp f q ≡ K.zero
 
-  pub most_none : (d : ℕ) → AtMost d (none K plain_cmp)
-  most_none d q h = Operators.coefficient-none K q
+  pub most_none : (d : ℕ) → AtMost d (empty_sum K plain_cmp)
+  most_none d q h = Operators.coefficient-empty_sum K q
 
   pub most_plus : (d : ℕ) (f g : Operator K) → AtMost d f → AtMost d g → AtMost d (plus K plain_cmp f g)
-  most_plus d f g a b q h = Operators.coefficient-plus K f g q ∙ (λ i. K.plus (a q h i) (b q h i)) ∙ K.plus_none _
+  most_plus d f g a b q h = Operators.coefficient-plus K f g q ∙ (λ i. K.plus (a q h i) (b q h i)) ∙ K.plus_zero _
 
   pub most_scale : (d : ℕ) (k : K.Number) (f : Operator K) → AtMost d f → AtMost d (scale K plain_cmp k f)
-  most_scale d k f a q h = Operators.coefficient-scale K k f q ∙ ap (K.times k) (a q h) ∙ Numbers.times_none K k
+  most_scale d k f a q h = Operators.coefficient-scale K k f q ∙ ap (K.times k) (a q h) ∙ Numbers.times_zero K k
 
   pub most_single : (d : ℕ) (m : Monomial) (k : K.Number) → exponent m y ≤ d → AtMost d (single K plain_cmp m k)
   most_single d m k l q h = Operators.coefficient-other K m k q (λ e. let same : exponent q y ≡ exponent m y = ap (λ p. exponent p y) e in absurd (omega arith))
@@ -60,12 +60,12 @@ module _ (K : Domain) (y : ℕ) where
   pub most_more : (d e : ℕ) (f : Operator K) → d ≤ e → AtMost d f → AtMost e f
   most_more d e f l a q h = a q (omega arith)
 
-  pub most_extend : (d e : ℕ) (h : Monomial → Operator K) (f : Operator K) → ((m : Monomial) → exponent m y ≤ d → AtMost e (h m)) → AtMost d f → AtMost e (extend K plain_cmp h f)
+  pub most_extend : (d e : ℕ) (h : Monomial → Operator K) (f : Operator K) → ((m : Monomial) → exponent m y ≤ d → AtMost e (h m)) → AtMost d f → AtMost e (linear_extension K plain_cmp h f)
   most_extend d e h f a b q l = Operators.coefficient-extend K h f q ∙ Operators.total_vanish K _ f (λ m. by m (dec_lt d (exponent m y)))
     where
-      by : (m : Monomial) → Dec (d < exponent m y) → K.times (coefficient K plain_cmp f m) (coefficient K plain_cmp (h m) q) ≡ K.none
-      by m (yes s) = ap (λ k. K.times k (coefficient K plain_cmp (h m) q)) (b m s) ∙ Numbers.none_times K _
-      by m (no n) = ap (K.times _) (a m (omega arith) q l) ∙ Numbers.times_none K _
+      by : (m : Monomial) → Dec (d < exponent m y) → K.times (coefficient K plain_cmp f m) (coefficient K plain_cmp (h m) q) ≡ K.zero
+      by m (yes s) = ap (λ k. K.times k (coefficient K plain_cmp (h m) q)) (b m s) ∙ Numbers.zero_times K _
+      by m (no n) = ap (K.times _) (a m (omega arith) q l) ∙ Numbers.times_zero K _
 
 module _ (K : Domain) (s : Signature) (lawful : IsLawful s) (y : ℕ) where
   letter_most : (x : ℕ) → x < 12 → (m : Monomial) → AtMost K y (exponent m y + own x y) (letter K s x m)

@@ -1,105 +1,29 @@
--- The terms of an operator in falling order, against the operator.
---     eq_either        two orders that tell keys apart agree on which are equal
+-- The terms of an operator over the fractions in falling order, against the operator.
+--     C, _+_, sc       the operator that terms make; sums and scalings of operators
 --     collect-falling  the terms make the operator again
 --     falling-collect  stored terms are the falling terms of what they make
-use Rattle.std.proofs.Common.{◌≡◌, Bool, true, false, cond, ◌&&◌, T, List, [], ◌∷◌, map, refl, sym, ap, ◌∙◌, subst, true≢false}
-use Rattle.std.specs.declared.cmp.Ordering.{Ordering}
-use Rattle.std.specs.Ordering.{eq_by_cmp, is_eq, is_lt}
-use Rattle.std.specs.Cmp.{IsTotalOrder, tied_itself}
-use Rattle.std.proofs.lemmas.Cmp.{back_total}
-use Rattle.std.specs.FinMap.{IsAntisymmetric, is_sorted, from_sorted, entries-from_sorted}
-use Rattle.std.specs.FinMap.Entries.{below_all}
-use Rattle.ore_algebra.specs.Domain.{Domain}
-use Rattle.ore_algebra.specs.Free.{NonZero, Free, coefficient, sum_at, terms, collect}
-use Rattle.ore_monomial.specs.Monomial.{Monomial, plain_cmp}
+use Rattle.std.proofs.Common.{◌≡◌}
+use Rattle.ore_algebra.specs.Free.{collect, plus, scale}
+use Rattle.ore_monomial.specs.Monomial.{plain_cmp}
 use Rattle.ore_monomial.specs.declared.order.Order.{Order}
 use Rattle.ore_monomial.specs.LetterRule.{Operator}
-use Rattle.ore_monomial.proofs.Monomials.{plain_cmp_total, plain_cmp_apart, order_total, order_apart}
-use Rattle.ore_algebra.proofs.FreeLaws
-use Rattle.ore_monomial.proofs.Operators
+use Rattle.ore_monomial.proofs.FallingTerms.{collect-falling_over, falling_over-collect}
+use Rattle.ore_rational.specs.Fraction.{Fraction}
 use Rattle.ore_rational.proofs.FractionLaws.{rationals}
-use Rattle.ore_ring.specs.Terms.{Terms, falling, AreNonZero, IsFalling}
-use Rattle.ore_monomial.specs.Numbers.{back, falling_over}
+use Rattle.ore_ring.specs.Terms.{Terms, falling, IsFalling}
 
-pub back_order : (o : Order) → IsTotalOrder (back o)
-back_order o = back_total (order_total o)
+abbrev pub C : Terms → Operator rationals
+C = collect rationals plain_cmp
 
-pub back_apart : (o : Order) → IsAntisymmetric (back o)
-back_apart o m n e = sym (order_apart o n m e)
+infixl 10 ◌+◌
+abbrev pub ◌+◌ : Operator rationals → Operator rationals → Operator rationals
+f + g = plus rationals plain_cmp f g
 
-pub eq_either : {R S : Monomial → Monomial → Ordering} → IsTotalOrder R → IsAntisymmetric R → IsTotalOrder S → IsAntisymmetric S → (q m : Monomial) → eq_by_cmp R q m ≡ eq_by_cmp S q m
-eq_either {R} {S} o a p b q m = by (eq_by_cmp R q m) refl (eq_by_cmp S q m) refl
-  where
-    by : (x : Bool) → eq_by_cmp R q m ≡ x → (y : Bool) → eq_by_cmp S q m ≡ y → x ≡ y
-    by true e true f = refl
-    by false e false f = refl
-    by true e false f = absurd (true≢false (sym (ap is_eq (tied_itself p q)) ∙ ap (eq_by_cmp S q) (FreeLaws.same_key rationals o a q m e) ∙ f))
-    by false e true f = absurd (true≢false (sym (ap is_eq (tied_itself o q)) ∙ ap (eq_by_cmp R q) (FreeLaws.same_key rationals p b q m f) ∙ e))
-
-module _ (K : Domain) (o : Order) where
-  -- sums at a key by the one order and by the other
-  pub sum_either : (q : Monomial) (ts : List (Monomial × K.Number)) → sum_at K (back o) q ts ≡ sum_at K plain_cmp q ts
-  unfolding sum_at
-  sum_either q [] = refl
-  sum_either q (t ∷ ts) = λ i. K.plus (cond (eq_either (back_order o) (back_apart o) plain_cmp_total plain_cmp_apart q t.0 i) t.1 K.none) (sum_either q ts i)
-
-  pub sum_at-falling : (f : Operator K) (q : Monomial) → sum_at K plain_cmp q (falling_over K o f) ≡ coefficient K plain_cmp f q
-  unfolding falling_over
-  sum_at-falling f q =
-      sym (sum_either q _)
-      ∙ FreeLaws.sum_at-terms K (back_order o) (back_apart o) _ q
-      ∙ FreeLaws.coefficient-collect K (back_order o) (back_apart o) _ q
-      ∙ sum_either q _
-      ∙ FreeLaws.sum_at-terms K plain_cmp_total plain_cmp_apart f q
-
-  pub collect-falling_over : (f : Operator K) → collect K plain_cmp (falling_over K o f) ≡ f
-  collect-falling_over f = Operators.same_sum K _ f (λ q. Operators.coefficient-collect K _ q ∙ sum_at-falling f q)
+abbrev pub sc : Fraction → Operator rationals → Operator rationals
+sc = scale rationals plain_cmp
 
 pub collect-falling : (o : Order) (f : Operator rationals) → collect rationals plain_cmp (falling o f) ≡ f
 collect-falling = collect-falling_over rationals
-
--- ---- stored terms
-
-lift : (K : Domain) (ts : List (Monomial × K.Number)) → AreNonZero K ts → List (Monomial × NonZero K)
-lift K [] h = []
-lift K (t ∷ ts) h = (t.0, record { value = t.1; apart = h.0 }) ∷ lift K ts h.1
-
-lift_again : (K : Domain) (ts : List (Monomial × K.Number)) (h : AreNonZero K ts) → map (λ e. (e.0, e.1.value)) (lift K ts h) ≡ ts
-unfolding lift
-lift_again K [] h = refl
-lift_again K (t ∷ ts) h = ap (λ us. t ∷ us) (lift_again K ts h.1)
-
-below-lift : (K : Domain) (R : Monomial → Monomial → Ordering) (m : Monomial) (ts : List (Monomial × K.Number)) (h : AreNonZero K ts) → below_all R m (lift K ts h) ≡ below_all R m ts
-unfolding lift
-below-lift K R m [] h = refl
-below-lift K R m (t ∷ ts) h = ap (λ b. is_lt (R m t.0) && b) (below-lift K R m ts h.1)
-
-module _ (K : Domain) where
-  sorted-lift : (R : Monomial → Monomial → Ordering) (ts : List (Monomial × K.Number)) (h : AreNonZero K ts) → is_sorted R (lift K ts h) ≡ is_sorted R ts
-  unfolding lift
-  sorted-lift R [] h = refl
-  sorted-lift R (t ∷ ts) h = λ i. below-lift K R t.0 ts h.1 i && sorted-lift R ts h.1 i
-
-  stored : (o : Order) (ts : List (Monomial × K.Number)) → T (is_sorted (back o) ts) → AreNonZero K ts → (f : Free K (back o)) × (terms K (back o) f ≡ ts)
-  unfolding terms
-  stored o ts s h =
-      (from_sorted (lift K ts h), ap (map (λ e. (e.0, e.1.value))) (entries-from_sorted (back o) (lift K ts h) (subst T (sym (sorted-lift (back o) ts h)) s)) ∙ lift_again K ts h)
-
-  -- sorted terms with equal sums are equal
-  pub falling_over-collect : (o : Order) (ts : List (Monomial × K.Number)) → T (is_sorted (back o) ts) → AreNonZero K ts → falling_over K o (collect K plain_cmp ts) ≡ ts
-  unfolding falling_over
-  falling_over-collect o ts h n =
-      let s = stored o ts h n in
-      let f = collect K (back o) (terms K plain_cmp (collect K plain_cmp ts)) in
-      let e : f ≡ s.0 = FreeLaws.same_sum K (back_order o) (back_apart o) f s.0 (λ q.
-      FreeLaws.coefficient-collect K (back_order o) (back_apart o) _ q
-      ∙ sum_either K o q _
-      ∙ FreeLaws.sum_at-terms K plain_cmp_total plain_cmp_apart _ q
-      ∙ Operators.coefficient-collect K ts q
-      ∙ sym (sum_either K o q ts)
-      ∙ ap (sum_at K (back o) q) (sym s.1)
-      ∙ FreeLaws.sum_at-terms K (back_order o) (back_apart o) s.0 q) in
-      ap (terms K (back o)) e ∙ s.1
 
 pub falling-collect : (o : Order) (ts : Terms) → IsFalling o ts → falling o (collect rationals plain_cmp ts) ≡ ts
 falling-collect o ts h = falling_over-collect rationals o ts h.falls h.apart

@@ -12,8 +12,8 @@ use Rattle.std.specs.Cmp.{tied_itself}
 use Rattle.std.specs.FinMap.{is_sorted}
 use Rattle.std.specs.List.Sorted.{IsStableBy}
 use Rattle.std.specs.declared.result.Result.TheVariants.{Ok, Err}
-use Rattle.ore_algebra.specs.Free.{coefficient, collect, none, plus, single, sum_at, terms}
-use Rattle.ore_algebra.specs.Limits.{Limits, Cause, Overflow, program, ◌>>=◌, where_test}
+use Rattle.ore_algebra.specs.Free.{coefficient, collect, empty_sum, plus, single, sum_at, terms}
+use Rattle.ore_algebra.specs.Limits.{Limits, Cause, Overflow, program, ◌>>=◌, guard}
 use Rattle.ore_algebra.proofs.FreeLaws
 use Rattle.ore_rational.specs.Fraction.{Fraction, whole, add}
 use Rattle.ore_rational.specs.Within.{sum_fits, sum_within}
@@ -44,7 +44,7 @@ with_term f m c = plus rationals plain_cmp f (single rationals plain_cmp m c)
 
 alone_at : (q m : Monomial) (c : Fraction) (b : Bool) → eq_by_cmp plain_cmp q m ≡ b → at_monomial (single rationals plain_cmp m c) q ≡ cond b c (whole (pos 0))
 unfolding single sum_at
-alone_at q m c b e = Operators.coefficient-collect rationals ((m, c) ∷ []) q ∙ ap (λ b. add (cond b c (whole (pos 0))) (whole (pos 0))) e ∙ rationals.plus_none (cond b c (whole (pos 0)))
+alone_at q m c b e = Operators.coefficient-collect rationals ((m, c) ∷ []) q ∙ ap (λ b. add (cond b c (whole (pos 0))) (whole (pos 0))) e ∙ rationals.plus_zero (cond b c (whole (pos 0)))
 
 own_key : (m : Monomial) → eq_by_cmp plain_cmp m m ≡ true
 own_key m = ap is_eq (tied_itself plain_cmp_total m)
@@ -53,7 +53,7 @@ own_value : (f : Operator rationals) (m : Monomial) (c : Fraction) → at_monomi
 own_value f m c = Operators.coefficient-plus rationals f (single rationals plain_cmp m c) m ∙ ap (add (at_monomial f m)) (alone_at m m c true (own_key m))
 
 other_value : (f : Operator rationals) (q m : Monomial) (c : Fraction) → eq_by_cmp plain_cmp q m ≡ false → at_monomial (with_term f m c) q ≡ at_monomial f q
-other_value f q m c e = Operators.coefficient-plus rationals f (single rationals plain_cmp m c) q ∙ ap (add (at_monomial f q)) (alone_at q m c false e) ∙ rationals.plus_none (at_monomial f q)
+other_value f q m c e = Operators.coefficient-plus rationals f (single rationals plain_cmp m c) q ∙ ap (add (at_monomial f q)) (alone_at q m c false e) ∙ rationals.plus_zero (at_monomial f q)
 
 -- ---- a stable sort
 
@@ -87,7 +87,7 @@ module _ (l : Limits) (o : Order) where
   unfolding sum_within
   sum_value p q s e = by (sum_fits l p q) e
     where
-      by : (b : Bool) → where_test b (add p q) Overflow ≡ Ok s → s ≡ add p q
+      by : (b : Bool) → guard b (add p q) Overflow ≡ Ok s → s ≡ add p q
       by true f = cc
       by false f = cc
 
@@ -95,7 +95,7 @@ module _ (l : Limits) (o : Order) where
   unfolding sum_within
   only_overflow p q e h = by (sum_fits l p q) h
     where
-      by : (b : Bool) → where_test b (add p q) Overflow ≡ Err e → e ≡ Overflow
+      by : (b : Bool) → guard b (add p q) Overflow ≡ Err e → e ≡ Overflow
       by true f = let no : ⊥ = cc in absurd no
       by false f = cc
 
@@ -132,14 +132,14 @@ module _ (l : Limits) (f : Operator rationals) (m : Monomial) (c : Fraction) (fi
 
   plus_is_whole : plus_within l f (single rationals plain_cmp m c) ≡ Ok (with_term f m c)
   unfolding plus_within
-  plus_is_whole = ap (λ b. where_test b (with_term f m c) Overflow) all_fit
+  plus_is_whole = ap (λ b. guard b (with_term f m c) Overflow) all_fit
 
 module _ (l : Limits) (f : Operator rationals) (m : Monomial) (c s : Fraction) where
   fits_of : sum_within l (at_monomial f m) c ≡ Ok s → sum_fits l (at_monomial f m) c ≡ true
   unfolding sum_within
   fits_of h = by (sum_fits l (at_monomial f m) c) refl h
     where
-      by : (b : Bool) → sum_fits l (at_monomial f m) c ≡ b → where_test b (add (at_monomial f m) c) Overflow ≡ Ok s → sum_fits l (at_monomial f m) c ≡ true
+      by : (b : Bool) → sum_fits l (at_monomial f m) c ≡ b → guard b (add (at_monomial f m) c) Overflow ≡ Ok s → sum_fits l (at_monomial f m) c ≡ true
       by true e g = e
       by false e g = let no : ⊥ = cc in absurd no
 
@@ -232,5 +232,5 @@ module _ (f : Operator rationals) (ts : Terms) (m : Monomial) (c old : Fraction)
 
 -- ---- terms that are sorted first
 
-pub sorted_sum : (o : Order) (xs ys : Terms) (z : Operator rationals) → z ≡ none rationals plain_cmp → IsStableBy (falls_before o) xs ys → add_terms_within program (none rationals plain_cmp) xs ≡ add_terms_within program z ys
-sorted_sum o xs ys z n h = add_terms_like program o (none rationals plain_cmp) xs ys h ∙ ap (λ f. add_terms_within program f ys) (sym n)
+pub sorted_sum : (o : Order) (xs ys : Terms) (z : Operator rationals) → z ≡ empty_sum rationals plain_cmp → IsStableBy (falls_before o) xs ys → add_terms_within program (empty_sum rationals plain_cmp) xs ≡ add_terms_within program z ys
+sorted_sum o xs ys z n h = add_terms_like program o (empty_sum rationals plain_cmp) xs ys h ∙ ap (λ f. add_terms_within program f ys) (sym n)

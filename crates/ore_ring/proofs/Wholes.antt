@@ -9,8 +9,8 @@ use Rattle.std.proofs.lemmas.Bool.Decides.{leb_tells}
 use Rattle.std.proofs.lemmas.List.Elements.{All-nil, All-cons}
 use Rattle.ore_monomial.specs.Monomial.{Monomial}
 use Rattle.ore_rational.specs.Range.{InRange}
-use Rattle.ore_algebra.specs.Limits.{Overflow, program, is_within, where_test}
-use Rattle.ore_ring.specs.Within.{numbers_within}
+use Rattle.ore_algebra.specs.Limits.{Overflow, program, is_within, guard}
+use Rattle.ore_monomial.specs.Numbers.{numbers_within}
 use Rattle.ore_ring.proofs.Falls.{left_true, right_true}
 use Rattle.ore_ring.specs.Products.{AreWhole}
 
@@ -25,6 +25,6 @@ pub whole_of : (ks rs : List (Monomial × ℤ)) → numbers_within program ks �
 unfolding numbers_within
 whole_of ks rs e = by (list_all (λ k. is_within program.magnitude (nat_abs k.1)) ks) refl e
   where
-    by : (b : Bool) → list_all (λ k. is_within program.magnitude (nat_abs k.1)) ks ≡ b → where_test b ks Overflow ≡ Ok rs → AreWhole rs
+    by : (b : Bool) → list_all (λ k. is_within program.magnitude (nat_abs k.1)) ks ≡ b → guard b ks Overflow ≡ Ok rs → AreWhole rs
     by true f g = let h : ks ≡ rs = cc in subst AreWhole h (tested ks f)
     by false f g = let no : ⊥ = cc in absurd no

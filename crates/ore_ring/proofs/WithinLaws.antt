@@ -1,8 +1,6 @@
 -- What sums and products within limits give.
 --     sum_unlimited, plus_unlimited, times_unlimited ..    with no limits they are the sums and products
 --     product_contributed      the contributions of a product of two monomials
---     IsAtMost                 an Ok stays where limits go
---     most_bind, most_fold     so does an Ok of operations one after another
 --     plus_at_most, times_at_most ..                       Ok within limits is the same value
 --     plus_value, times_value  so an Ok is the sum, the product
 use Rattle.std.proofs.Common.{◌≡◌, Bool, true, false, cond, ◌&&◌, List, [], ◌∷◌, map, ℤ, pos, nat_abs, refl, sym, ap, ◌∙◌, subst}
@@ -11,7 +9,7 @@ use Rattle.std.specs.declared.result.Result.TheVariants.{Ok, Err}
 use Rattle.std.specs.List.{list_all}
 use Rattle.ore_rational.specs.Fraction.{Fraction, whole, add, mul}
 use Rattle.ore_rational.proofs.FractionLaws.{fraction_discrete, rationals}
-use Rattle.ore_algebra.specs.Free.{collect, terms, none, single, plus, scale}
+use Rattle.ore_algebra.specs.Free.{terms, empty_sum, single}
 use Rattle.ore_monomial.specs.Monomial.{Monomial, plain_cmp}
 use Rattle.ore_monomial.specs.Signature.{Signature}
 use Rattle.ore_monomial.specs.LetterRule.{Operator, monomial_times}
@@ -19,24 +17,14 @@ use Rattle.ore_ring.specs.Product.{times}
 use Rattle.ore_monomial.proofs.Operators
 use Rattle.ore_monomial.proofs.MonomialProducts.{monomial-linear}
 use Rattle.ore_ring.proofs.Product.{times-linear_left, times_one_left}
-use Rattle.ore_algebra.specs.Limits.{Limits, Cause, Overflow, Degree, unlimited, is_within, ◌>>=◌, where_test, fold_within}
+use Rattle.ore_algebra.specs.Limits.{Limits, Cause, Overflow, Degree, unlimited, is_within, ◌>>=◌, guard, fold_within, IsAtMost}
+use Rattle.ore_algebra.proofs.LimitLaws.{most_test, most_bind, most_fold, value_from}
 use Rattle.ore_rational.specs.Within.{sum_fits, sum_within, fits, product_within}
 use Rattle.ore_ring.specs.Terms.{Term, Terms, falling}
-use Rattle.ore_ring.specs.Within.{add_term_within, shared_fits, all_shared_fit, plus_within, degrees_fit, numbers_within, contribute, pair_within, row_within, times_within}
-use Rattle.ore_monomial.specs.Numbers.{numbers}
-use Rattle.ore_ring.proofs.TermLaws.{collect-falling}
+use Rattle.ore_ring.specs.Within.{add_term_within, shared_fits, all_shared_fit, plus_within, degrees_fit, contribute, pair_within, row_within, times_within}
+use Rattle.ore_monomial.specs.Numbers.{numbers, numbers_within}
+use Rattle.ore_ring.proofs.TermLaws.{C, ◌+◌, sc, collect-falling}
 use Rattle.ore_ring.proofs.Mapped.{numbers_are}
-
--- the operators' words at the fractions
-abbrev C : Terms → Operator rationals
-C = collect rationals plain_cmp
-
-infixl 10 ◌+◌
-abbrev ◌+◌ : Operator rationals → Operator rationals → Operator rationals
-f + g = plus rationals plain_cmp f g
-
-abbrev sc : Fraction → Operator rationals → Operator rationals
-sc = scale rationals plain_cmp
 
 abbrev one_of : Monomial → Fraction → Operator rationals
 one_of = single rationals plain_cmp
@@ -61,7 +49,7 @@ all_true test h (x ∷ xs) = λ i. h x i && all_true test h xs i
 
 pub numbers_unlimited : (ks : List (Monomial × ℤ)) → numbers_within unlimited ks ≡ Ok ks
 unfolding numbers_within
-numbers_unlimited ks = ap (λ b. where_test b ks Overflow) (all_true (λ (k : Monomial × ℤ). true) (λ k. refl) ks)
+numbers_unlimited ks = ap (λ b. guard b ks Overflow) (all_true (λ (k : Monomial × ℤ). true) (λ k. refl) ks)
 
 shared_unlimited : (x y : Fraction) → shared_fits unlimited x y ≡ true
 unfolding shared_fits sum_fits
@@ -73,7 +61,7 @@ shared_unlimited x y = by (fraction_discrete y (whole (pos 0)))
 
 pub plus_unlimited : (f g : Operator rationals) → plus_within unlimited f g ≡ Ok (f + g)
 unfolding plus_within all_shared_fit
-plus_unlimited f g = ap (λ b. where_test b (f + g) Overflow) (all_true _ (λ t. shared_unlimited t.1 _) (terms rationals plain_cmp f))
+plus_unlimited f g = ap (λ b. guard b (f + g) Overflow) (all_true _ (λ t. shared_unlimited t.1 _) (terms rationals plain_cmp f))
 
 module _ (s : Signature) where
   abbrev H : Monomial → Operator rationals → Operator rationals
@@ -83,8 +71,8 @@ module _ (s : Signature) where
   as_fractions ks = map (λ k. (k.0, whole k.1)) ks
 
   pub contributions : (uv : Fraction) (acc : Operator rationals) (ks : List (Monomial × ℤ)) → fold_within (contribute unlimited uv) acc ks ≡ Ok (acc + sc uv (C (as_fractions ks)))
-  unfolding contribute add_term_within sum_within sum_fits product_within fits none
-  contributions uv acc [] = ap Ok (sym (ap (λ f. acc + f) (Operators.scale_none rationals uv) ∙ Operators.plus_none rationals acc))
+  unfolding contribute add_term_within sum_within sum_fits product_within fits empty_sum
+  contributions uv acc [] = ap Ok (sym (ap (λ f. acc + f) (Operators.scale-empty_sum rationals uv) ∙ Operators.plus_zero rationals acc))
   contributions uv acc (k ∷ ks) =
       contributions uv (acc + one_of k.0 (mul uv (whole k.1))) ks
       ∙ ap Ok (Operators.plus_assoc rationals acc _ _ ∙ ap (λ f. acc + f)
@@ -99,8 +87,8 @@ module _ (s : Signature) where
   pair_is t u acc = product_contributed (mul t.1 u.1) t.0 u.0 acc ∙ ap (λ f. Ok (acc + f)) (sym (Operators.scale-scale rationals t.1 u.1 _))
 
   row_is : (t : Term) (us : Terms) (acc : Operator rationals) → fold_within (pair_within unlimited s t) acc us ≡ Ok (acc + sc t.1 (H t.0 (C us)))
-  unfolding none
-  row_is t [] acc = ap Ok (sym (ap (λ f. acc + sc t.1 f) (Operators.linear-none rationals (monomial-linear rationals s t.0)) ∙ ap (λ f. acc + f) (Operators.scale_none rationals t.1) ∙ Operators.plus_none rationals acc))
+  unfolding empty_sum
+  row_is t [] acc = ap Ok (sym (ap (λ f. acc + sc t.1 f) (Operators.linear-empty_sum rationals (monomial-linear rationals s t.0)) ∙ ap (λ f. acc + f) (Operators.scale-empty_sum rationals t.1) ∙ Operators.plus_zero rationals acc))
   row_is t (u ∷ us) acc =
       let linear = monomial-linear rationals s t.0 in
       ap (λ r. r >>= λ a. fold_within (pair_within unlimited s t) a us) (pair_is t u acc)
@@ -109,8 +97,8 @@ module _ (s : Signature) where
       (sym (ap (λ f. sc t.1 (H t.0 f)) (Operators.collect_more rationals u.0 u.1 us ∙ ap (λ f. f + C us) (Operators.single_scale rationals u.0 u.1)) ∙ ap (sc t.1) (linear.plus _ _ ∙ ap (λ f. f + H t.0 (C us)) (linear.scale u.1 _)) ∙ Operators.scale-plus rationals t.1 _ _)))
 
   rows_are : (us ts : Terms) (acc : Operator rationals) → fold_within (row_within unlimited s us) acc ts ≡ Ok (acc + times rationals s (C ts) (C us))
-  unfolding none row_within
-  rows_are us [] acc = ap Ok (sym (ap (λ f. acc + f) (Operators.linear-none rationals (times-linear_left rationals s (C us))) ∙ Operators.plus_none rationals acc))
+  unfolding empty_sum row_within
+  rows_are us [] acc = ap Ok (sym (ap (λ f. acc + f) (Operators.linear-empty_sum rationals (times-linear_left rationals s (C us))) ∙ Operators.plus_zero rationals acc))
   rows_are us (t ∷ ts) acc =
       let linear = times-linear_left rationals s (C us) in
       ap (λ r. r >>= λ a. fold_within (row_within unlimited s us) a ts) (row_is t us acc)
@@ -126,36 +114,20 @@ module _ (s : Signature) where
   unfolding times_within
   times_unlimited f g =
       let o = s.order in
-      ap (λ b. cond b (fold_within (row_within unlimited s (falling o g)) (none rationals plain_cmp) (falling o f)) (Err Degree)) (degrees_unlimited (falling o f) (falling o g))
-      ∙ rows_are (falling o g) (falling o f) (none rationals plain_cmp)
-      ∙ ap Ok (Operators.none-plus rationals _ ∙ (λ i. times rationals s (collect-falling o f i) (collect-falling o g i)))
+      ap (λ b. cond b (fold_within (row_within unlimited s (falling o g)) (empty_sum rationals plain_cmp) (falling o f)) (Err Degree)) (degrees_unlimited (falling o f) (falling o g))
+      ∙ rows_are (falling o g) (falling o f) (empty_sum rationals plain_cmp)
+      ∙ ap Ok (Operators.zero-plus rationals _ ∙ (λ i. times rationals s (collect-falling o f i) (collect-falling o g i)))
 
 -- ---- Ok within limits is the same value
-
-abbrev pub IsAtMost : {A : Type 0} → Result A Cause → Result A Cause → Type 0
-IsAtMost (Ok x) r = r ≡ Ok x
-IsAtMost (Err e) r = Unit {0}
-
-pub most_bind : {A B : Type 0} (r s : Result A Cause) (f g : A → Result B Cause) → IsAtMost r s → ((x : A) → IsAtMost (f x) (g x)) → IsAtMost (r >>= f) (s >>= g)
-most_bind (Ok x) s f g h k = subst (λ t. IsAtMost (f x) (t >>= g)) (sym h) (k x)
-most_bind (Err e) s f g h k = tt
-
-pub most_test : {A : Type 0} (b : Bool) (x : A) (e : Cause) → IsAtMost (where_test b x e) (Ok x)
-most_test true x e = refl
-most_test false x e = tt
-
-pub most_fold : {A S : Type 0} (f g : S → A → Result S Cause) → ((s : S) (x : A) → IsAtMost (f s x) (g s x)) → (s : S) (xs : List A) → IsAtMost (fold_within f s xs) (fold_within g s xs)
-most_fold f g h s [] = refl
-most_fold f g h s (x ∷ xs) = most_bind (f s x) (g s x) _ _ (h s x) (λ t. most_fold f g h t xs)
 
 module _ (l : Limits) where
   pub sum_at_most : (p q : Fraction) → IsAtMost (sum_within l p q) (sum_within unlimited p q)
   unfolding sum_within
-  sum_at_most p q = subst (IsAtMost (where_test (sum_fits l p q) (add p q) Overflow)) (sym (sum_unlimited p q)) (most_test (sum_fits l p q) (add p q) Overflow)
+  sum_at_most p q = subst (IsAtMost (guard (sum_fits l p q) (add p q) Overflow)) (sym (sum_unlimited p q)) (most_test (sum_fits l p q) (add p q) Overflow)
 
   pub product_at_most : (p q : Fraction) → IsAtMost (product_within l p q) (product_within unlimited p q)
   unfolding product_within
-  product_at_most p q = subst (IsAtMost (where_test (fits l (mul p q)) (mul p q) Overflow)) (sym (product_unlimited p q)) (most_test (fits l (mul p q)) (mul p q) Overflow)
+  product_at_most p q = subst (IsAtMost (guard (fits l (mul p q)) (mul p q) Overflow)) (sym (product_unlimited p q)) (most_test (fits l (mul p q)) (mul p q) Overflow)
 
   pub add_term_at_most : (f : Operator rationals) (m : Monomial) (c : Fraction) → IsAtMost (add_term_within l f m c) (add_term_within unlimited f m c)
   unfolding add_term_within
@@ -198,24 +170,13 @@ module _ (l : Limits) where
     pub times_at_most : (f g : Operator rationals) → IsAtMost (times_within l s f g) (times_within unlimited s f g)
     unfolding times_within degrees_fit
     times_at_most f g =
-        most_cond _ _ _ _ Degree (all_true _ (λ t. all_true _ (λ u. refl) (falling s.order g)) (falling s.order f)) (most_fold _ _ (row_at_most (falling s.order g)) (none rationals plain_cmp) (falling s.order f))
+        most_cond _ _ _ _ Degree (all_true _ (λ t. all_true _ (λ u. refl) (falling s.order g)) (falling s.order f)) (most_fold _ _ (row_at_most (falling s.order g)) (empty_sum rationals plain_cmp) (falling s.order f))
 
 -- ---- so an Ok is the mathematical value
 
-pub ok_is : {A : Type 0} (x y : A) → ◌≡◌ {A = Result A Cause} (Ok x) (Ok y) → x ≡ y
-ok_is {A} x y e = ap inside e
-  where
-    inside : Result A Cause → A
-    inside (Ok z) = z
-    inside (Err c) = x
-
--- what is at most an Ok is that Ok
-pub most_value : {A : Type 0} (r s : Result A Cause) (x y : A) → IsAtMost r s → r ≡ Ok x → s ≡ Ok y → x ≡ y
-most_value r s x y h e f = ok_is x y (sym (subst (λ q. IsAtMost q s) e h) ∙ f)
-
 module _ (l : Limits) where
   pub plus_value : (f g x : Operator rationals) → plus_within l f g ≡ Ok x → x ≡ f + g
-  plus_value f g x e = most_value _ _ x (f + g) (plus_at_most l f g) e (plus_unlimited f g)
+  plus_value f g x e = value_from (plus_within l f g) _ x (f + g) (plus_at_most l f g) (plus_unlimited f g) e
 
   pub times_value : (s : Signature) (f g x : Operator rationals) → times_within l s f g ≡ Ok x → x ≡ times rationals s f g
-  times_value s f g x e = most_value _ _ x (times rationals s f g) (times_at_most l s f g) e (times_unlimited s f g)
+  times_value s f g x e = value_from (times_within l s f g) _ x (times rationals s f g) (times_at_most l s f g) (times_unlimited s f g) e

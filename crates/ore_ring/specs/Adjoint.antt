@@ -6,7 +6,7 @@
 --     adjoint                  the same for each term of an operator
 use Rattle.std.specs.Prelude.{ℕ, zero, suc, List, [], ◌∷◌}
 use Rattle.ore_algebra.specs.Domain.{Domain}
-use Rattle.ore_algebra.specs.Free.{single, scale, extend}
+use Rattle.ore_algebra.specs.Free.{single, scale, linear_extension}
 use Rattle.ore_monomial.specs.Monomial.{Monomial, unit, plain_cmp}
 use Rattle.ore_monomial.specs.Signature.{Signature, kind_at}
 use Rattle.ore_monomial.specs.declared.signature.VarKind.{VarKind}
@@ -36,4 +36,4 @@ module _ (K : Domain) (s : Signature) where
   adjoint_monomial m = adjoint_letters_times 0 m.exponents (single K plain_cmp unit K.one)
 
   unfoldable pub adjoint : Operator K → Operator K
-  adjoint f = extend K plain_cmp adjoint_monomial f
+  adjoint f = linear_extension K plain_cmp adjoint_monomial f

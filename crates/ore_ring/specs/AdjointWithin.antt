@@ -9,7 +9,7 @@
 use Rattle.std.specs.Prelude.{ℕ, suc, Bool, not, cond, List, [], ◌∷◌}
 use Rattle.std.specs.declared.result.Result.{Result}
 use Rattle.ore_algebra.specs.Domain.{Domain}
-use Rattle.ore_algebra.specs.Free.{none}
+use Rattle.ore_algebra.specs.Free.{empty_sum}
 use Rattle.ore_algebra.specs.Limits.{Limits, Cause, ◌>>=◌, fold_within}
 use Rattle.ore_algebra.specs.Ring.{power}
 use Rattle.ore_rational.specs.Fraction.{mul}
@@ -18,8 +18,8 @@ use Rattle.ore_monomial.specs.Monomial.{Monomial, monomial_of, degree, plain_cmp
 use Rattle.ore_monomial.specs.Signature.{Signature, kind_at, is_coordinate}
 use Rattle.ore_monomial.specs.LetterRule.{Operator}
 use Rattle.ore_ring.specs.Terms.{Term, falling}
-use Rattle.ore_monomial.specs.Numbers.{numbers}
-use Rattle.ore_ring.specs.Within.{numbers_within, contribute}
+use Rattle.ore_monomial.specs.Numbers.{numbers, numbers_within}
+use Rattle.ore_ring.specs.Within.{contribute}
 
 -- these are the exponents of the variables from x on
 unfoldable pub kept_exponents : (ℕ → Bool) → ℕ → List ℕ → List ℕ
@@ -49,4 +49,4 @@ module _ (l : Limits) (s : Signature) where
 
   -- the terms in turn
   unfoldable pub adjoint_within : Operator rationals → Result (Operator rationals) Cause
-  adjoint_within f = fold_within adjoint_term_within (none rationals plain_cmp) (falling s.order f)
+  adjoint_within f = fold_within adjoint_term_within (empty_sum rationals plain_cmp) (falling s.order f)

@@ -19,9 +19,9 @@ use Rattle.ore_monomial.specs.Monomial.{Monomial, order_cmp}
 use Rattle.ore_monomial.specs.declared.order.Order.{Order}
 use Rattle.ore_monomial.specs.Signature.{Signature}
 use Rattle.ore_monomial.specs.LetterRule.{Operator}
-use Rattle.ore_monomial.specs.Numbers.{numbers}
+use Rattle.ore_monomial.specs.Numbers.{numbers, numbers_within}
 use Rattle.ore_ring.specs.Terms.{Term, Terms}
-use Rattle.ore_ring.specs.Within.{numbers_within, add_term_within}
+use Rattle.ore_ring.specs.Within.{add_term_within}
 use Rattle.ore_ring.specs.AdjointWithin.{coordinate_part, letter_part, sign_of}
 
 -- terms are added to an operator in turn

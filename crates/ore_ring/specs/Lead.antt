@@ -11,5 +11,5 @@ use Rattle.ore_monomial.specs.LetterRule.{Operator}
 
 pub record IsLead (K : Domain) (o : Order) (f : Operator K) (m : Monomial) (k : K.Number) : Type 0 where
   pub stands : coefficient K plain_cmp f m ≡ k
-  pub apart : k ≢ K.none
-  pub greatest : (q : Monomial) → coefficient K plain_cmp f q ≢ K.none → is_gt (order_cmp o q m) ≡ false
+  pub apart : k ≢ K.zero
+  pub greatest : (q : Monomial) → coefficient K plain_cmp f q ≢ K.zero → is_gt (order_cmp o q m) ≡ false

@@ -2,7 +2,7 @@
 --     kept             a term, unless its number is none
 --     merge_within     the sum, where the fraction of each shared monomial fits
 --     opposite_terms   the terms with each fraction negated
-use Rattle.std.specs.Prelude.{[], ◌∷◌, ◌++◌, map, pos}
+use Rattle.std.specs.Prelude.{[], ◌∷◌, map, pos}
 use Rattle.std.specs.declared.cmp.Ordering.{Ordering}
 use Rattle.std.specs.Ordering.{match_ordering}
 use Rattle.std.specs.declared.result.Result.{Result}
@@ -17,10 +17,6 @@ use Rattle.ore_ring.specs.Terms.{Term, Terms}
 
 abbrev pub kept : Monomial → Fraction → Terms → Terms
 kept m x ts = elim (fraction_discrete x (whole (pos 0))) [ yes e ↦ ts | no n ↦ (m, x) ∷ ts ]
-
--- the terms with a front before them
-abbrev pub with_front : Terms → Result Terms Cause → Result Terms Cause
-with_front front r = r >>= λ ts. Ok (front ++ ts)
 
 abbrev pub step_within : Limits → Ordering → Term → Term → Result Terms Cause → Result Terms Cause → Result Terms Cause → Result Terms Cause
 step_within l r t u left both right =

@@ -1,18 +1,17 @@
 -- The terms of an operator in falling order.
 --     Term, Terms      a monomial with its coefficient; a list of them
 --     falling          the terms of an operator over the fractions, the greatest first
---     AreNonZero       no number of a list of terms is none; AreApart over the fractions
+--     AreApart         no coefficient of a list of terms is none
 --     IsBelowLast      a monomial may be appended
 --     IsFalling        the terms fall, and no coefficient is none: what a stored operator is
-use Rattle.std.specs.Prelude.{◌≡◌, ◌≢◌, T, List, [], ◌∷◌}
+use Rattle.std.specs.Prelude.{◌≡◌, T, List, [], ◌∷◌}
 use Rattle.std.specs.declared.cmp.Ordering.TheVariants.{Less}
 use Rattle.std.specs.FinMap.{is_sorted}
 use Rattle.ore_rational.specs.Fraction.{Fraction}
-use Rattle.ore_algebra.specs.Domain.{Domain}
 use Rattle.ore_monomial.specs.Monomial.{Monomial, order_cmp}
 use Rattle.ore_monomial.specs.declared.order.Order.{Order}
 use Rattle.ore_monomial.specs.LetterRule.{Operator}
-use Rattle.ore_monomial.specs.Numbers.{back, falling_over}
+use Rattle.ore_monomial.specs.Numbers.{back, falling_over, AreNonZero}
 use Rattle.ore_rational.proofs.FractionLaws.{rationals}
 
 abbrev pub Term : Type 0
@@ -23,10 +22,6 @@ Terms = List (Monomial × Fraction)
 
 abbrev pub falling : Order → Operator rationals → Terms
 falling = falling_over rationals
-
-abbrev pub AreNonZero : (K : Domain) → List (Monomial × K.Number) → Type 0
-AreNonZero K [] = Unit {0}
-AreNonZero K (t ∷ ts) = (t.1 ≢ K.none) × AreNonZero K ts
 
 abbrev pub AreApart : Terms → Type 0
 AreApart = AreNonZero rationals

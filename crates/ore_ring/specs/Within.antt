@@ -3,16 +3,15 @@
 --     plus_within, minus_within         a sum; a difference, which is the sum with the opposite
 --     add_term_within                   a term added to an operator
 --     degrees_fit                       each product of two terms keeps the degree
---     numbers_within                    whole numbers, where each is in the range of a numerator
 --     contribute                        a fraction times a whole number of a product of monomials, added
 --     pair_within, row_within           the contributions of two terms; of one term and all of another operator
 --     times_within                      a product
-use Rattle.std.specs.Prelude.{◌+◌, Bool, true, cond, List, ℤ, pos, nat_abs}
+use Rattle.std.specs.Prelude.{◌+◌, Bool, true, cond, ℤ, pos}
 use Rattle.std.specs.declared.result.Result.{Result}
 use Rattle.std.specs.declared.result.Result.TheVariants.{Ok, Err}
 use Rattle.std.specs.List.{list_all}
-use Rattle.ore_algebra.specs.Free.{coefficient, terms, none, single, plus, scale}
-use Rattle.ore_algebra.specs.Limits.{Limits, Cause, Overflow, Degree, is_within, ◌>>=◌, where_test, fold_within}
+use Rattle.ore_algebra.specs.Free.{coefficient, terms, empty_sum, single, plus, scale}
+use Rattle.ore_algebra.specs.Limits.{Limits, Cause, Overflow, Degree, is_within, ◌>>=◌, guard, fold_within}
 use Rattle.ore_rational.specs.Fraction.{Fraction, whole}
 use Rattle.ore_rational.specs.Within.{sum_fits, sum_within, product_within}
 use Rattle.ore_rational.proofs.FractionLaws.{fraction_discrete, rationals}
@@ -20,7 +19,7 @@ use Rattle.ore_monomial.specs.Monomial.{Monomial, degree, plain_cmp}
 use Rattle.ore_monomial.specs.Signature.{Signature}
 use Rattle.ore_monomial.specs.LetterRule.{Operator}
 use Rattle.ore_ring.specs.Terms.{Term, Terms, falling}
-use Rattle.ore_monomial.specs.Numbers.{numbers}
+use Rattle.ore_monomial.specs.Numbers.{numbers, numbers_within}
 
 -- ---- sums
 
@@ -34,7 +33,7 @@ all_shared_fit l g ts = list_all (λ t. shared_fits l t.1 (coefficient rationals
 
 -- a sum fits where the fraction of each shared monomial does
 unfoldable pub plus_within : Limits → Operator rationals → Operator rationals → Result (Operator rationals) Cause
-plus_within l f g = where_test (all_shared_fit l g (terms rationals plain_cmp f)) (plus rationals plain_cmp f g) Overflow
+plus_within l f g = guard (all_shared_fit l g (terms rationals plain_cmp f)) (plus rationals plain_cmp f g) Overflow
 
 -- the operator with each fraction negated
 unfoldable pub opposite : Operator rationals → Operator rationals
@@ -55,10 +54,6 @@ add_term_within l f m c = do
 -- no two terms have degrees with too great a sum
 unfoldable pub degrees_fit : Limits → Terms → Terms → Bool
 degrees_fit l ts us = list_all (λ t. list_all (λ u. is_within l.degree (degree t.0 + degree u.0)) us) ts
-
--- whole numbers that are in the range of a numerator
-unfoldable pub numbers_within : Limits → List (Monomial × ℤ) → Result (List (Monomial × ℤ)) Cause
-numbers_within l ks = where_test (list_all (λ k. is_within l.magnitude (nat_abs k.1)) ks) ks Overflow
 
 -- a whole number of a product of monomials, times the fraction of that product, is a contribution
 unfoldable pub contribute : Limits → Fraction → Operator rationals → Monomial × ℤ → Result (Operator rationals) Cause
@@ -82,5 +77,5 @@ module _ (l : Limits) (s : Signature) where
   unfoldable pub times_within : Operator rationals → Operator rationals → Result (Operator rationals) Cause
   times_within f g =
       cond (degrees_fit l (falling s.order f) (falling s.order g))
-      (fold_within (row_within (falling s.order g)) (none rationals plain_cmp) (falling s.order f))
+      (fold_within (row_within (falling s.order g)) (empty_sum rationals plain_cmp) (falling s.order f))
       (Err Degree)

@@ -5,7 +5,7 @@ ghost use Rattle.std.specs.BTreeMap.{is_at};
 ghost use Rattle.std.specs.Cmp.Lexicographic.{slice_cmp};
 ghost use Rattle.std.specs.Map.{lookup};
 ghost use Rattle.std.specs.Ordering.{nat_cmp};
-ghost use Rattle.ore_algebra.specs.Free.{none};
+ghost use Rattle.ore_algebra.specs.Free.{empty_sum};
 ghost use Rattle.ore_algebra.specs.Limits.{program};
 ghost use Rattle.ore_rational.proofs.FractionLaws.{rationals};
 ghost use Rattle.ore_monomial.specs.Gives.{Turns};
@@ -51,7 +51,7 @@ impl Model for Gather {
 impl Gather {
     /// The operator zero.
     pub fn new(alloc: Global, order: Order) -> Gather
-        ensures { result ≡ record { by = order; sum = none rationals plain_cmp } }
+        ensures { result ≡ record { by = order; sum = empty_sum rationals plain_cmp } }
     {
         Gather {
             order,
@@ -84,7 +84,7 @@ impl Gather {
     }
 }
 
-// The fraction at a key, 0 where there is none.
+// The fraction at a key, 0 where there is empty_sum.
 fn number_at(map: &BTreeMap<[u16; 13], (Exps, Rational)>, key: &[u16; 13]) -> Rational
     ensures { result ≡ number_of (lookup (is_at (slice_cmp nat_cmp key.now)) map.now.entries) }
 {

@@ -18,9 +18,10 @@
 //! Each way to multiply two monomials, a `MonomialProduct`, makes one: sums, products and adjoints stand
 //! here once.
 //!
-//! The contributions of a product are collected in one vector, in the order that the definition says. Where
-//! they don't fall, a stable sort brings those of a monomial together, which keeps their order, and then
-//! they are added in turn (`sum_of_terms`). All sums stop for one cause, so this forms the same sums and
+//! The product of 1 and an operator is a copy of it (`proofs/OneTimes.antt`), and a product of fractions of which one is
+//! 1 is the other. Without those, the contributions of a product are collected in one vector, in the order that the
+//! definition says. Where they don't fall, a stable sort brings those of a monomial together, which keeps their order,
+//! and then they are added in turn (`sum_of_terms`). All sums stop for one cause, so this forms the same sums and
 //! answers the same (`proofs/Rearranged.antt`, `proofs/Contributed.antt`). A [`Gather`] is a sum that stays open for more
 //! terms: a sorted map, where a term costs a descent of a tree.
 //!
@@ -47,7 +48,7 @@ pub mod sum;
 
 pub use gather::Gather;
 pub use laws::law_value;
-pub use multiply::{MonomialProduct, times};
+pub use multiply::{MonomialProduct, degrees_fit, times};
 pub use op::{Op, lead};
 pub use reverse::adjoint;
 pub use ring::OreRing;

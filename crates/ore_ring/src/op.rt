@@ -1,7 +1,7 @@
 //! Operators.
 
 ghost use Rattle.std.specs.Prelude.{◌≡◌, ◌≢◌, length, slice_get, OnOk, OnErr, IfOk, MatchOption, IsTrue, ◌↔◌, pos};
-ghost use Rattle.ore_algebra.specs.Free.{none, single, plus, collect};
+ghost use Rattle.ore_algebra.specs.Free.{empty_sum, single, plus, collect};
 ghost use Rattle.ore_algebra.specs.Limits.{program};
 ghost use Rattle.ore_rational.specs.Fraction.{whole};
 ghost use Rattle.ore_rational.proofs.FractionLaws.{rationals};
@@ -10,7 +10,8 @@ ghost use Rattle.ore_monomial.specs.Monomial.{plain_cmp};
 ghost use Rattle.ore_ring.specs.Lead.{IsLead};
 ghost use Rattle.ore_ring.specs.Ordered.{Ordered};
 ghost use Rattle.ore_ring.specs.Terms.{falling, IsFalling, IsBelowLast};
-ghost use Rattle.ore_ring.specs.Within.{plus_within, add_term_within};
+ghost use Rattle.ore_ring.specs.Merge.{opposite_terms};
+ghost use Rattle.ore_ring.specs.Within.{plus_within, add_term_within, opposite};
 
 use crate::fraction::sum;
 use crate::place::{number_at, place, splice};
@@ -46,7 +47,7 @@ impl Model for Op {
 impl Op {
     /// The operator zero. Terms that are added to it later take memory from `alloc`.
     pub fn zero(alloc: Global, order: Order) -> Op
-        ensures { result ≡ record { by = order; sum = none rationals plain_cmp } }
+        ensures { result ≡ record { by = order; sum = empty_sum rationals plain_cmp } }
     {
         Op {
             order,
@@ -90,7 +91,7 @@ impl Op {
 
     /// Whether it has no term.
     pub fn is_zero(&self) -> bool
-        ensures { IsTrue result ↔ self.now.sum ≡ none rationals plain_cmp }
+        ensures { IsTrue result ↔ self.now.sum ≡ empty_sum rationals plain_cmp }
     {
         self.terms.is_empty()
     }
@@ -158,6 +159,19 @@ impl Op {
         splice(&mut self.terms, self.order, k, exps, coef)
     }
 
+    /// The operator with each fraction negated, in the memory of this one.
+    pub fn negated(self) -> Op
+        ensures by { result.by ≡ self.by }
+        ensures sum { result.sum ≡ opposite self.sum }
+    {
+        let Op {
+            order,
+            terms: mut terms,
+        } = self;
+        negate(&mut terms);
+        Op::from_terms(order, terms)
+    }
+
     /// The same operator again.
     pub fn copy(&self, alloc: Global) -> Result<Op, NoMemory>
         ensures { IfOk result (λ f. f ≡ self.now) }
@@ -171,9 +185,18 @@ impl Op {
     }
 }
 
+// Negates each fraction.
+fn negate(terms: &mut Vec<(Exps, Rational)>)
+    ensures { terms.new.items ≡ opposite_terms terms.old.items }
+{
+    for term in terms.iter_mut() {
+        term.1 = term.1.neg();
+    }
+}
+
 /// The greatest term.
 pub fn lead(op: &Op) -> Option<(Exps, Rational)>
-    ensures { MatchOption result (op.now.sum ≡ none rationals plain_cmp) (λ t. IsLead rationals op.now.by op.now.sum t.0 t.1) }
+    ensures { MatchOption result (op.now.sum ≡ empty_sum rationals plain_cmp) (λ t. IsLead rationals op.now.by op.now.sum t.0 t.1) }
 {
     op.get(0)
 }

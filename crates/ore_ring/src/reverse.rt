@@ -21,9 +21,9 @@ use std::alloc::Global;
 
 /// The adjoint of an operator.
 pub fn adjoint<P: MonomialProduct>(p: &P, alloc: Global, a: &Op) -> Result<Op, RingStop>
-    requires { Belongs (P.signature_of p.now) a.now }
-    ensures gives { Gives (λ f. f.sum) result (adjoint_within program (P.signature_of p.now) a.now.sum) }
-    ensures of { IfOk result (Belongs (P.signature_of p.now)) }
+    requires { Belongs (P.sig p.now) a.now }
+    ensures gives { Gives (λ f. f.sum) result (adjoint_within program (P.sig p.now) a.now.sum) }
+    ensures of { IfOk result (Belongs (P.sig p.now)) }
 {
     let mut contributions = Vec::new(alloc);
     push_terms(p, alloc, &mut contributions, a.terms())?;
@@ -37,7 +37,7 @@ fn push_terms<P: MonomialProduct>(
     out: &mut Vec<(Exps, Rational)>,
     ts: &[(Exps, Rational)],
 ) -> Result<(), RingStop>
-    ensures { Turns result out.new.items (fold_within (push_adjoint program (P.signature_of p.now)) out.old.items ts.now) }
+    ensures { Turns result out.new.items (fold_within (push_adjoint program (P.sig p.now)) out.old.items ts.now) }
 {
     for t in ts {
         push_term(p, alloc, out, t)?;
@@ -53,7 +53,7 @@ fn push_term<P: MonomialProduct>(
     out: &mut Vec<(Exps, Rational)>,
     t: &(Exps, Rational),
 ) -> Result<(), RingStop>
-    ensures { Turns result out.new.items (push_adjoint program (P.signature_of p.now) out.old.items t.now) }
+    ensures { Turns result out.new.items (push_adjoint program (P.sig p.now) out.old.items t.now) }
 {
     let (coordinates, letters) = split(p.signature(), &t.0);
     let coef = signed(&coordinates, t.1);

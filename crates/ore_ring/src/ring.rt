@@ -24,31 +24,31 @@ use std::alloc::Global;
 /// give the same. Operators that are handed in belong to the signature, and so do those that are answered.
 pub trait OreRing {
     /// Its signature.
-    ghost signature_of: { Self → Lawful };
+    ghost sig: { Self → Lawful };
 
     /// Its signature.
     fn signature(&self) -> &Signature
-        ensures { result.now ≡ signature_of self.now };
+        ensures { result.now ≡ sig self.now };
 
     /// The sum.
     ///
     /// # Errors
     /// Overflow where the fraction of a monomial of both leaves the range, and want of memory.
     fn add(&self, alloc: Global, a: &Op, b: &Op) -> Result<Op, RingStop>
-        requires a_of { Belongs (signature_of self.now) a.now }
-        requires b_of { Belongs (signature_of self.now) b.now }
+        requires a_of { Belongs (sig self.now) a.now }
+        requires b_of { Belongs (sig self.now) b.now }
         ensures gives { Gives (λ f. f.sum) result (plus_within program a.now.sum b.now.sum) }
-        ensures of { IfOk result (Belongs (signature_of self.now)) };
+        ensures of { IfOk result (Belongs (sig self.now)) };
 
     /// The difference.
     ///
     /// # Errors
     /// Those of the sum with the opposite of `b`.
     fn sub(&self, alloc: Global, a: &Op, b: &Op) -> Result<Op, RingStop>
-        requires a_of { Belongs (signature_of self.now) a.now }
-        requires b_of { Belongs (signature_of self.now) b.now }
+        requires a_of { Belongs (sig self.now) a.now }
+        requires b_of { Belongs (sig self.now) b.now }
         ensures gives { Gives (λ f. f.sum) result (minus_within program a.now.sum b.now.sum) }
-        ensures of { IfOk result (Belongs (signature_of self.now)) };
+        ensures of { IfOk result (Belongs (sig self.now)) };
 
     /// The product.
     ///
@@ -56,19 +56,19 @@ pub trait OreRing {
     /// Degree where two monomials have degrees with a sum above 32,767, else Overflow where a number that
     /// forms the product leaves the range, and want of memory.
     fn mul(&self, alloc: Global, a: &Op, b: &Op) -> Result<Op, RingStop>
-        requires a_of { Belongs (signature_of self.now) a.now }
-        requires b_of { Belongs (signature_of self.now) b.now }
-        ensures gives { Gives (λ f. f.sum) result (times_within program (signature_of self.now) a.now.sum b.now.sum) }
-        ensures of { IfOk result (Belongs (signature_of self.now)) };
+        requires a_of { Belongs (sig self.now) a.now }
+        requires b_of { Belongs (sig self.now) b.now }
+        ensures gives { Gives (λ f. f.sum) result (times_within program (sig self.now) a.now.sum b.now.sum) }
+        ensures of { IfOk result (Belongs (sig self.now)) };
 
     /// The adjoint, which negates the coordinates and reverses products.
     ///
     /// # Errors
     /// Overflow where a number that forms it leaves the range, and want of memory.
     fn adjoint(&self, alloc: Global, a: &Op) -> Result<Op, RingStop>
-        requires { Belongs (signature_of self.now) a.now }
-        ensures gives { Gives (λ f. f.sum) result (adjoint_within program (signature_of self.now) a.now.sum) }
-        ensures of { IfOk result (Belongs (signature_of self.now)) };
+        requires { Belongs (sig self.now) a.now }
+        ensures gives { Gives (λ f. f.sum) result (adjoint_within program (sig self.now) a.now.sum) }
+        ensures of { IfOk result (Belongs (sig self.now)) };
 
     /// The same operator once more.
     ///
@@ -81,7 +81,7 @@ pub trait OreRing {
 
 /// Each way to multiply monomials makes a ring.
 impl<P: MonomialProduct> OreRing for P {
-    ghost signature_of = { λ r. P.MonomialProduct.signature_of r };
+    ghost sig = { λ r. P.MonomialProduct.sig r };
 
     fn signature(&self) -> &Signature {
         MonomialProduct::signature(self)
@@ -107,6 +107,3 @@ impl<P: MonomialProduct> OreRing for P {
         Ok(a.copy(alloc)?)
     }
 }
-
-#[cfg(test)]
-mod tests;

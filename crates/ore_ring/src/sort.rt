@@ -2,7 +2,7 @@
 
 ghost use Rattle.std.specs.Prelude.{◌≡◌, ◌≢◌, IfOk, true, pos};
 ghost use Rattle.std.specs.List.Sorted.{IsStableBy};
-ghost use Rattle.ore_algebra.specs.Free.{none};
+ghost use Rattle.ore_algebra.specs.Free.{empty_sum};
 ghost use Rattle.ore_algebra.specs.Limits.{program};
 ghost use Rattle.ore_rational.specs.Fraction.{whole};
 ghost use Rattle.ore_rational.proofs.FractionLaws.{rationals};
@@ -28,7 +28,7 @@ pub fn sum_of_terms(
     order: Order,
     terms: Vec<(Exps, Rational)>,
 ) -> Result<Op, RingStop>
-    ensures gives { Gives (λ f. f.sum) result (add_terms_within program (none rationals plain_cmp) terms.items) }
+    ensures gives { Gives (λ f. f.sum) result (add_terms_within program (empty_sum rationals plain_cmp) terms.items) }
     ensures by { IfOk result (λ f. f.by ≡ order) }
 {
     if are_falling(order, &terms) {

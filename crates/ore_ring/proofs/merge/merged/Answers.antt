@@ -2,7 +2,8 @@ use Rattle.std.proofs.Common.{◌+◌, drop, sym, ap, ◌∙◌, arith}
 use Rattle.std.specs.declared.result.Result.TheVariants.{Ok}
 use Rattle.std.proofs.lemmas.Result.{err_from_is_err_and}
 use Rattle.ore_algebra.specs.Limits.{program}
-use Rattle.ore_ring.specs.Merge.{merge_within, with_front}
+use Rattle.ore_algebra.specs.Results.{fronted}
+use Rattle.ore_ring.specs.Merge.{merge_within}
 use Rattle.ore_ring.proofs.MergeSteps.{at_less, at_greater, at_equal, at_stop, at_end_left, at_end_right, both_ends}
 use Rattle.ore_monomial.proofs.Stops.{fails_like}
 use Rattle.ore_ring.proofs.merge.merged.Goals as goal
@@ -12,7 +13,7 @@ pub loop-i-preserved-in-Less : goal.loop-i-preserved-in-Less
 loop-i-preserved-in-Less c = record {
   first = c.loop-i.invariant.first;
   second = omega arith;
-  whole = ap (λ f. with_front f (merge_within program c.args.order (drop c.loop-i.i c.args.a.now) (drop (c.loop-i.j + 1) c.args.b.now))) c.in_ok-push-in-Less.ensures.items
+  whole = ap (λ f. fronted f (merge_within program c.args.order (drop c.loop-i.i c.args.a.now) (drop (c.loop-i.j + 1) c.args.b.now))) c.in_ok-push-in-Less.ensures.items
       ∙ sym (at_less program c.args.order c.loop-i.out.items c.index-a-i.result c.index-b-j.result c.args.a.now c.args.b.now c.loop-i.i c.loop-i.j c.index-a-i.is c.loop-i-test.true c.index-b-j.is c.if-j-b.true (sym c.in-Less.is ∙ c.compare.ensures))
       ∙ c.loop-i.invariant.whole;
 }
@@ -27,7 +28,7 @@ pub loop-i-preserved-in-Equal : goal.loop-i-preserved-in-Equal
 loop-i-preserved-in-Equal c = record {
   first = omega arith;
   second = omega arith;
-  whole = ap (λ f. with_front f (merge_within program c.args.order (drop (c.loop-i.i + 1) c.args.a.now) (drop (c.loop-i.j + 1) c.args.b.now))) c.in_ok-keep-in-Equal.ensures
+  whole = ap (λ f. fronted f (merge_within program c.args.order (drop (c.loop-i.i + 1) c.args.a.now) (drop (c.loop-i.j + 1) c.args.b.now))) c.in_ok-keep-in-Equal.ensures
       ∙ sym (at_equal program c.args.order c.loop-i.out.items c.index-a-i.result c.index-b-j.result c.args.a.now c.args.b.now c.loop-i.i c.loop-i.j c.index-a-i.is c.loop-i-test.true c.index-b-j.is c.if-j-b.true (sym c.in-Equal.is ∙ c.compare.ensures) c.in_ok-s-in-Equal.s c.in_ok-s-in-Equal.ensures)
       ∙ c.loop-i.invariant.whole;
 }
@@ -36,7 +37,7 @@ pub loop-i-preserved : goal.loop-i-preserved
 loop-i-preserved c = record {
   first = omega arith;
   second = c.loop-i.invariant.second;
-  whole = ap (λ f. with_front f (merge_within program c.args.order (drop (c.loop-i.i + 1) c.args.a.now) (drop c.loop-i.j c.args.b.now))) c.in_ok-push-in-Greater.ensures.items
+  whole = ap (λ f. fronted f (merge_within program c.args.order (drop (c.loop-i.i + 1) c.args.a.now) (drop c.loop-i.j c.args.b.now))) c.in_ok-push-in-Greater.ensures.items
       ∙ sym (at_greater program c.args.order c.loop-i.out.items c.index-a-i.result c.index-b-j.result c.args.a.now c.args.b.now c.loop-i.i c.loop-i.j c.index-a-i.is c.loop-i-test.true c.index-b-j.is c.if-j-b.true (sym c.in-Greater.is ∙ c.compare.ensures))
       ∙ c.loop-i.invariant.whole;
 }

@@ -3,9 +3,10 @@ use Rattle.std.specs.declared.result.Result.TheVariants.{Ok}
 use Rattle.std.proofs.lemmas.List.{length-map}
 use Rattle.std.proofs.lemmas.Result.{err_from_is_err_and}
 use Rattle.ore_algebra.specs.Limits.{program}
+use Rattle.ore_algebra.specs.Results.{fronted}
 use Rattle.ore_rational.specs.Fraction.{neg}
 use Rattle.ore_ring.specs.Terms.{Term}
-use Rattle.ore_ring.specs.Merge.{merge_within, with_front, opposite_terms}
+use Rattle.ore_ring.specs.Merge.{merge_within, opposite_terms}
 use Rattle.ore_ring.proofs.MergeSteps.{at_less, at_greater, at_equal, at_stop, at_end_left, at_end_right, opposite_at, less_ends}
 use Rattle.ore_monomial.proofs.Stops.{fails_like}
 use Rattle.ore_ring.proofs.merge.merged_less.Goals as goal
@@ -17,7 +18,7 @@ loop-i-preserved-in-Less c =
     record {
       first = c.loop-i.invariant.first;
       second = omega arith;
-      whole = ap (λ f. with_front f (merge_within program c.args.order (drop c.loop-i.i c.args.a.now) (drop (c.loop-i.j + 1) (opposite_terms c.args.b.now)))) c.in_ok-push-in-Less.ensures.items
+      whole = ap (λ f. fronted f (merge_within program c.args.order (drop c.loop-i.i c.args.a.now) (drop (c.loop-i.j + 1) (opposite_terms c.args.b.now)))) c.in_ok-push-in-Less.ensures.items
           ∙ sym (at_less program c.args.order c.loop-i.out.items c.index-a-i.result c.negated-u.result c.args.a.now (opposite_terms c.args.b.now) c.loop-i.i c.loop-i.j c.index-a-i.is c.loop-i-test.true at.0 at.1 (sym c.in-Less.is ∙ c.compare.ensures))
           ∙ c.loop-i.invariant.whole;
     }
@@ -35,7 +36,7 @@ loop-i-preserved-in-Equal c =
     record {
       first = omega arith;
       second = omega arith;
-      whole = ap (λ f. with_front f (merge_within program c.args.order (drop (c.loop-i.i + 1) c.args.a.now) (drop (c.loop-i.j + 1) (opposite_terms c.args.b.now)))) c.in_ok-keep-in-Equal.ensures
+      whole = ap (λ f. fronted f (merge_within program c.args.order (drop (c.loop-i.i + 1) c.args.a.now) (drop (c.loop-i.j + 1) (opposite_terms c.args.b.now)))) c.in_ok-keep-in-Equal.ensures
           ∙ sym (at_equal program c.args.order c.loop-i.out.items c.index-a-i.result c.negated-u.result c.args.a.now (opposite_terms c.args.b.now) c.loop-i.i c.loop-i.j c.index-a-i.is c.loop-i-test.true at.0 at.1 (sym c.in-Equal.is ∙ c.compare.ensures) c.in_ok-s-in-Equal.s c.in_ok-s-in-Equal.ensures)
           ∙ c.loop-i.invariant.whole;
     }
@@ -46,7 +47,7 @@ loop-i-preserved c =
     record {
       first = omega arith;
       second = c.loop-i.invariant.second;
-      whole = ap (λ f. with_front f (merge_within program c.args.order (drop (c.loop-i.i + 1) c.args.a.now) (drop c.loop-i.j (opposite_terms c.args.b.now)))) c.in_ok-push-in-Greater.ensures.items
+      whole = ap (λ f. fronted f (merge_within program c.args.order (drop (c.loop-i.i + 1) c.args.a.now) (drop c.loop-i.j (opposite_terms c.args.b.now)))) c.in_ok-push-in-Greater.ensures.items
           ∙ sym (at_greater program c.args.order c.loop-i.out.items c.index-a-i.result c.negated-u.result c.args.a.now (opposite_terms c.args.b.now) c.loop-i.i c.loop-i.j c.index-a-i.is c.loop-i-test.true at.0 at.1 (sym c.in-Greater.is ∙ c.compare.ensures))
           ∙ c.loop-i.invariant.whole;
     }

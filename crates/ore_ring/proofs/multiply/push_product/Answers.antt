@@ -11,11 +11,11 @@ use Rattle.ore_ring.proofs.multiply.push_product.Goals as goal
 
 pub push_numbers-requires : goal.push_numbers-requires
 push_numbers-requires g c =
-    subst AreWhole (sym c.deref.ensures.value) (whole_of (numbers (g.P.MonomialProduct.signature_of c.args.p.now) c.args.left.now c.args.right.now) c.in_ok-ks.ks.items c.in_ok-ks.ensures)
+    subst AreWhole (sym c.deref.ensures.value) (whole_of (numbers (g.P.MonomialProduct.sig c.args.p.now) c.args.left.now c.args.right.now) c.in_ok-ks.ks.items c.in_ok-ks.ensures)
 
 pub returns-then-meets_none : goal.returns-then-meets_none
 returns-then-meets_none g c =
-    let s = g.P.MonomialProduct.signature_of c.args.p.now in
+    let s = g.P.MonomialProduct.sig c.args.p.now in
     let none = c.meets_none.ensures c.if-meets_none.true in
     subst (Turns c.push_number.result c.push_number.new.out.items)
     (ap (λ m. push_number program c.args.uv c.args.out.now.items (m, pos 1)) c.in_ok-both.ensures.1

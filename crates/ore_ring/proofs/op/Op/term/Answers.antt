@@ -19,7 +19,7 @@ push-requires-clause-below c =
 
 pub returns-then-is_zero : goal.returns-then-is_zero
 returns-then-is_zero c =
-    let e = sym (ap (single rationals plain_cmp c.args.exps) (c.is_zero.ensures.0 c.if-is_zero.true) ∙ Operators.single_none rationals c.args.exps) in
+    let e = sym (ap (single rationals plain_cmp c.args.exps) (c.is_zero.ensures.0 c.if-is_zero.true) ∙ Operators.single_zero rationals c.args.exps) in
     c.zero-made.ensures ∙ (λ i. record { by = c.args.order; sum = e i })
 
 pub returns : goal.returns
@@ -27,5 +27,5 @@ unfolding more
 returns c =
     let one = single rationals plain_cmp c.args.exps c.args.coef in
     let h : c.push.new.self ≡ record { by = c.zero-made.result.by; sum = plus rationals plain_cmp c.zero-made.result.sum one } = c.in_ok-push.ensures.ok in
-    let e = Operators.none-plus rationals one in
+    let e = Operators.zero-plus rationals one in
     h ∙ ap (more one) c.zero-made.ensures ∙ (λ i. record { by = c.args.order; sum = e i })

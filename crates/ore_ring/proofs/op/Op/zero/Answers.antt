@@ -1,7 +1,7 @@
 use Rattle.std.proofs.Common.{refl}
-use Rattle.ore_algebra.specs.Free.{none}
+use Rattle.ore_algebra.specs.Free.{empty_sum}
 use Rattle.ore_ring.proofs.op.Op.zero.Goals as goal
 
 pub returns : goal.returns
-unfolding none
+unfolding empty_sum
 returns c = rw c.new.ensures.items refl
