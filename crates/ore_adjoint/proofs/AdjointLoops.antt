@@ -1,17 +1,18 @@
 -- The loops that form a transposed adjoint.
---     front_more                    what is formed is the front of what is still to be formed: one item more
 --     item_next, item_stops         of a list that is mapped within limits, the first item: it gives a value; it stops
 --     item_end                      no item is left
 --     entries_next, entries_end     the entries of a column from row i on: that of row i and those behind it; past the last row none
 --     columns_next, columns_end     the places of the columns from j on: j and those behind it; past the last column none
-use Rattle.std.proofs.Common.{◌≡◌, ℕ, suc, ◌+◌, ◌-◌, ◌<◌, ◌≤◌, List, [], ◌∷◌, ◌++◌, map, drop, length, get_or, Some, refl, sym, ap, ◌∙◌, append_assoc, append-nil, arith}
+use Rattle.std.proofs.Common.{◌≡◌, ℕ, suc, ◌+◌, ◌-◌, ◌<◌, ◌≤◌, List, [], ◌∷◌, ◌++◌, map, drop, length, get_or, Some, ap, ◌∙◌, append-nil, arith}
 use Rattle.std.specs.List.{range_with_len, slice_get}
 use Rattle.std.specs.declared.result.Result.{Result}
 use Rattle.std.specs.declared.result.Result.TheVariants.{Ok, Err}
 use Rattle.std.proofs.lemmas.List.{drop_more, at_drop_all}
 use Rattle.std.proofs.lemmas.Option.{slice_get_within, get_or_from_slice_get}
-use Rattle.ore_algebra.specs.Free.{none}
-use Rattle.ore_algebra.specs.Limits.{Cause, ◌>>=◌, map_within, fronted}
+use Rattle.ore_algebra.specs.Free.{empty_sum}
+use Rattle.ore_algebra.specs.Limits.{Cause, map_within}
+use Rattle.ore_algebra.specs.Results.{◌>>=◌, fronted}
+use Rattle.ore_algebra.proofs.ResultLaws.{front_more}
 use Rattle.ore_rational.proofs.FractionLaws.{rationals}
 use Rattle.ore_monomial.specs.Monomial.{plain_cmp}
 use Rattle.ore_monomial.specs.Signature.{Signature}
@@ -21,10 +22,6 @@ use Rattle.ore_rows.specs.Stored.{sums_of}
 use Rattle.ore_rows.proofs.Dots.{entry_place}
 
 -- ---- lists
-
-front_more : {B : Type 0} (front : List B) (y : B) (r : Result (List B) Cause) → fronted front (r >>= λ ys. Ok (y ∷ ys)) ≡ fronted (front ++ y ∷ []) r
-front_more front y (Ok ys) = ap Ok (sym (append_assoc front (y ∷ []) ys))
-front_more front y (Err e) = refl
 
 pub item_next : {A B : Type 0} (f : A → Result B Cause) (front : List B) (x : A) (xs : List A) (y : B) → f x ≡ Ok y → fronted front (map_within f (x ∷ xs)) ≡ fronted (front ++ y ∷ []) (map_within f xs)
 item_next f front x xs y e = ap (λ r. fronted front (r >>= λ y. map_within f xs >>= λ ys. Ok (y ∷ ys))) e ∙ front_more front y (map_within f xs)
@@ -43,7 +40,7 @@ module _ (s : Signature) (j : ℕ) (rows : List (List Ordered)) where
   unfolding column
   entries_next i row entry h k =
       ap (λ rs. column rationals s j (map sums_of rs)) (drop_more rows i row (slice_get_within rows i row h))
-      ∙ ap (λ r. get_or (sums_of r) j (none rationals plain_cmp) ∷ column rationals s j (map sums_of (drop (i + 1) rows))) (get_or_from_slice_get rows i row row h)
+      ∙ ap (λ r. get_or (sums_of r) j (empty_sum rationals plain_cmp) ∷ column rationals s j (map sums_of (drop (i + 1) rows))) (get_or_from_slice_get rows i row row h)
       ∙ ap (λ f. f ∷ column rationals s j (map sums_of (drop (i + 1) rows))) (entry_place row j entry k)
 
   pub entries_end : (i : ℕ) → length rows ≤ i → column rationals s j (map sums_of (drop i rows)) ≡ []

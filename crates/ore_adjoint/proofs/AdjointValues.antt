@@ -1,25 +1,21 @@
 -- What the transposed adjoint within limits gives.
 --     column_unlimited      without limits: the adjoints of a column
 --     columns_are           those of the columns from one place on are the rows of the transposed adjoint from there on
---     adjoint_most          the adjoint of an operator within limits is what it is without, or stops
 --     matrix_unlimited      without limits it is the transposed adjoint
 --     matrix_at_most        within limits it is what it is without, or stops
 --     matrix_value          so an Ok is the transposed adjoint
-use Rattle.std.proofs.Common.{◌≡◌, ℕ, zero, suc, ◌+◌, List, ◌∷◌, map, refl, ap, ◌∙◌, subst, arith}
+use Rattle.std.proofs.Common.{◌≡◌, ℕ, zero, suc, ◌+◌, List, ◌∷◌, map, refl, ap, ◌∙◌, arith}
 use Rattle.std.specs.List.{range_with_len}
-use Rattle.std.specs.declared.result.Result.{Result}
-use Rattle.std.specs.declared.result.Result.TheVariants.{Ok, Err}
-use Rattle.ore_algebra.specs.Limits.{Limits, Cause, unlimited, IsAtMost}
-use Rattle.ore_algebra.proofs.LimitLaws.{most_value}
+use Rattle.std.specs.declared.result.Result.TheVariants.{Ok}
+use Rattle.ore_algebra.specs.Limits.{Limits, unlimited, IsAtMost}
+use Rattle.ore_algebra.proofs.LimitLaws.{most_map, value_from}
 use Rattle.ore_rational.proofs.FractionLaws.{rationals}
 use Rattle.ore_monomial.specs.Signature.{Signature}
-use Rattle.ore_monomial.specs.LetterRule.{Operator}
 use Rattle.ore_ring.specs.Adjoint.{adjoint}
 use Rattle.ore_ring.specs.AdjointWithin.{adjoint_within}
 use Rattle.ore_ring.proofs.AdjointLaws.{adjoint_unlimited, adjoint_at_most}
-use Rattle.ore_ring.proofs.WithinLaws as Ring
 use Rattle.ore_rows.specs.Rows.{Row, column, adjoint_columns, transpose_adjoint}
-use Rattle.ore_rows.proofs.WithinValues.{map_unlimited, most_map}
+use Rattle.ore_rows.proofs.WithinValues.{map_unlimited}
 use Rattle.ore_adjoint.specs.AdjointMatrix.{adjoint_column_within, transpose_adjoint_within}
 
 module _ (s : Signature) where
@@ -41,18 +37,9 @@ module _ (s : Signature) where
       ∙ ap Ok (columns_are 0 n a)
 
 module _ (l : Limits) (s : Signature) where
-  -- in the words of `Limits`
-  adjoint_most : (f : Operator rationals) → IsAtMost (adjoint_within l s f) (adjoint_within unlimited s f)
-  adjoint_most f = in_words (adjoint_within l s f) (adjoint_within unlimited s f) (adjoint_at_most l s f)
-    where
-      in_words : {A : Type 0} (r t : Result A Cause) → Ring.IsAtMost r t → IsAtMost r t
-      in_words (Ok x) t h = h
-      in_words (Err e) t h = tt
-
   pub matrix_at_most : (n : ℕ) (a : List (Row rationals)) → IsAtMost (transpose_adjoint_within l s n a) (transpose_adjoint_within unlimited s n a)
-  matrix_at_most n a = most_map _ _ (λ j. most_map _ _ adjoint_most (column rationals s j a)) (range_with_len 0 n)
+  matrix_at_most n a = most_map _ _ (λ j. most_map _ _ (adjoint_at_most l s) (column rationals s j a)) (range_with_len 0 n)
 
   pub matrix_value : (n : ℕ) (a x : List (Row rationals)) → transpose_adjoint_within l s n a ≡ Ok x → x ≡ transpose_adjoint rationals s n a
   matrix_value n a x e =
-      most_value (transpose_adjoint_within l s n a) x (transpose_adjoint rationals s n a)
-      (subst (IsAtMost (transpose_adjoint_within l s n a)) (matrix_unlimited s n a) (matrix_at_most n a)) e
+      value_from (transpose_adjoint_within l s n a) _ x (transpose_adjoint rationals s n a) (matrix_at_most n a) (matrix_unlimited s n a) e

@@ -1,3 +1,2 @@
-mod TestRing
 pub mod AdjointLoops
 pub mod AdjointValues

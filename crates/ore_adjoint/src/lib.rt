@@ -17,6 +17,3 @@ pub mod laws;
 pub mod matrix;
 
 pub use matrix::transpose_adjoint;
-
-#[cfg(test)]
-mod tests;

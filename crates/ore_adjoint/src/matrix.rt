@@ -24,11 +24,11 @@ pub fn transpose_adjoint<R: OreRing>(
     alloc: Global,
     m: &Matrix,
 ) -> Result<Matrix, RingStop>
-    requires of { All (All (Belongs (R.signature_of ring.now))) m.now.rows }
-    ensures gives { Gives rows_of result (transpose_adjoint_within program (R.signature_of ring.now) m.now.cols (rows_of m.now)) }
+    requires of { All (All (Belongs (R.sig ring.now))) m.now.rows }
+    ensures gives { Gives rows_of result (transpose_adjoint_within program (R.sig ring.now) m.now.cols (rows_of m.now)) }
     ensures cols { IfOk result (λ t. t.cols ≡ length m.now.rows) }
     ensures count { IfOk result (λ t. length t.rows ≡ m.now.cols) }
-    ensures of { IfOk result (λ t. All (All (Belongs (R.signature_of ring.now))) t.rows) }
+    ensures of { IfOk result (λ t. All (All (Belongs (R.sig ring.now))) t.rows) }
 {
     let mut out = Vec::new(alloc);
     for j in 0..m.cols() {
@@ -44,10 +44,10 @@ fn adjoint_column<R: OreRing>(
     m: &Matrix,
     j: usize,
 ) -> Result<Row, RingStop>
-    requires of { All (All (Belongs (R.signature_of ring.now))) m.now.rows }
+    requires of { All (All (Belongs (R.sig ring.now))) m.now.rows }
     requires place { j < m.now.cols }
-    ensures gives { Gives sums_of result (adjoint_column_within program (R.signature_of ring.now) j (rows_of m.now)) }
-    ensures of { IfOk result (All (Belongs (R.signature_of ring.now))) }
+    ensures gives { Gives sums_of result (adjoint_column_within program (R.sig ring.now) j (rows_of m.now)) }
+    ensures of { IfOk result (All (Belongs (R.sig ring.now))) }
     ensures width { IfOk result (λ r. length r ≡ length m.now.rows) }
 {
     let mut out = Vec::new(alloc);
@@ -59,9 +59,9 @@ fn adjoint_column<R: OreRing>(
 
 // The adjoint of an entry; that of zero is zero, and isn't formed.
 fn adjoint<R: OreRing>(ring: &R, alloc: Global, f: &Op) -> Result<Op, RingStop>
-    requires { Belongs (R.signature_of ring.now) f.now }
-    ensures gives { Gives (λ f. f.sum) result (adjoint_within program (R.signature_of ring.now) f.now.sum) }
-    ensures of { IfOk result (Belongs (R.signature_of ring.now)) }
+    requires { Belongs (R.sig ring.now) f.now }
+    ensures gives { Gives (λ f. f.sum) result (adjoint_within program (R.sig ring.now) f.now.sum) }
+    ensures of { IfOk result (Belongs (R.sig ring.now)) }
 {
     if f.is_zero() {
         return Ok(Op::zero(alloc, ring.signature().order()));

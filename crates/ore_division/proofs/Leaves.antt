@@ -2,6 +2,7 @@
 --     reduction_ends           no lead of the basis divides the lead of the rest
 --     reduction_takes          the steps and the rest make up the row, and likewise the cofactor row
 --     reduction_stays_below    all of it stays below a term that is above the row
+--     IsLeft, left             the rest is what the steps leave of the row, and likewise the cofactor row
 --     sum-after                steps together with what they leave
 --     row_plus-swap            sums of three rows
 use Rattle.std.proofs.Common.{◌≡◌, ℕ, zero, suc, pred, ◌<◌, List, [], ◌∷◌, ◌++◌, length, refl, sym, ap, ◌∙◌, subst, append_assoc, append-nil, arith}
@@ -22,7 +23,7 @@ use Rattle.ore_leads.proofs.Dividing.{first_divisor-None}
 use Rattle.ore_rows.specs.Rows.{Row, zero_row, row_plus, row_minus}
 use Rattle.ore_rows.specs.RowLead.{IsRowBelow}
 use Rattle.ore_rows.specs.Arithmetic.{Arithmetic, IsSound}
-use Rattle.ore_rows.specs.Reduction.{Monic, Step, Work, rows_of, cofactors_of, leads_of, row_at, origin, step_operator, after, reduce}
+use Rattle.ore_rows.specs.Reduction.{Monic, Step, Work, basis_rows, cofactors_of, leads_of, row_at, origin, step_operator, after, reduce}
 use Rattle.ore_rows.proofs.Differences.{row_minus_back, length-row_minus}
 use Rattle.ore_rows.proofs.GreatestTerms.{row_lead-Some, row_lead_from}
 use Rattle.ore_rows.proofs.RowLaws.{length-row_scale}
@@ -46,7 +47,7 @@ module _ (K : Domain) where
   zero-row_plus zero [] e = refl
   zero-row_plus (suc n) [] e = absurd (omega arith)
   zero-row_plus zero (f ∷ r) e = absurd (omega arith)
-  zero-row_plus (suc n) (f ∷ r) e = λ i. Operators.none-plus K f i ∷ zero-row_plus n r (ap pred e) i
+  zero-row_plus (suc n) (f ∷ r) e = λ i. Operators.zero-plus K f i ∷ zero-row_plus n r (ap pred e) i
 
 -- no steps leave the row
 after_none : (K : Domain) (s : Signature) (rows : List (Row K)) (z : Row K) → z ≡ after K s rows [] z
@@ -78,31 +79,31 @@ module _ (K : Domain) (s : Signature) (lawful : IsLawful s) (A : Arithmetic K) (
       let none = reduced K s lawful s.order A sound basis n good.monic good.rows w rest l e in
       first_divisor-None (leads_of basis) t origin (next_step-None K s.order basis rest.row none t (row_lead_from K s.order rest.row t k a)) i (let same = length-map basis (λ b. b.lead) in omega arith)
 
-  wide_row : (i : ℕ) → i < length (rows_of basis) → length (row_at (rows_of basis) i) ≡ n
+  wide_row : (i : ℕ) → i < length (basis_rows basis) → length (row_at (basis_rows basis) i) ≡ n
   wide_row i h = let same = length-map basis (λ b. b.row) in let inside : i < length basis = omega arith in ap length (get_or-map (λ b. b.row) basis i blank [] inside) ∙ good.rows i blank inside
 
   wide_cofactor : (i : ℕ) → i < length (cofactors_of basis) → length (row_at (cofactors_of basis) i) ≡ m
   wide_cofactor i h = let same = length-map basis (λ b. b.cofactor) in let inside : i < length basis = omega arith in ap length (get_or-map (λ b. b.cofactor) basis i blank [] inside) ∙ good.cofactors i blank inside
 
   -- the steps so far, and what they leave
-  record IsLeft (w : Work K) (steps : List (Step K)) (v : Work K) : Type 0 where
-    listed : v.steps ≡ w.steps ++ steps
-    inside : All (λ (t : Step K). t.index < length basis) steps
-    row : v.row ≡ after K s (rows_of basis) steps w.row
-    cofactor : v.cofactor ≡ after K s (cofactors_of basis) steps w.cofactor
+  pub record IsLeft (w : Work K) (steps : List (Step K)) (v : Work K) : Type 0 where
+    pub listed : v.steps ≡ w.steps ++ steps
+    pub inside : All (λ (t : Step K). t.index < length basis) steps
+    pub row : v.row ≡ after K s (basis_rows basis) steps w.row
+    pub cofactor : v.cofactor ≡ after K s (cofactors_of basis) steps w.cofactor
 
   left_more : (w v : Work K) (t : Step K) (steps : List (Step K)) → IsLeft w steps v → t.index < length basis → IsLeft w (steps ++ t ∷ []) (taken K s basis t v)
   left_more w v t steps a h = record {
     listed = ap (λ ts. ts ++ t ∷ []) a.listed ∙ append_assoc w.steps steps (t ∷ []);
     inside = All-push (λ (t : Step K). t.index < length basis) steps t a.inside h;
-    row = ap (λ r. row_minus K r (step_multiple K s (rows_of basis) t)) a.row ∙ sym (after-push K s (rows_of basis) steps t w.row);
+    row = ap (λ r. row_minus K r (step_multiple K s (basis_rows basis) t)) a.row ∙ sym (after-push K s (basis_rows basis) steps t w.row);
     cofactor = ap (λ r. row_minus K r (step_multiple K s (cofactors_of basis) t)) a.cofactor ∙ sym (after-push K s (cofactors_of basis) steps t w.cofactor);
   }
 
-  left : (w rest : Work K) → length w.row ≡ n → reduce K s.order A basis w ≡ Ok rest → (steps : List (Step K)) × IsLeft w steps rest
+  pub left : (w rest : Work K) → length w.row ≡ n → reduce K s.order A basis w ≡ Ok rest → (steps : List (Step K)) × IsLeft w steps rest
   left w rest l e = (kept K s lawful s.order A sound basis n good.monic good.rows (λ v. (steps : List (Step K)) × IsLeft w steps v)
       (λ v t j a due. (a.0 ++ t ∷ [], left_more w v t a.0 a.1 (step_inside K s lawful s.order basis good.monic v.row t (next_step-Some K s.order basis v.row t due))))
-      w rest l ([], record { listed = sym (append-nil w.steps); inside = All-nil (λ (t : Step K). t.index < length basis); row = after_none K s (rows_of basis) w.row; cofactor = after_none K s (cofactors_of basis) w.cofactor }) e).1
+      w rest l ([], record { listed = sym (append-nil w.steps); inside = All-nil (λ (t : Step K). t.index < length basis); row = after_none K s (basis_rows basis) w.row; cofactor = after_none K s (cofactors_of basis) w.cofactor }) e).1
 
   pub reduction_takes : (w rest : Work K) → length w.row ≡ n → length w.cofactor ≡ m → reduce K s.order A basis w ≡ Ok rest → (steps : List (Step K)) × AreTaken K s n m basis w steps rest
   reduction_takes w rest l k e =
@@ -113,34 +114,34 @@ module _ (K : Domain) (s : Signature) (lawful : IsLawful s) (A : Arithmetic K) (
         record {
           listed = a.1.listed;
           inside = a.1.inside;
-          row = ap (row_plus K (steps_sum K s n (rows_of basis) a.0)) a.1.row ∙ sum-after K s lawful n (rows_of basis) wide_row a.0 w.row (subst (λ j. All (λ (t : Step K). t.index < j) a.0) (sym rows_long) a.1.inside) l;
+          row = ap (row_plus K (steps_sum K s n (basis_rows basis) a.0)) a.1.row ∙ sum-after K s lawful n (basis_rows basis) wide_row a.0 w.row (subst (λ j. All (λ (t : Step K). t.index < j) a.0) (sym rows_long) a.1.inside) l;
           cofactor = ap (row_plus K (steps_sum K s m (cofactors_of basis) a.0)) a.1.cofactor ∙ sum-after K s lawful m (cofactors_of basis) wide_cofactor a.0 w.cofactor (subst (λ j. All (λ (t : Step K). t.index < j) a.0) (sym cofactors_long) a.1.inside) k;
         },
       )
 
   module _ (u : Term) where
-    multiple_below : (r : Row K) (t : Step K) → IsStep K s.order basis r t → IsRowBelow K s.order u r → IsRowBelow K s.order u (step_multiple K s (rows_of basis) t)
+    multiple_below : (r : Row K) (t : Step K) → IsStep K s.order basis r t → IsRowBelow K s.order u r → IsRowBelow K s.order u (step_multiple K s (basis_rows basis) t)
     multiple_below r t a below x h =
         upto_less (term_total s.order) x a.lead u
         ((multiple_lead K s lawful s.order basis good.monic r t a).greatest x h)
         (below a.lead (row_lead-Some K s.order r a.lead a.leads).apart)
 
-    rest_below : (r : Row K) (t : Step K) → length r ≡ n → IsStep K s.order basis r t → IsRowBelow K s.order u r → IsRowBelow K s.order u (row_minus K r (step_multiple K s (rows_of basis) t))
+    rest_below : (r : Row K) (t : Step K) → length r ≡ n → IsStep K s.order basis r t → IsRowBelow K s.order u r → IsRowBelow K s.order u (row_minus K r (step_multiple K s (basis_rows basis) t))
     rest_below r t l a below x h =
         let inside = step_inside K s lawful s.order basis good.monic r t a in
         let rows_long = length-map basis (λ b. b.row) in
-        let long = long_multiple K s lawful n (rows_of basis) wide_row t (omega arith) in
+        let long = long_multiple K s lawful n (basis_rows basis) wide_row t (omega arith) in
         let less = step_below K s lawful s.order basis good.monic r t a (l ∙ sym long) x h in
         upto_less (term_total s.order) x a.lead u (ap is_gt less) (below a.lead (row_lead-Some K s.order r a.lead a.leads).apart)
 
     pub reduction_stays_below : (w rest : Work K) → length w.row ≡ n → IsRowBelow K s.order u w.row → reduce K s.order A basis w ≡ Ok rest → (steps : List (Step K)) × AreBelow K s u basis w steps rest
     reduction_stays_below w rest l below e = (kept K s lawful s.order A sound basis n good.monic good.rows (λ v. (steps : List (Step K)) × AreBelow K s u basis w steps v)
         (λ v t j a due. (a.0 ++ t ∷ [], more v t j a.0 a.1 (next_step-Some K s.order basis v.row t due)))
-        w rest l ([], record { listed = sym (append-nil w.steps); multiples = All-nil (λ (t : Step K). IsRowBelow K s.order u (step_multiple K s (rows_of basis) t)); rest_below = below }) e).1
+        w rest l ([], record { listed = sym (append-nil w.steps); multiples = All-nil (λ (t : Step K). IsRowBelow K s.order u (step_multiple K s (basis_rows basis) t)); rest_below = below }) e).1
       where
         more : (v : Work K) (t : Step K) → length v.row ≡ n → (steps : List (Step K)) → AreBelow K s u basis w steps v → IsStep K s.order basis v.row t → AreBelow K s u basis w (steps ++ t ∷ []) (taken K s basis t v)
         more v t j steps a due = record {
           listed = ap (λ ts. ts ++ t ∷ []) a.listed ∙ append_assoc w.steps steps (t ∷ []);
-          multiples = All-push (λ (t : Step K). IsRowBelow K s.order u (step_multiple K s (rows_of basis) t)) steps t a.multiples (multiple_below v.row t due a.rest_below);
+          multiples = All-push (λ (t : Step K). IsRowBelow K s.order u (step_multiple K s (basis_rows basis) t)) steps t a.multiples (multiple_below v.row t due a.rest_below);
           rest_below = rest_below v.row t j due a.rest_below;
         }

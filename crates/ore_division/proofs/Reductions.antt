@@ -1,5 +1,4 @@
 -- Lead reduction, over any domain and any sound arithmetic: it ends, and what it gives.
---     same_ok, err_is_ok       two results that are Ok and equal have one value; no Err is an Ok
 --     taken                    a row and its cofactor row less a step
 --     less_multiple_exact      exact arithmetic gives a row less a multiple of another
 --     less_multiple_most       sound arithmetic gives that, or stops
@@ -24,6 +23,7 @@ use Rattle.std.proofs.lemmas.List.{get_or-map}
 use Rattle.ore_algebra.specs.Domain.{Domain}
 use Rattle.ore_algebra.specs.Limits.{Cause, ◌>>=◌, IsAtMost}
 use Rattle.ore_algebra.proofs.LimitLaws.{most_bind, most_value}
+use Rattle.ore_algebra.proofs.ResultLaws.{same_ok, no_ok}
 use Rattle.ore_monomial.specs.Signature.{Signature, IsLawful}
 use Rattle.ore_monomial.specs.Term.{Term}
 use Rattle.ore_monomial.specs.declared.order.Order.{Order}
@@ -31,25 +31,19 @@ use Rattle.ore_monomial.specs.LetterRule.{Operator}
 use Rattle.ore_rows.specs.Rows.{Row, row_minus, row_scale}
 use Rattle.ore_rows.specs.RowLead.{row_lead}
 use Rattle.ore_rows.specs.Arithmetic.{Arithmetic, exact, IsSound, less}
-use Rattle.ore_rows.specs.Reduction.{Monic, AreMonic, Step, Work, rows_of, cofactors_of, row_at, step_operator, after, next_step, room, less_multiple, subtract, reduce_once, reduce_in, reduce, origin}
+use Rattle.ore_rows.specs.Reduction.{Monic, AreMonic, Step, Work, basis_rows, cofactors_of, row_at, step_operator, after, next_step, room, less_multiple, subtract, reduce_once, reduce_in, reduce, origin}
 use Rattle.ore_rows.proofs.Differences.{length-row_minus}
 use Rattle.ore_rows.proofs.RowLaws.{length-row_scale}
 use Rattle.ore_rows.proofs.SoundArithmetic.{scaled_exact, less_exact, scaled_most, less_most}
 use Rattle.ore_division.proofs.Heights
 use Rattle.ore_division.proofs.Steps.{IsStep, next_step-Some, no_step, row_height, height-below, height_room, step_inside, step_below}
 
-pub same_ok : {A : Type 0} (x y : A) → ◌≡◌ {A = Result A Cause} (Ok x) (Ok y) → x ≡ y
-same_ok x y e = cc
-
-pub err_is_ok : {A : Type 0} {x : A} {c : Cause} → ◌≡◌ {A = Result A Cause} (Err c) (Ok x) → ⊥
-err_is_ok e = cc
-
 -- ---- one step
 
 module _ (K : Domain) (s : Signature) where
   abbrev pub taken : List (Monic (Row K)) → Step K → Work K → Work K
   taken basis t w = record {
-    row = row_minus K w.row (row_scale K s (step_operator K t) (row_at (rows_of basis) t.index));
+    row = row_minus K w.row (row_scale K s (step_operator K t) (row_at (basis_rows basis) t.index));
     cofactor = row_minus K w.cofactor (row_scale K s (step_operator K t) (row_at (cofactors_of basis) t.index));
     steps = w.steps ++ t ∷ [];
   }
@@ -60,7 +54,7 @@ module _ (K : Domain) (s : Signature) where
 
   pub subtract_exact : (basis : List (Monic (Row K))) (t : Step K) (w : Work K) → subtract K (exact K s) basis t w ≡ Ok (taken basis t w)
   unfolding subtract
-  subtract_exact basis t w = λ i. less_multiple_exact (step_operator K t) (row_at (rows_of basis) t.index) w.row i >>= λ r.
+  subtract_exact basis t w = λ i. less_multiple_exact (step_operator K t) (row_at (basis_rows basis) t.index) w.row i >>= λ r.
       less_multiple_exact (step_operator K t) (row_at (cofactors_of basis) t.index) w.cofactor i >>= λ q.
       Ok (record { row = r; cofactor = q; steps = w.steps ++ t ∷ [] })
 
@@ -72,29 +66,29 @@ module _ (K : Domain) (s : Signature) where
     pub subtract_most : (basis : List (Monic (Row K))) (t : Step K) (w : Work K) → IsAtMost (subtract K A basis t w) (subtract K (exact K s) basis t w)
     unfolding subtract
     subtract_most basis t w =
-        most_bind _ _ _ _ (less_multiple_most (step_operator K t) (row_at (rows_of basis) t.index) w.row) (λ r.
+        most_bind _ _ _ _ (less_multiple_most (step_operator K t) (row_at (basis_rows basis) t.index) w.row) (λ r.
         most_bind _ _ _ _ (less_multiple_most (step_operator K t) (row_at (cofactors_of basis) t.index) w.cofactor) (λ q. refl))
 
     pub subtract_value : (basis : List (Monic (Row K))) (t : Step K) (w v : Work K) → subtract K A basis t w ≡ Ok v → v ≡ taken basis t w
     subtract_value basis t w v = most_value _ v (taken basis t w) (subst (IsAtMost (subtract K A basis t w)) (subtract_exact basis t w) (subtract_most basis t w))
 
 module _ (K : Domain) (A : Arithmetic K) (basis : List (Monic (Row K))) (t : Step K) (w : Work K) where
-  pub subtract_stops_first : (c : Cause) → less_multiple K A (step_operator K t) (row_at (rows_of basis) t.index) w.row ≡ Err c → subtract K A basis t w ≡ Err c
+  pub subtract_stops_first : (c : Cause) → less_multiple K A (step_operator K t) (row_at (basis_rows basis) t.index) w.row ≡ Err c → subtract K A basis t w ≡ Err c
   unfolding subtract
   subtract_stops_first c e = ap (λ (x : Result (Row K) Cause). x >>= λ r. less_multiple K A (step_operator K t) (row_at (cofactors_of basis) t.index) w.cofactor >>= λ q. Ok (record { row = r; cofactor = q; steps = w.steps ++ t ∷ [] })) e
 
-  pub subtract_stops_second : (r : Row K) (c : Cause) → less_multiple K A (step_operator K t) (row_at (rows_of basis) t.index) w.row ≡ Ok r → less_multiple K A (step_operator K t) (row_at (cofactors_of basis) t.index) w.cofactor ≡ Err c → subtract K A basis t w ≡ Err c
+  pub subtract_stops_second : (r : Row K) (c : Cause) → less_multiple K A (step_operator K t) (row_at (basis_rows basis) t.index) w.row ≡ Ok r → less_multiple K A (step_operator K t) (row_at (cofactors_of basis) t.index) w.cofactor ≡ Err c → subtract K A basis t w ≡ Err c
   unfolding subtract
   subtract_stops_second r c e f = λ i. e i >>= λ r. f i >>= λ q. Ok (record { row = r; cofactor = q; steps = w.steps ++ t ∷ [] })
 
-  pub subtract_gives : (r q : Row K) → less_multiple K A (step_operator K t) (row_at (rows_of basis) t.index) w.row ≡ Ok r → less_multiple K A (step_operator K t) (row_at (cofactors_of basis) t.index) w.cofactor ≡ Ok q → subtract K A basis t w ≡ Ok (record { row = r; cofactor = q; steps = w.steps ++ t ∷ [] })
+  pub subtract_gives : (r q : Row K) → less_multiple K A (step_operator K t) (row_at (basis_rows basis) t.index) w.row ≡ Ok r → less_multiple K A (step_operator K t) (row_at (cofactors_of basis) t.index) w.cofactor ≡ Ok q → subtract K A basis t w ≡ Ok (record { row = r; cofactor = q; steps = w.steps ++ t ∷ [] })
   unfolding subtract
   subtract_gives r q e f = λ i. e i >>= λ r. f i >>= λ q. Ok (record { row = r; cofactor = q; steps = w.steps ++ t ∷ [] })
 
 -- ---- reduction is one step after another
 
 module _ (K : Domain) (s : Signature) (lawful : IsLawful s) (o : Order) (A : Arithmetic K) (sound : IsSound K s A) (basis : List (Monic (Row K))) (n : ℕ) (monic : AreMonic K o basis) (wide : All (λ b. length b.row ≡ n) basis) where
-  wide_at : (i : ℕ) → i < length basis → length (row_at (rows_of basis) i) ≡ n
+  wide_at : (i : ℕ) → i < length basis → length (row_at (basis_rows basis) i) ≡ n
   wide_at i h = ap length (get_or-map (λ b. b.row) basis i blank [] h) ∙ wide i blank h
     where
       blank : Monic (Row K)
@@ -107,10 +101,10 @@ module _ (K : Domain) (s : Signature) (lawful : IsLawful s) (o : Order) (A : Ari
       a = next_step-Some K o basis w.row t h
 
       multiple : Row K
-      multiple = row_scale K s (step_operator K t) (row_at (rows_of basis) t.index)
+      multiple = row_scale K s (step_operator K t) (row_at (basis_rows basis) t.index)
 
       long_multiple : length multiple ≡ n
-      long_multiple = length-row_scale K s lawful (step_operator K t) (row_at (rows_of basis) t.index) ∙ wide_at t.index (step_inside K s lawful o basis monic w.row t a)
+      long_multiple = length-row_scale K s lawful (step_operator K t) (row_at (basis_rows basis) t.index) ∙ wide_at t.index (step_inside K s lawful o basis monic w.row t a)
 
       long : length (row_minus K w.row multiple) ≡ n
       long = length-row_minus K s lawful n w.row multiple l long_multiple
@@ -195,7 +189,7 @@ module _ (K : Domain) (s : Signature) (lawful : IsLawful s) (o : Order) (A : Ari
           where
             given : (x : Result (Work K) Cause) → subtract K A basis t w ≡ x → ◌≡◌ {A = Result (Work K) Cause} (x >>= λ v. reduce_in K o A k basis v) (Ok rest) → (length rest.row ≡ n) × J rest
             given (Ok v) f g = more v rest (goes_down w v t l h f).0 (subst J (sym (subtract_value K s A sound basis t w v f)) (keeps w t l j h)) g
-            given (Err c) f g = absurd (err_is_ok g)
+            given (Err c) f g = absurd (no_ok g)
 
     pub kept : (w rest : Work K) → length w.row ≡ n → J w → reduce K o A basis w ≡ Ok rest → (length rest.row ≡ n) × J rest
     unfolding reduce
@@ -214,7 +208,7 @@ module _ (K : Domain) (s : Signature) (lawful : IsLawful s) (o : Order) (A : Ari
         where
           given : (x : Result (Work K) Cause) → subtract K A basis t w ≡ x → ◌≡◌ {A = Result (Work K) Cause} (x >>= λ v. reduce_in K o A k basis v) (Ok rest) → next_step K o basis rest.row ≡ None
           given (Ok v) i g = let d = goes_down w v t l f i in let less = d.1 in more v rest d.0 (omega arith) g
-          given (Err c) i g = absurd (err_is_ok g)
+          given (Err c) i g = absurd (no_ok g)
 
   pub reduced : (w rest : Work K) → length w.row ≡ n → reduce K o A basis w ≡ Ok rest → next_step K o basis rest.row ≡ None
   unfolding reduce

@@ -29,7 +29,7 @@ use Rattle.ore_leads.specs.FirstDivisor.{first_divisor}
 use Rattle.ore_leads.proofs.Dividing.{divides_term_true, first_divisor-Some}
 use Rattle.ore_rows.specs.Rows.{Row, row_minus, row_scale}
 use Rattle.ore_rows.specs.RowLead.{coefficient_at, IsRowLead, IsRowBelow, row_lead}
-use Rattle.ore_rows.specs.Reduction.{Monic, AreMonic, Step, rows_of, leads_of, row_at, lead_at, origin, step_operator, step_by, next_step, room}
+use Rattle.ore_rows.specs.Reduction.{Monic, AreMonic, Step, basis_rows, leads_of, row_at, basis_lead, origin, step_operator, step_by, next_step, room}
 use Rattle.ore_rows.proofs.LeadAppend.{within_row}
 use Rattle.ore_rows.proofs.RowLeads.{lead-row_scale_term, below-row_minus}
 use Rattle.ore_rows.proofs.GreatestTerms.{row_lead-Some}
@@ -47,7 +47,7 @@ module _ (K : Domain) (o : Order) where
     pub lead : Term
     pub leads : row_lead K o r ≡ Some lead
     pub first : first_divisor (leads_of basis) lead ≡ Some t.index
-    pub monomial : t.monomial ≡ quotient lead.monomial (lead_at basis t.index).monomial
+    pub monomial : t.monomial ≡ quotient lead.monomial (basis_lead basis t.index).monomial
     pub number : t.number ≡ coefficient_at K r lead
 
   pub next_step-Some : (basis : List (Monic (Row K))) (r : Row K) (t : Step K) → next_step K o basis r ≡ Some t → IsStep basis r t
@@ -106,32 +106,32 @@ module _ (K : Domain) (s : Signature) (lawful : IsLawful s) (o : Order) (basis :
   blank : Monic (Row K)
   blank = record { row = []; cofactor = []; lead = origin }
 
-  monic_at : (i : ℕ) → i < length basis → IsRowLead K o (row_at (rows_of basis) i) (lead_at basis i) K.one
+  monic_at : (i : ℕ) → i < length basis → IsRowLead K o (row_at (basis_rows basis) i) (basis_lead basis i) K.one
   monic_at i h =
-      subst (λ r. IsRowLead K o r (lead_at basis i) K.one) (sym (get_or-map (λ b. b.row) basis i blank [] h))
+      subst (λ r. IsRowLead K o r (basis_lead basis i) K.one) (sym (get_or-map (λ b. b.row) basis i blank [] h))
       (subst (λ u. IsRowLead K o (get_or basis i blank).row u K.one) (sym (get_or-map (λ b. b.lead) basis i blank origin h)) (monic i blank h))
 
   module _ (r : Row K) (t : Step K) (a : IsStep K o basis r t) where
     pub step_inside : t.index < length basis
     step_inside = let h = (first_divisor-Some (leads_of basis) a.lead t.index origin a.first).0 in let e = length-map basis (λ b. b.lead) in omega arith
 
-    pub step_divides : ((lead_at basis t.index).column ≡ a.lead.column) × Divides (lead_at basis t.index).monomial a.lead.monomial
-    step_divides = (divides_term_true (lead_at basis t.index) a.lead).0 (first_divisor-Some (leads_of basis) a.lead t.index origin a.first).1
+    pub step_divides : ((basis_lead basis t.index).column ≡ a.lead.column) × Divides (basis_lead basis t.index).monomial a.lead.monomial
+    step_divides = (divides_term_true (basis_lead basis t.index) a.lead).0 (first_divisor-Some (leads_of basis) a.lead t.index origin a.first).1
 
-    pub step_back : shift t.monomial (lead_at basis t.index) ≡ a.lead
-    step_back = ap (λ m. shift m (lead_at basis t.index)) a.monomial ∙ same_term _ a.lead (product-quotient a.lead.monomial (lead_at basis t.index).monomial step_divides.1) step_divides.0
+    pub step_back : shift t.monomial (basis_lead basis t.index) ≡ a.lead
+    step_back = ap (λ m. shift m (basis_lead basis t.index)) a.monomial ∙ same_term _ a.lead (product-quotient a.lead.monomial (basis_lead basis t.index).monomial step_divides.1) step_divides.0
 
     abbrev pub multiple : Row K
-    multiple = row_scale K s (step_operator K t) (row_at (rows_of basis) t.index)
+    multiple = row_scale K s (step_operator K t) (row_at (basis_rows basis) t.index)
 
-    number_apart : t.number ≢ K.none
+    number_apart : t.number ≢ K.zero
     number_apart e = (row_lead-Some K o r a.lead a.leads).apart (sym a.number ∙ e)
 
     pub multiple_lead : IsRowLead K o multiple a.lead (coefficient_at K r a.lead)
     multiple_lead =
         subst (IsRowLead K o multiple a.lead) (K.times_one t.number ∙ a.number)
         (subst (λ u. IsRowLead K o multiple u (K.times t.number K.one)) step_back
-        (lead-row_scale_term K s lawful o t.monomial t.number (row_at (rows_of basis) t.index) (lead_at basis t.index) K.one number_apart (monic_at t.index step_inside)))
+        (lead-row_scale_term K s lawful o t.monomial t.number (row_at (basis_rows basis) t.index) (basis_lead basis t.index) K.one number_apart (monic_at t.index step_inside)))
 
     pub step_below : length r ≡ length multiple → IsRowBelow K o a.lead (row_minus K r multiple)
     step_below l = below-row_minus K s o r multiple a.lead (coefficient_at K r a.lead) l (row_lead-Some K o r a.lead a.leads) multiple_lead

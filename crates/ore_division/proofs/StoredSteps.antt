@@ -24,7 +24,7 @@ use Rattle.ore_ring.specs.Ordered.{Ordered}
 use Rattle.ore_leads.specs.FirstDivisor.{first_divisor}
 use Rattle.ore_leads.proofs.Dividing.{divides_term_true, first_divisor-Some}
 use Rattle.ore_rows.specs.Arithmetic.{within}
-use Rattle.ore_rows.specs.Reduction.{Step, Work, rows_of, cofactors_of, leads_of, row_at, lead_at, origin, step_operator, step_by, next_step, less_multiple, subtract}
+use Rattle.ore_rows.specs.Reduction.{Step, Work, basis_rows, cofactors_of, leads_of, row_at, basis_lead, origin, step_operator, step_by, next_step, less_multiple, subtract}
 use Rattle.ore_rows.specs.RowLead.{IsRowLead, row_lead}
 use Rattle.ore_rows.specs.Stored.{IsZeroRow, sums_of}
 use Rattle.ore_rows.specs.StoredBasis.{StoredBasis, monics}
@@ -64,14 +64,14 @@ module _ (o : Order) (b : StoredBasis) (r : List Ordered) where
         ∙ ap (option_map (step_by rationals o (monics b) (sums_of r) u)) e
         ∙ (λ j. Some (record { index = i; monomial = quotient u.monomial (lead j).monomial; number = a.stands j }))
       where
-        lead : lead_at (monics b) i ≡ l
+        lead : basis_lead (monics b) i ≡ l
         lead = ap (λ ls. get_or ls i origin) (leads_monics b.items) ∙ get_or_from_slice_get (leads_of b.items) i l origin f
 
 -- ---- the step that is taken
 
-module _ (s : Signature) (b : StoredBasis) (t : Step rationals) (w : Work rationals) (term : Operator rationals) (k : ℕ) (same : term ≡ step_operator rationals t) (place : k ≡ t.index) (row : List Ordered) (at_row : slice_get (rows_of b.items) k ≡ Some row) where
-  as_row : less_multiple rationals (within program s) term (sums_of row) w.row ≡ less_multiple rationals (within program s) (step_operator rationals t) (row_at (rows_of (monics b)) t.index) w.row
-  as_row = λ i. less_multiple rationals (within program s) (same i) ((sym (row_value b k row at_row) ∙ ap (row_at (rows_of (monics b))) place) i) w.row
+module _ (s : Signature) (b : StoredBasis) (t : Step rationals) (w : Work rationals) (term : Operator rationals) (k : ℕ) (same : term ≡ step_operator rationals t) (place : k ≡ t.index) (row : List Ordered) (at_row : slice_get (basis_rows b.items) k ≡ Some row) where
+  as_row : less_multiple rationals (within program s) term (sums_of row) w.row ≡ less_multiple rationals (within program s) (step_operator rationals t) (row_at (basis_rows (monics b)) t.index) w.row
+  as_row = λ i. less_multiple rationals (within program s) (same i) ((sym (row_value b k row at_row) ∙ ap (row_at (basis_rows (monics b))) place) i) w.row
 
   pub stops_first : (e : RingStop) → Fails e (less_multiple rationals (within program s) term (sums_of row) w.row) → Fails e (subtract rationals (within program s) (monics b) t w)
   stops_first e = fails_like e _ _ (λ c h. subtract_stops_first rationals (within program s) (monics b) t w c (sym as_row ∙ h))

@@ -24,7 +24,7 @@ use Rattle.ore_leads.specs.FirstDivisor.{divides_term}
 use Rattle.ore_rows.specs.Rows.{Row, zero_row, row_plus, row_scale}
 use Rattle.ore_rows.specs.RowLead.{IsRowLead, IsRowBelow}
 use Rattle.ore_rows.specs.Arithmetic.{exact, within}
-use Rattle.ore_rows.specs.Reduction.{Monic, AreMonic, Step, Work, rows_of, cofactors_of, row_at, lead_at, step_operator, reduce}
+use Rattle.ore_rows.specs.Reduction.{Monic, AreMonic, Step, Work, basis_rows, cofactors_of, row_at, basis_lead, step_operator, reduce}
 
 module _ (K : Domain) (s : Signature) where
   -- a step times its row
@@ -44,19 +44,19 @@ module _ (K : Domain) (s : Signature) where
 
   -- a lead of the row is divided by no lead of the basis
   abbrev pub IsReduced : List (Monic (Row K)) → Row K → Type 0
-  IsReduced basis r = (t : Term) (k : K.Number) → IsRowLead K s.order r t k → (i : ℕ) → i < length basis → divides_term (lead_at basis i) t ≡ false
+  IsReduced basis r = (t : Term) (k : K.Number) → IsRowLead K s.order r t k → (i : ℕ) → i < length basis → divides_term (basis_lead basis i) t ≡ false
 
   -- the steps and the rest make up what was there
   pub record AreTaken (n m : ℕ) (basis : List (Monic (Row K))) (w : Work K) (steps : List (Step K)) (rest : Work K) : Type 0 where
     pub listed : rest.steps ≡ w.steps ++ steps
     pub inside : All (λ t. t.index < length basis) steps
-    pub row : row_plus K (steps_sum n (rows_of basis) steps) rest.row ≡ w.row
+    pub row : row_plus K (steps_sum n (basis_rows basis) steps) rest.row ≡ w.row
     pub cofactor : row_plus K (steps_sum m (cofactors_of basis) steps) rest.cofactor ≡ w.cofactor
 
   -- the steps, each times its row, and the rest have only terms below t
   pub record AreBelow (t : Term) (basis : List (Monic (Row K))) (w : Work K) (steps : List (Step K)) (rest : Work K) : Type 0 where
     pub listed : rest.steps ≡ w.steps ++ steps
-    pub multiples : All (λ u. IsRowBelow K s.order t (step_multiple (rows_of basis) u)) steps
+    pub multiples : All (λ u. IsRowBelow K s.order t (step_multiple (basis_rows basis) u)) steps
     pub rest_below : IsRowBelow K s.order t rest.row
 
 module _ (s : Signature) where

@@ -49,12 +49,12 @@ pub fn reduce<R: OreRing>(
 ) -> Result<Reduced, RingStop>
     requires row_width { length row ≡ basis.now.cols }
     requires cofactor_width { length cofactor ≡ basis.now.width }
-    requires row_of { All (Belongs (R.signature_of ring.now)) row }
-    requires cofactor_of { All (Belongs (R.signature_of ring.now)) cofactor }
-    requires basis_of { AllBelong (R.signature_of ring.now) basis.now.items }
-    ensures gives { Gives work_of result (reduction.reduce rationals (R.signature_of ring.now).order (within program (R.signature_of ring.now)) (monics basis.now) (record { row = sums_of row; cofactor = sums_of cofactor; steps = [] })) }
-    ensures row_of { IfOk result (λ r. All (Belongs (R.signature_of ring.now)) r.row) }
-    ensures cofactor_of { IfOk result (λ r. All (Belongs (R.signature_of ring.now)) r.cofactor) }
+    requires row_of { All (Belongs (R.sig ring.now)) row }
+    requires cofactor_of { All (Belongs (R.sig ring.now)) cofactor }
+    requires basis_of { AllBelong (R.sig ring.now) basis.now.items }
+    ensures gives { Gives work_of result (reduction.reduce rationals (R.sig ring.now).order (within program (R.sig ring.now)) (monics basis.now) (record { row = sums_of row; cofactor = sums_of cofactor; steps = [] })) }
+    ensures row_of { IfOk result (λ r. All (Belongs (R.sig ring.now)) r.row) }
+    ensures cofactor_of { IfOk result (λ r. All (Belongs (R.sig ring.now)) r.cofactor) }
     ensures row_width { IfOk result (λ r. length r.row ≡ basis.now.cols) }
     ensures cofactor_width { IfOk result (λ r. length r.cofactor ≡ basis.now.width) }
 {
@@ -97,15 +97,15 @@ fn subtract<R: OreRing>(
     work: Reduced,
 ) -> Result<Reduced, RingStop>
     requires index { step.index < length basis.now.items }
-    requires step_of { MonomialOf (R.signature_of ring.now) step.monomial }
+    requires step_of { MonomialOf (R.sig ring.now) step.monomial }
     requires row_width { length work.row ≡ basis.now.cols }
     requires cofactor_width { length work.cofactor ≡ basis.now.width }
-    requires row_of { All (Belongs (R.signature_of ring.now)) work.row }
-    requires cofactor_of { All (Belongs (R.signature_of ring.now)) work.cofactor }
-    requires basis_of { AllBelong (R.signature_of ring.now) basis.now.items }
-    ensures gives { Gives work_of result (reduction.subtract rationals (within program (R.signature_of ring.now)) (monics basis.now) step (work_of work)) }
-    ensures row_of { IfOk result (λ r. All (Belongs (R.signature_of ring.now)) r.row) }
-    ensures cofactor_of { IfOk result (λ r. All (Belongs (R.signature_of ring.now)) r.cofactor) }
+    requires row_of { All (Belongs (R.sig ring.now)) work.row }
+    requires cofactor_of { All (Belongs (R.sig ring.now)) work.cofactor }
+    requires basis_of { AllBelong (R.sig ring.now) basis.now.items }
+    ensures gives { Gives work_of result (reduction.subtract rationals (within program (R.sig ring.now)) (monics basis.now) step (work_of work)) }
+    ensures row_of { IfOk result (λ r. All (Belongs (R.sig ring.now)) r.row) }
+    ensures cofactor_of { IfOk result (λ r. All (Belongs (R.sig ring.now)) r.cofactor) }
     ensures row_width { IfOk result (λ r. length r.row ≡ basis.now.cols) }
     ensures cofactor_width { IfOk result (λ r. length r.cofactor ≡ basis.now.width) }
 {
@@ -129,9 +129,9 @@ fn subtract<R: OreRing>(
 
 // The operator that a step multiplies with.
 fn step_term<R: OreRing>(ring: &R, alloc: Global, step: &Step) -> Result<Op, RingStop>
-    requires { MonomialOf (R.signature_of ring.now) step.now.monomial }
+    requires { MonomialOf (R.sig ring.now) step.now.monomial }
     ensures value { IfOk result (λ f. f.sum ≡ step_operator rationals step.now) }
-    ensures of { IfOk result (Belongs (R.signature_of ring.now)) }
+    ensures of { IfOk result (Belongs (R.sig ring.now)) }
     ensures memory { IfErr result (λ e. e ≡ Memory) }
 {
     let order = ring.signature().order();

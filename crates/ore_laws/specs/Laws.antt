@@ -29,7 +29,7 @@ Operator = letters.Operator rationals
 
 -- the operator with no term
 abbrev pub zero : Operator
-zero = sums.none rationals plain_cmp
+zero = sums.empty_sum rationals plain_cmp
 
 -- the unit monomial, once
 abbrev pub one : Operator

@@ -9,7 +9,7 @@ use Rattle.std.specs.declared.option.Option.TheVariants.{Some}
 use Rattle.std.proofs.lemmas.List.{get_or-map, length-map}
 use Rattle.std.proofs.lemmas.List.Elements.{All-map}
 use Rattle.std.proofs.lemmas.Option.{slice_get_within, get_or_from_slice_get}
-use Rattle.ore_algebra.specs.Free.{none, coefficient}
+use Rattle.ore_algebra.specs.Free.{empty_sum, coefficient}
 use Rattle.ore_rational.specs.Fraction.{Fraction}
 use Rattle.ore_rational.proofs.FractionLaws.{rationals}
 use Rattle.ore_monomial.specs.Monomial.{plain_cmp}
@@ -17,7 +17,7 @@ use Rattle.ore_monomial.specs.Signature.{Signature, MonomialOf}
 use Rattle.ore_monomial.specs.Term.{Term}
 use Rattle.ore_ring.specs.Belongs.{Belongs}
 use Rattle.ore_ring.specs.Ordered.{Ordered}
-use Rattle.ore_rows.specs.Reduction.{Monic, rows_of, cofactors_of, leads_of, row_at}
+use Rattle.ore_rows.specs.Reduction.{Monic, basis_rows, cofactors_of, leads_of, row_at}
 use Rattle.ore_rows.specs.RowLead.{IsRowLead}
 use Rattle.ore_rows.specs.Stored.{sums_of}
 use Rattle.ore_rows.specs.StoredBasis.{StoredBasis, AllBelong, monic_of, monics}
@@ -28,7 +28,7 @@ pub leads_monics : (items : List (Monic (List Ordered))) → leads_of (map monic
 leads_monics [] = refl
 leads_monics (b ∷ items) = λ i. b.lead ∷ leads_monics items i
 
-pub rows_monics : (items : List (Monic (List Ordered))) → rows_of (map monic_of items) ≡ map sums_of (rows_of items)
+pub rows_monics : (items : List (Monic (List Ordered))) → basis_rows (map monic_of items) ≡ map sums_of (basis_rows items)
 rows_monics [] = refl
 rows_monics (b ∷ items) = λ i. sums_of b.row ∷ rows_monics items i
 
@@ -39,23 +39,23 @@ cofactors_monics (b ∷ items) = λ i. sums_of b.cofactor ∷ cofactors_monics i
 value_at : (rows : List (List Ordered)) (k : ℕ) (r : List Ordered) → slice_get rows k ≡ Some r → get_or (map sums_of rows) k [] ≡ sums_of r
 value_at rows k r e = get_or-map sums_of rows k r [] (slice_get_within rows k r e) ∙ ap sums_of (get_or_from_slice_get rows k r r e)
 
-pub row_value : (b : StoredBasis) (k : ℕ) (r : List Ordered) → slice_get (rows_of b.items) k ≡ Some r → row_at (rows_of (monics b)) k ≡ sums_of r
-row_value b k r e = ap (λ rs. get_or rs k []) (rows_monics b.items) ∙ value_at (rows_of b.items) k r e
+pub row_value : (b : StoredBasis) (k : ℕ) (r : List Ordered) → slice_get (basis_rows b.items) k ≡ Some r → row_at (basis_rows (monics b)) k ≡ sums_of r
+row_value b k r e = ap (λ rs. get_or rs k []) (rows_monics b.items) ∙ value_at (basis_rows b.items) k r e
 
 pub cofactor_value : (b : StoredBasis) (k : ℕ) (r : List Ordered) → slice_get (cofactors_of b.items) k ≡ Some r → row_at (cofactors_of (monics b)) k ≡ sums_of r
 cofactor_value b k r e = ap (λ rs. get_or rs k []) (cofactors_monics b.items) ∙ value_at (cofactors_of b.items) k r e
 
-pub row_belongs : (s : Signature) (b : StoredBasis) (k : ℕ) (r : List Ordered) → AllBelong s b.items → slice_get (rows_of b.items) k ≡ Some r → All (Belongs s) r
-row_belongs s b k r h e = all_at (All (Belongs s)) (rows_of b.items) k r e (All-map (All (Belongs s)) (λ (m : Monic (List Ordered)). m.row) b.items (λ j d l. (h j d l).0))
+pub row_belongs : (s : Signature) (b : StoredBasis) (k : ℕ) (r : List Ordered) → AllBelong s b.items → slice_get (basis_rows b.items) k ≡ Some r → All (Belongs s) r
+row_belongs s b k r h e = all_at (All (Belongs s)) (basis_rows b.items) k r e (All-map (All (Belongs s)) (λ (m : Monic (List Ordered)). m.row) b.items (λ j d l. (h j d l).0))
 
 pub cofactor_belongs : (s : Signature) (b : StoredBasis) (k : ℕ) (r : List Ordered) → AllBelong s b.items → slice_get (cofactors_of b.items) k ≡ Some r → All (Belongs s) r
 cofactor_belongs s b k r h e = all_at (All (Belongs s)) (cofactors_of b.items) k r e (All-map (All (Belongs s)) (λ (m : Monic (List Ordered)). m.cofactor) b.items (λ j d l. (h j d l).1))
 
 pub lead_of_signature : (s : Signature) (r : List Ordered) (t : Term) (k : Fraction) → All (Belongs s) r → IsRowLead rationals s.order (sums_of r) t k → MonomialOf s t.monomial
-lead_of_signature s r t k h a = (h t.column blank inside).variables t.monomial (λ e. a.apart (sym a.stands ∙ ap (λ f. coefficient rationals plain_cmp f t.monomial) (get_or-map (λ (w : Ordered). w.sum) r t.column blank (none rationals plain_cmp) inside) ∙ e))
+lead_of_signature s r t k h a = (h t.column blank inside).variables t.monomial (λ e. a.apart (sym a.stands ∙ ap (λ f. coefficient rationals plain_cmp f t.monomial) (get_or-map (λ (w : Ordered). w.sum) r t.column blank (empty_sum rationals plain_cmp) inside) ∙ e))
   where
     blank : Ordered
-    blank = record { by = s.order; sum = none rationals plain_cmp }
+    blank = record { by = s.order; sum = empty_sum rationals plain_cmp }
 
     inside : t.column < length r
     inside = subst (λ n. t.column < n) (length-map r (λ (w : Ordered). w.sum)) (within_row rationals (sums_of r) t (λ e. a.apart (sym a.stands ∙ e)))

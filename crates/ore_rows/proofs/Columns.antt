@@ -1,10 +1,11 @@
 -- The loop that multiplies a row with the columns of a matrix, one after another.
 --     combine_next, combine_stops, combine_end    of the column j: next, where its product is Ok; stops, where it stops; end, past the last
 --     column_places                               a column of a matrix is the operators at one place of its rows
-use Rattle.std.proofs.Common.{◌≡◌, ℕ, zero, suc, ◌+◌, ◌-◌, ◌<◌, ◌≤◌, List, [], ◌∷◌, ◌++◌, map, refl, sym, ap, ◌∙◌, append_assoc, append-nil, arith}
-use Rattle.std.specs.declared.result.Result.{Result}
+use Rattle.std.proofs.Common.{◌≡◌, ℕ, zero, suc, ◌+◌, ◌-◌, ◌<◌, ◌≤◌, List, [], ◌∷◌, ◌++◌, map, refl, ap, ◌∙◌, append-nil, arith}
 use Rattle.std.specs.declared.result.Result.TheVariants.{Ok, Err}
-use Rattle.ore_algebra.specs.Limits.{Limits, Cause, ◌>>=◌, fronted}
+use Rattle.ore_algebra.specs.Limits.{Limits, Cause}
+use Rattle.ore_algebra.specs.Results.{◌>>=◌, fronted}
+use Rattle.ore_algebra.proofs.ResultLaws.{front_more}
 use Rattle.ore_rational.proofs.FractionLaws.{rationals}
 use Rattle.ore_monomial.specs.Signature.{Signature}
 use Rattle.ore_monomial.specs.LetterRule.{Operator}
@@ -18,10 +19,6 @@ unfolding column
 column_places s j rows = refl
 
 module _ (l : Limits) (s : Signature) (c : Row rationals) (m : List (Row rationals)) where
-  front_more : {V : Type 0} (front : List V) (y : V) (r : Result (List V) Cause) → fronted front (r >>= λ ys. Ok (y ∷ ys)) ≡ fronted (front ++ y ∷ []) r
-  front_more front y (Ok ys) = ap Ok (sym (append_assoc front (y ∷ []) ys))
-  front_more front y (Err e) = refl
-
   ok_step : (j n : ℕ) (front : Row rationals) (f : Operator rationals) → dot_within l s c (column rationals s j m) ≡ Ok f → fronted front (combine_from l s j (suc n) c m) ≡ fronted (front ++ f ∷ []) (combine_from l s (suc j) n c m)
   unfolding combine_from
   ok_step j n front f e = ap (λ r. fronted front (r >>= λ f. combine_from l s (suc j) n c m >>= λ fs. Ok (f ∷ fs))) e ∙ front_more front f (combine_from l s (suc j) n c m)

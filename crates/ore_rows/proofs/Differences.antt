@@ -10,7 +10,7 @@
 use Rattle.std.proofs.Common.{◌≡◌, ℕ, zero, suc, pred, arith, List, [], ◌∷◌, length, map, get_or, refl, sym, ap, ◌∙◌}
 use Rattle.std.proofs.lemmas.List.{length-map}
 use Rattle.ore_algebra.specs.Domain.{Domain}
-use Rattle.ore_algebra.specs.Free.{none, single, plus, scale, coefficient}
+use Rattle.ore_algebra.specs.Free.{empty_sum, single, plus, scale, coefficient}
 use Rattle.ore_algebra.proofs.DomainLaws as Numbers
 use Rattle.ore_monomial.specs.Monomial.{unit, plain_cmp}
 use Rattle.ore_monomial.specs.Signature.{Signature, IsLawful}
@@ -28,8 +28,8 @@ module _ (K : Domain) where
   abbrev opposite_row : Row K → Row K
   opposite_row q = map (scale K plain_cmp (K.minus K.one)) q
 
-  entry-opposite : (q : Row K) (j : ℕ) → get_or (opposite_row q) j (none K plain_cmp) ≡ scale K plain_cmp (K.minus K.one) (get_or q j (none K plain_cmp))
-  entry-opposite [] j = sym (Operators.scale_none K (K.minus K.one))
+  entry-opposite : (q : Row K) (j : ℕ) → get_or (opposite_row q) j (empty_sum K plain_cmp) ≡ scale K plain_cmp (K.minus K.one) (get_or q j (empty_sum K plain_cmp))
+  entry-opposite [] j = sym (Operators.scale-empty_sum K (K.minus K.one))
   entry-opposite (f ∷ q) zero = refl
   entry-opposite (f ∷ q) (suc j) = entry-opposite q j
 
@@ -39,11 +39,11 @@ module _ (K : Domain) where
   row_minus_self (f ∷ r) = λ i. Operators.plus_opposite K f i ∷ row_minus_self r i
 
 module _ (K : Domain) (s : Signature) where
-  pub entry-row_minus : (r q : Row K) (j : ℕ) → length r ≡ length q → get_or (row_minus K r q) j (none K plain_cmp) ≡ plus K plain_cmp (get_or r j (none K plain_cmp)) (scale K plain_cmp (K.minus K.one) (get_or q j (none K plain_cmp)))
+  pub entry-row_minus : (r q : Row K) (j : ℕ) → length r ≡ length q → get_or (row_minus K r q) j (empty_sum K plain_cmp) ≡ plus K plain_cmp (get_or r j (empty_sum K plain_cmp)) (scale K plain_cmp (K.minus K.one) (get_or q j (empty_sum K plain_cmp)))
   unfolding row_minus
   entry-row_minus r q j e =
       Rows.entry-row_plus K s r (opposite_row K q) j (e ∙ sym (length-map q (scale K plain_cmp (K.minus K.one))))
-      ∙ ap (plus K plain_cmp (get_or r j (none K plain_cmp))) (entry-opposite K q j)
+      ∙ ap (plus K plain_cmp (get_or r j (empty_sum K plain_cmp))) (entry-opposite K q j)
 
   pub coefficient-row_minus : (r q : Row K) (u : Term) → length r ≡ length q → coefficient_at K (row_minus K r q) u ≡ K.plus (coefficient_at K r u) (K.minus (coefficient_at K q u))
   coefficient-row_minus r q u e =
@@ -94,4 +94,4 @@ module _ (K : Domain) where
       back f g =
           Operators.plus_assoc K f _ g
           ∙ ap (plus K plain_cmp f) (Operators.plus_comm K _ g ∙ Operators.plus_opposite K g)
-          ∙ Operators.plus_none K f
+          ∙ Operators.plus_zero K f

@@ -11,7 +11,7 @@ use Rattle.std.specs.declared.result.Result.{Result}
 use Rattle.std.specs.declared.result.Result.TheVariants.{Ok, Err}
 use Rattle.std.proofs.lemmas.List.{get_or-map}
 use Rattle.std.proofs.lemmas.Option.{slice_get_within, get_or_from_slice_get}
-use Rattle.ore_algebra.specs.Free.{none, single}
+use Rattle.ore_algebra.specs.Free.{empty_sum, single}
 use Rattle.ore_rational.specs.Fraction.{Fraction}
 use Rattle.ore_rational.proofs.FractionLaws.{rationals}
 use Rattle.ore_monomial.specs.Monomial.{Monomial, plain_cmp}
@@ -22,8 +22,8 @@ use Rattle.ore_ring.specs.Ordered.{Ordered}
 use Rattle.ore_ring.proofs.Belonging.{of_none, of_single}
 use Rattle.ore_rows.specs.Stored.{sums_of}
 
-pub entry_place : (r : List Ordered) (j : ℕ) (e : Ordered) → slice_get r j ≡ Some e → get_or (sums_of r) j (none rationals plain_cmp) ≡ e.sum
-entry_place r j e h = get_or-map (λ (w : Ordered). w.sum) r j e (none rationals plain_cmp) (slice_get_within r j e h) ∙ ap (λ (w : Ordered). w.sum) (get_or_from_slice_get r j e e h)
+pub entry_place : (r : List Ordered) (j : ℕ) (e : Ordered) → slice_get r j ≡ Some e → get_or (sums_of r) j (empty_sum rationals plain_cmp) ≡ e.sum
+entry_place r j e h = get_or-map (λ (w : Ordered). w.sum) r j e (empty_sum rationals plain_cmp) (slice_get_within r j e h) ∙ ap (λ (w : Ordered). w.sum) (get_or_from_slice_get r j e e h)
 
 pub all_at : {A : Type 0} (P : A → Type 0) (r : List A) (j : ℕ) (e : A) → slice_get r j ≡ Some e → All P r → P e
 all_at P r j e h a = subst P (get_or_from_slice_get r j e e h) (a j e (slice_get_within r j e h))
@@ -31,7 +31,7 @@ all_at P r j e h a = subst P (get_or_from_slice_get r j e e h) (a j e (slice_get
 pub all_first : {A : Type 0} (P : A → Type 0) (xs : List A) (x : A) (us : List A) → xs ≡ x ∷ us → All P xs → P x
 all_first P xs x us e a = subst (All P) e a 0 x (omega arith)
 
-pub zero_belongs : (s : Signature) (o : Order) (v : Ordered) → v ≡ record { by = o; sum = none rationals plain_cmp } → o ≡ s.order → Belongs s v
+pub zero_belongs : (s : Signature) (o : Order) (v : Ordered) → v ≡ record { by = o; sum = empty_sum rationals plain_cmp } → o ≡ s.order → Belongs s v
 zero_belongs s o v e h = record { order = ap (λ (w : Ordered). w.by) e ∙ h; variables = subst (OperatorOf rationals s) (sym (ap (λ (w : Ordered). w.sum) e)) (of_none rationals s) }
 
 pub term_belongs : {E : Type 0} (s : Signature) (o : Order) (m : Monomial) (k : Fraction) (r : Result Ordered E) → o ≡ s.order → MonomialOf s m → IfOk r (λ v. v ≡ record { by = o; sum = single rationals plain_cmp m k }) → IfOk r (Belongs s)

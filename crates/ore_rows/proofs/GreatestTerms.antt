@@ -15,7 +15,7 @@ use Rattle.std.specs.declared.cmp.Ordering.TheVariants.{Less, Equal, Greater}
 use Rattle.std.specs.Ordering.{ordering_reverse, is_gt, is_eq, eq_by_cmp}
 use Rattle.std.specs.Cmp.{upto, tied_itself}
 use Rattle.ore_algebra.specs.Domain.{Domain}
-use Rattle.ore_algebra.specs.Free.{none, coefficient, terms}
+use Rattle.ore_algebra.specs.Free.{empty_sum, coefficient, terms}
 use Rattle.ore_algebra.proofs.FreeLaws.{named, same_key, apart_of_named}
 use Rattle.ore_monomial.specs.Monomial.{Monomial, plain_cmp}
 use Rattle.ore_monomial.specs.Term.{Term, term_cmp}
@@ -102,13 +102,13 @@ module _ (K : Domain) where
       later true n = tt
       later false n = n
 
-  apart_from : (j c : ℕ) (r : Row K) (m : Monomial) → coefficient K plain_cmp (get_or r c (none K plain_cmp)) m ≢ K.none → Among (at_column (j + c) m) (terms_from K j r)
+  apart_from : (j c : ℕ) (r : Row K) (m : Monomial) → coefficient K plain_cmp (get_or r c (empty_sum K plain_cmp)) m ≢ K.zero → Among (at_column (j + c) m) (terms_from K j r)
   unfolding terms_from
-  apart_from j c [] m h = absurd (h (Operators.coefficient-none K m))
+  apart_from j c [] m h = absurd (h (Operators.coefficient-empty_sum K m))
   apart_from j zero (f ∷ r) m h = subst (λ k. Among (at_column k m) (terms_from K j (f ∷ r))) (let e : j ≡ j + 0 = omega arith in e) (among_left _ _ _ (named_among m j (terms K plain_cmp f) (Operators.named_of_apart K f m h)))
   apart_from j (suc c) (f ∷ r) m h = among_right _ _ _ (subst (λ k. Among (at_column k m) (terms_from K (suc j) r)) (let e : suc j + c ≡ j + suc c = omega arith in e) (apart_from (suc j) c r m h))
 
-  from_apart : (j : ℕ) (r : Row K) (u : Term) → Among u (terms_from K j r) → (c : ℕ) × (u.column ≡ j + c) × (coefficient K plain_cmp (get_or r c (none K plain_cmp)) u.monomial ≢ K.none)
+  from_apart : (j : ℕ) (r : Row K) (u : Term) → Among u (terms_from K j r) → (c : ℕ) × (u.column ≡ j + c) × (coefficient K plain_cmp (get_or r c (empty_sum K plain_cmp)) u.monomial ≢ K.zero)
   unfolding terms_from
   from_apart j [] u h = absurd h
   from_apart j (f ∷ r) u h = ⊎_elim
@@ -116,14 +116,14 @@ module _ (K : Domain) where
       (λ a. let n = from_apart (suc j) r u a in (suc n.0, let e = n.1 in omega arith, n.2))
       (among_append u _ _ h)
 
-  pub apart_among : (r : Row K) (u : Term) → coefficient_at K r u ≢ K.none → Among u (terms_from K 0 r)
+  pub apart_among : (r : Row K) (u : Term) → coefficient_at K r u ≢ K.zero → Among u (terms_from K 0 r)
   apart_among r u h = subst (λ k. Among (at_column k u.monomial) (terms_from K 0 r)) (let e : 0 + u.column ≡ u.column = omega arith in e) (apart_from 0 u.column r u.monomial h)
 
-  pub among_apart : (r : Row K) (u : Term) → Among u (terms_from K 0 r) → coefficient_at K r u ≢ K.none
+  pub among_apart : (r : Row K) (u : Term) → Among u (terms_from K 0 r) → coefficient_at K r u ≢ K.zero
   among_apart r u h =
       let n = from_apart 0 r u h in
       let e : n.0 ≡ u.column = let f = n.1 in omega arith in
-      subst (λ c. coefficient K plain_cmp (get_or r c (none K plain_cmp)) u.monomial ≢ K.none) e n.2
+      subst (λ c. coefficient K plain_cmp (get_or r c (empty_sum K plain_cmp)) u.monomial ≢ K.zero) e n.2
 
 -- ---- the lead of a row
 
@@ -133,11 +133,11 @@ module _ (K : Domain) (o : Order) where
   row_lead-Some r t e = let g = subst (IsGreatest o (terms_from K 0 r)) e (greatest_is o (terms_from K 0 r)) in
       record { stands = refl; apart = among_apart K r t g.0; greatest = λ u h. g.1 u (apart_among K r u h) }
 
-  pub row_lead-None : (r : Row K) → row_lead K o r ≡ None → (u : Term) → coefficient_at K r u ≡ K.none
+  pub row_lead-None : (r : Row K) → row_lead K o r ≡ None → (u : Term) → coefficient_at K r u ≡ K.zero
   unfolding row_lead
-  row_lead-None r e u = by (K.discrete (coefficient_at K r u) K.none)
+  row_lead-None r e u = by (K.discrete (coefficient_at K r u) K.zero)
     where
-      by : Dec (coefficient_at K r u ≡ K.none) → coefficient_at K r u ≡ K.none
+      by : Dec (coefficient_at K r u ≡ K.zero) → coefficient_at K r u ≡ K.zero
       by (yes z) = z
       by (no n) = absurd ((subst (IsGreatest o (terms_from K 0 r)) e (greatest_is o (terms_from K 0 r))) u (apart_among K r u n))
 

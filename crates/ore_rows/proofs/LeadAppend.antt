@@ -17,7 +17,7 @@ use Rattle.std.specs.List.{All}
 use Rattle.std.proofs.lemmas.Bool.Decides.{nat_tests}
 use Rattle.std.proofs.lemmas.List.{get_or_append_left, get_or_push, get_or_past, length_push}
 use Rattle.ore_algebra.specs.Domain.{Domain}
-use Rattle.ore_algebra.specs.Free.{none, coefficient}
+use Rattle.ore_algebra.specs.Free.{empty_sum, coefficient}
 use Rattle.ore_monomial.specs.Monomial.{Monomial, order_cmp, plain_cmp}
 use Rattle.ore_monomial.specs.Term.{Term, term_cmp}
 use Rattle.ore_monomial.specs.declared.order.Order.{Order}
@@ -34,18 +34,18 @@ at_column j q = record { monomial = q; column = j }
 
 module _ (K : Domain) (r : Row K) (f : Operator K) where
   pub coefficient-append_left : (u : Term) → u.column < length r → coefficient_at K (r ++ f ∷ []) u ≡ coefficient_at K r u
-  coefficient-append_left u h = ap (λ g. coefficient K plain_cmp g u.monomial) (get_or_append_left r (f ∷ []) (none K plain_cmp) u.column h)
+  coefficient-append_left u h = ap (λ g. coefficient K plain_cmp g u.monomial) (get_or_append_left r (f ∷ []) (empty_sum K plain_cmp) u.column h)
 
   pub coefficient-append_own : (u : Term) → length r ≡ u.column → coefficient_at K (r ++ f ∷ []) u ≡ coefficient K plain_cmp f u.monomial
-  coefficient-append_own u h = ap (λ g. coefficient K plain_cmp g u.monomial) (get_or_push r f (none K plain_cmp) u.column h)
+  coefficient-append_own u h = ap (λ g. coefficient K plain_cmp g u.monomial) (get_or_push r f (empty_sum K plain_cmp) u.column h)
 
 -- what has a coefficient stands within the row
-pub within_row : (K : Domain) (r : Row K) (u : Term) → coefficient_at K r u ≢ K.none → u.column < length r
+pub within_row : (K : Domain) (r : Row K) (u : Term) → coefficient_at K r u ≢ K.zero → u.column < length r
 within_row K r u h = by (dec_lt u.column (length r))
   where
     by : Dec (u.column < length r) → u.column < length r
     by (yes l) = l
-    by (no n) = absurd (h (ap (λ g. coefficient K plain_cmp g u.monomial) (get_or_past r u.column (none K plain_cmp) (omega arith)) ∙ Operators.coefficient-none K u.monomial))
+    by (no n) = absurd (h (ap (λ g. coefficient K plain_cmp g u.monomial) (get_or_past r u.column (empty_sum K plain_cmp) (omega arith)) ∙ Operators.coefficient-empty_sum K u.monomial))
 
 -- a term of a later column is greater where its monomial is
 pub later_column : (o : Order) (m : Monomial) (k : ℕ) (t : Term) → t.column < k → is_gt (term_cmp o (at_column k m) t) ≡ is_gt (order_cmp o m t.monomial)
@@ -59,10 +59,10 @@ later_column o m k t h = ap (λ c. is_gt (ordering_then (order_cmp o m t.monomia
 module _ (K : Domain) (o : Order) (r : Row K) (f : Operator K) where
   -- no term with a coefficient is greater than t
   abbrev pub Tops : Row K → Term → Type 0
-  Tops x t = (u : Term) → coefficient_at K x u ≢ K.none → is_gt (term_cmp o u t) ≡ false
+  Tops x t = (u : Term) → coefficient_at K x u ≢ K.zero → is_gt (term_cmp o u t) ≡ false
 
   abbrev pub TopsEntry : Term → Type 0
-  TopsEntry t = (q : Monomial) → coefficient K plain_cmp f q ≢ K.none → is_gt (term_cmp o (at_column (length r) q) t) ≡ false
+  TopsEntry t = (q : Monomial) → coefficient K plain_cmp f q ≢ K.zero → is_gt (term_cmp o (at_column (length r) q) t) ≡ false
 
   tops-append : (t : Term) → Tops r t → TopsEntry t → Tops (r ++ f ∷ []) t
   tops-append t a b u h = by (dec_lt u.column (length r))
@@ -79,18 +79,18 @@ module _ (K : Domain) (o : Order) (r : Row K) (f : Operator K) where
   entry_tops : (m : Monomial) (k : K.Number) → IsLead K o f m k → TopsEntry (at_column (length r) m)
   entry_tops m k a q h = ap is_gt (term_one_column o q m (length r)) ∙ a.greatest q h
 
-  pub lead-append_zero : (t : Term) (k : K.Number) → f ≡ none K plain_cmp → IsRowLead K o r t k → IsRowLead K o (r ++ f ∷ []) t k
+  pub lead-append_zero : (t : Term) (k : K.Number) → f ≡ empty_sum K plain_cmp → IsRowLead K o r t k → IsRowLead K o (r ++ f ∷ []) t k
   lead-append_zero t k e a = record {
     stands = coefficient-append_left K r f t (within_row K r t (λ z. a.apart (sym a.stands ∙ z))) ∙ a.stands;
     apart = a.apart;
-    greatest = tops-append t a.greatest (λ q h. absurd (h (ap (λ g. coefficient K plain_cmp g q) e ∙ Operators.coefficient-none K q)));
+    greatest = tops-append t a.greatest (λ q h. absurd (h (ap (λ g. coefficient K plain_cmp g q) e ∙ Operators.coefficient-empty_sum K q)));
   }
 
   -- all terms of a row of zeros
-  zeros_top : All (λ g. g ≡ none K plain_cmp) r → (t : Term) → Tops r t
-  zeros_top z t u h = absurd (h (ap (λ g. coefficient K plain_cmp g u.monomial) (z u.column (none K plain_cmp) (within_row K r u h)) ∙ Operators.coefficient-none K u.monomial))
+  zeros_top : All (λ g. g ≡ empty_sum K plain_cmp) r → (t : Term) → Tops r t
+  zeros_top z t u h = absurd (h (ap (λ g. coefficient K plain_cmp g u.monomial) (z u.column (empty_sum K plain_cmp) (within_row K r u h)) ∙ Operators.coefficient-empty_sum K u.monomial))
 
-  pub lead-append_first : (m : Monomial) (k : K.Number) → All (λ g. g ≡ none K plain_cmp) r → IsLead K o f m k → IsRowLead K o (r ++ f ∷ []) (at_column (length r) m) k
+  pub lead-append_first : (m : Monomial) (k : K.Number) → All (λ g. g ≡ empty_sum K plain_cmp) r → IsLead K o f m k → IsRowLead K o (r ++ f ∷ []) (at_column (length r) m) k
   lead-append_first m k z a = record {
     stands = coefficient-append_own K r f (at_column (length r) m) refl ∙ a.stands;
     apart = a.apart;

@@ -9,7 +9,7 @@ use Rattle.std.specs.Ordering.{is_gt}
 use Rattle.std.specs.List.{All}
 use Rattle.std.proofs.lemmas.List.{map-append, length-map, length-take-le}
 use Rattle.std.proofs.lemmas.List.Elements.{All-push, All-map}
-use Rattle.ore_algebra.specs.Free.{none}
+use Rattle.ore_algebra.specs.Free.{empty_sum}
 use Rattle.ore_rational.specs.Fraction.{Fraction}
 use Rattle.ore_rational.proofs.FractionLaws.{rationals}
 use Rattle.ore_monomial.specs.Monomial.{Monomial, order_cmp, plain_cmp}
@@ -24,14 +24,14 @@ use Rattle.ore_rows.proofs.LeadAppend.{at_column, lead-append_zero, lead-append_
 
 -- what is said of an operator's lead
 abbrev pub IsOperatorLead : Order → Ordered → Option (Monomial × Fraction) → Type 0
-IsOperatorLead o e next = MatchOption next (e.sum ≡ none rationals plain_cmp) (λ t. IsLead rationals o e.sum t.0 t.1)
+IsOperatorLead o e next = MatchOption next (e.sum ≡ empty_sum rationals plain_cmp) (λ t. IsLead rationals o e.sum t.0 t.1)
 
 module _ (o : Order) (r : List Ordered) (e : Ordered) where
   longer : sums_of (r ++ e ∷ []) ≡ sums_of r ++ e.sum ∷ []
   longer = map-append (λ (w : Ordered). w.sum) r (e ∷ [])
 
-  zeros : IsZeroRow r → All (λ g. g ≡ none rationals plain_cmp) (sums_of r)
-  zeros z = All-map (λ g. g ≡ none rationals plain_cmp) (λ (w : Ordered). w.sum) r z
+  zeros : IsZeroRow r → All (λ g. g ≡ empty_sum rationals plain_cmp) (sums_of r)
+  zeros z = All-map (λ g. g ≡ empty_sum rationals plain_cmp) (λ (w : Ordered). w.sum) r z
 
   -- a lead of the row with one more entry, where that entry stands at place k
   shown : (k : ℕ) (m : Monomial) (x : Fraction) → length r ≡ k → IsRowLead rationals o (sums_of r ++ e.sum ∷ []) (at_column (length (sums_of r)) m) x → IsRowLead rationals o (sums_of (r ++ e ∷ [])) (at_column k m) x
@@ -40,7 +40,7 @@ module _ (o : Order) (r : List Ordered) (e : Ordered) where
       (subst (λ (j : ℕ). IsRowLead rationals o (sums_of r ++ e.sum ∷ []) (at_column j m) x) (length-map r (λ (w : Ordered). w.sum) ∙ h) a)
 
   next_found : (before : Option (ℕ × Monomial × Fraction)) (k : ℕ) (next : Option (Monomial × Fraction)) → length r ≡ k → IsLeadFound o r before → IsOperatorLead o e next → IsLeadFound o (r ++ e ∷ []) (greater_found o before k next)
-  next_found None k None h a b = All-push (λ (w : Ordered). w.sum ≡ none rationals plain_cmp) r e a b
+  next_found None k None h a b = All-push (λ (w : Ordered). w.sum ≡ empty_sum rationals plain_cmp) r e a b
   next_found (Some t) k None h a b = subst (λ (q : List (Operator rationals)). IsRowLead rationals o q (at_column t.0 t.1) t.2) (sym longer) (lead-append_zero rationals o (sums_of r) e.sum (at_column t.0 t.1) t.2 b a)
   next_found None k (Some f) h a b = shown k f.0 f.1 h (lead-append_first rationals o (sums_of r) e.sum f.0 f.1 (zeros a) b)
   next_found (Some t) k (Some f) h a b = by (is_gt (order_cmp o f.0 t.1)) refl

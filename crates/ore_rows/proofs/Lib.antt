@@ -16,3 +16,4 @@ pub mod SoundArithmetic
 pub mod BasisParts
 pub mod ZeroOperands
 pub mod Moving
+pub mod InTurn

@@ -7,13 +7,15 @@
 --     width_within, both_width     what is made of each item has as many items
 --     all_rest       what holds of all of a list holds of all but its first item
 --     shorter        a list without its first item has a length that is less by 1
-use Rattle.std.proofs.Common.{◌≡◌, ◌⊎◌, ℕ, ◌+◌, suc, pred, length, inl, inr, List, [], ◌∷◌, ◌++◌, map, refl, sym, ap, ◌∙◌, subst, append_assoc, append-nil, arith}
+use Rattle.std.proofs.Common.{◌≡◌, ◌⊎◌, ℕ, ◌+◌, suc, pred, length, inl, inr, List, [], ◌∷◌, ◌++◌, map, refl, sym, ap, ◌∙◌, subst, append-nil, arith}
 use Rattle.std.proofs.lemmas.List.{map-append, length-map}
 use Rattle.std.proofs.lemmas.List.Elements.{All-tail}
 use Rattle.std.specs.List.{All, zip}
 use Rattle.std.specs.declared.result.Result.{Result}
 use Rattle.std.specs.declared.result.Result.TheVariants.{Ok, Err}
-use Rattle.ore_algebra.specs.Limits.{Cause, ◌>>=◌, fold_within, map_within, fronted}
+use Rattle.ore_algebra.specs.Limits.{Cause, fold_within, map_within}
+use Rattle.ore_algebra.specs.Results.{◌>>=◌, fronted}
+use Rattle.ore_algebra.proofs.ResultLaws.{front_more}
 
 pub all_rest : {X : Type 0} (P : X → Type 0) (xs : List X) (x : X) (us : List X) → xs ≡ x ∷ us → All P xs → All P us
 all_rest P xs x us e h = All-tail P x us (subst (All P) e h)
@@ -38,10 +40,6 @@ length-zip_same (x ∷ xs) (y ∷ ys) e = ap suc (length-zip_same xs ys (ap pred
 module _ {X V : Type 0} (value : X → V) (op : V → V → Result V Cause) where
   abbrev pub both : List V → List V → Result (List V) Cause
   both r q = map_within (λ p. op p.0 p.1) (zip r q)
-
-  front_more : (front : List V) (y : V) (r : Result (List V) Cause) → fronted front (r >>= λ ys. Ok (y ∷ ys)) ≡ fronted (front ++ y ∷ []) r
-  front_more front y (Ok ys) = ap Ok (sym (append_assoc front (y ∷ []) ys))
-  front_more front y (Err e) = refl
 
   step : (front r q : List V) (a b c : V) → op a b ≡ Ok c → fronted front (both (a ∷ r) (b ∷ q)) ≡ fronted (front ++ c ∷ []) (both r q)
   step front r q a b c e = ap (λ t. fronted front (t >>= λ y. both r q >>= λ ys. Ok (y ∷ ys))) e ∙ front_more front c (both r q)

@@ -20,7 +20,7 @@
 --     long_columns                      a row of adjoints has as many entries as the matrix has rows
 --     adjoint-product, adjoint_twice    the transposed adjoint of a product, and of a transposed adjoint
 --     row_swap, zero_row_twice, zero_row_plus    sums of four rows in another order; sums with zeros
---     scale_sum, none_scale_row         multiples of a row by a sum, and by zero
+--     scale_sum, zero_scale_row         multiples of a row by a sum, and by zero
 --     combine-plus, combine-zero        combinations with the sums of coefficients, and with zeros
 --     combine-combine, matrix_assoc     combinations of combinations; products of matrices are associative
 --     module_plus, module_scale         row modules are closed under sums and multiples by operators of the signature
@@ -31,7 +31,7 @@ use Rattle.std.proofs.Common.{◌≡◌, ◌≢◌, ⊎_elim, ℕ, zero, suc, pr
 use Rattle.std.specs.List.{AllByRecursion}
 use Rattle.std.proofs.lemmas.List.{get_or-map, length-map, ext_get_or}
 use Rattle.ore_algebra.specs.Domain.{Domain}
-use Rattle.ore_algebra.specs.Free.{none, plus}
+use Rattle.ore_algebra.specs.Free.{empty_sum, plus}
 use Rattle.ore_monomial.specs.Monomial.{plain_cmp}
 use Rattle.ore_monomial.specs.declared.order.Order.TheVariants.{DegLex}
 use Rattle.ore_monomial.specs.Signature.{Signature, IsLawful}
@@ -50,7 +50,7 @@ module _ (K : Domain) (s : Signature) where
   pub scale-zero_row : (d : Operator K) (n : ℕ) → row_scale K s d (zero_row K n) ≡ zero_row K n
   unfolding row_scale zero_row
   scale-zero_row d zero = refl
-  scale-zero_row d (suc n) = λ i. Operators.linear-none K (times-linear_right K s d) i ∷ scale-zero_row d n i
+  scale-zero_row d (suc n) = λ i. Operators.linear-empty_sum K (times-linear_right K s d) i ∷ scale-zero_row d n i
 
   pub scale-row_plus : (d : Operator K) (r q : Row K) → row_scale K s d (row_plus K r q) ≡ row_plus K (row_scale K s d r) (row_scale K s d q)
   unfolding row_scale row_plus
@@ -97,15 +97,15 @@ module _ (K : Domain) (s : Signature) (lawful : IsLawful s) where
   scale-combine d n (c ∷ cs) (r ∷ rs) = scale-row_plus K s d _ _ ∙ (λ i. row_plus K (scale-scale d c r i) (scale-combine d n cs rs i))
 
   -- a row that a nonzero operator takes to zeros is zeros
-  pub scale-reflects : (d : Operator K) → d ≢ none K plain_cmp → (n : ℕ) (r : Row K) → length r ≡ n → row_scale K s d r ≡ zero_row K n → r ≡ zero_row K n
+  pub scale-reflects : (d : Operator K) → d ≢ empty_sum K plain_cmp → (n : ℕ) (r : Row K) → length r ≡ n → row_scale K s d r ≡ zero_row K n → r ≡ zero_row K n
   unfolding row_scale zero_row
   scale-reflects d nz zero [] l e = refl
   scale-reflects d nz zero (a ∷ r) l e = absurd (omega arith)
   scale-reflects d nz (suc n) [] l e = absurd (omega arith)
   scale-reflects d nz (suc n) (a ∷ r) l e =
-      let here : times K s d a ≡ none K plain_cmp = cc in
-      let there : map (times K s d) r ≡ replicate n (none K plain_cmp) = cc in
-      let blank : a ≡ none K plain_cmp = ⊎_elim (λ z. absurd (nz z)) (λ z. z) (no_zero_divisor K DegLex s lawful d a here) in
+      let here : times K s d a ≡ empty_sum K plain_cmp = cc in
+      let there : map (times K s d) r ≡ replicate n (empty_sum K plain_cmp) = cc in
+      let blank : a ≡ empty_sum K plain_cmp = ⊎_elim (λ z. absurd (nz z)) (λ z. z) (no_zero_divisor K DegLex s lawful d a here) in
       λ i. blank i ∷ scale-reflects d nz n r (ap pred l) there i
 
   pub length-row_scale : (d : Operator K) (r : Row K) → length (row_scale K s d r) ≡ length r
@@ -145,9 +145,9 @@ module _ (K : Domain) (s : Signature) where
   nil = []
 
   abbrev pub entry : Row K → ℕ → Operator K
-  entry r j = get_or r j (none K plain_cmp)
+  entry r j = get_or r j (empty_sum K plain_cmp)
 
-  pub entry-zero_row : (n j : ℕ) → entry (zero_row K n) j ≡ none K plain_cmp
+  pub entry-zero_row : (n j : ℕ) → entry (zero_row K n) j ≡ empty_sum K plain_cmp
   unfolding zero_row
   entry-zero_row zero j = refl
   entry-zero_row (suc n) zero = refl
@@ -155,7 +155,7 @@ module _ (K : Domain) (s : Signature) where
 
   pub entry-row_plus : (r q : Row K) (j : ℕ) → length r ≡ length q → entry (row_plus K r q) j ≡ plus K plain_cmp (entry r j) (entry q j)
   unfolding row_plus
-  entry-row_plus [] [] j e = sym (Operators.plus_none K _)
+  entry-row_plus [] [] j e = sym (Operators.plus_zero K _)
   entry-row_plus [] (b ∷ q) j e = absurd (omega arith)
   entry-row_plus (a ∷ r) [] j e = absurd (omega arith)
   entry-row_plus (a ∷ r) (b ∷ q) zero e = refl
@@ -163,15 +163,15 @@ module _ (K : Domain) (s : Signature) where
 
   pub entry-row_scale : (d : Operator K) (r : Row K) (j : ℕ) → entry (row_scale K s d r) j ≡ times K s d (entry r j)
   unfolding row_scale
-  entry-row_scale d [] j = sym (Operators.linear-none K (times-linear_right K s d))
+  entry-row_scale d [] j = sym (Operators.linear-empty_sum K (times-linear_right K s d))
   entry-row_scale d (a ∷ r) zero = refl
   entry-row_scale d (a ∷ r) (suc j) = entry-row_scale d r j
 
   pub adjoint-dot : (lawful : IsLawful s) (a b : Row K) → adjoint K s (dot K s a b) ≡ dot K s (map (adjoint K s) b) (map (adjoint K s) a)
   unfolding dot
-  adjoint-dot lawful [] [] = Operators.linear-none K (adjoint-linear K s)
-  adjoint-dot lawful [] (b ∷ q) = Operators.linear-none K (adjoint-linear K s)
-  adjoint-dot lawful (a ∷ r) [] = Operators.linear-none K (adjoint-linear K s)
+  adjoint-dot lawful [] [] = Operators.linear-empty_sum K (adjoint-linear K s)
+  adjoint-dot lawful [] (b ∷ q) = Operators.linear-empty_sum K (adjoint-linear K s)
+  adjoint-dot lawful (a ∷ r) [] = Operators.linear-empty_sum K (adjoint-linear K s)
   adjoint-dot lawful (a ∷ r) (b ∷ q) = (adjoint-linear K s).plus _ _ ∙ (λ i. plus K plain_cmp (adjoint-times K s lawful a b i) (adjoint-dot lawful r q i))
 
   pub row_at : (n : ℕ) (rows : List (Row K)) (i : ℕ) → AreLong K n rows → i < length rows → length (get_or rows i nil) ≡ n
@@ -192,7 +192,7 @@ module _ (K : Domain) (s : Signature) where
 
   pub column_row : (j : ℕ) (a : List (Row K)) (i : ℕ) → i < length a → entry (column K s j a) i ≡ entry (get_or a i nil) j
   unfolding column
-  column_row j a i h = get_or-map (λ r. entry r j) a i nil (none K plain_cmp) h
+  column_row j a i h = get_or-map (λ r. entry r j) a i nil (empty_sum K plain_cmp) h
 
   pub length-column : (j : ℕ) (a : List (Row K)) → length (column K s j a) ≡ length a
   unfolding column
@@ -205,13 +205,13 @@ module _ (K : Domain) (s : Signature) where
       let b = adjoint_columns K s 0 n a in
       let lb : length b ≡ n = length-adjoint_columns 0 n a in
       let la : length (get_or a i nil) ≡ n = row_at n a i h l in
-      ext_get_or (none K plain_cmp) _ _ (length-column i b ∙ lb ∙ sym (length-map (get_or a i nil) (adjoint K s) ∙ la))
+      ext_get_or (empty_sum K plain_cmp) _ _ (length-column i b ∙ lb ∙ sym (length-map (get_or a i nil) (adjoint K s) ∙ la))
       (λ k m. let kn : k < n = subst (λ x. k < x) (length-column i b ∙ lb) m in
       column_row i b k (subst (λ x. k < x) (sym lb) kn)
       ∙ ap (λ r. entry r i) (row_of_columns 0 n a k kn)
-      ∙ get_or-map (adjoint K s) (column K s (0 + k) a) i (none K plain_cmp) (none K plain_cmp) (subst (λ x. i < x) (sym (length-column (0 + k) a)) l)
+      ∙ get_or-map (adjoint K s) (column K s (0 + k) a) i (empty_sum K plain_cmp) (empty_sum K plain_cmp) (subst (λ x. i < x) (sym (length-column (0 + k) a)) l)
       ∙ ap (adjoint K s) (column_row (0 + k) a i l ∙ ap (entry (get_or a i nil)) (let e : 0 + k ≡ k = omega arith in e))
-      ∙ sym (get_or-map (adjoint K s) (get_or a i nil) k (none K plain_cmp) (none K plain_cmp) (subst (λ x. k < x) (sym la) kn)))
+      ∙ sym (get_or-map (adjoint K s) (get_or a i nil) k (empty_sum K plain_cmp) (empty_sum K plain_cmp) (subst (λ x. k < x) (sym la) kn)))
 
 module _ (K : Domain) (s : Signature) (lawful : IsLawful s) where
   pub entry-combine : (n : ℕ) (c : Row K) (rows : List (Row K)) (j : ℕ) → AreLong K n rows → entry K s (combine K s n c rows) j ≡ dot K s c (column K s j rows)
@@ -247,7 +247,7 @@ module _ (K : Domain) (s : Signature) (lawful : IsLawful s) where
       row : (k : ℕ) → k < n → get_or (adjoint_columns K s 0 n prod) k (nil K s) ≡ get_or (map (λ r. combine K s (length a) r as') bs) k (nil K s)
       row k kn =
           row_of_columns K s 0 n prod k kn
-          ∙ ext_get_or (none K plain_cmp) _ _ (length-map (column K s (0 + k) prod) (adjoint K s) ∙ length-column K s (0 + k) prod ∙ length-map a (λ r. combine K s n r b) ∙ sym (length-combine K s lawful (length a) right as' (long_columns 0 m a (length a) refl)))
+          ∙ ext_get_or (empty_sum K plain_cmp) _ _ (length-map (column K s (0 + k) prod) (adjoint K s) ∙ length-column K s (0 + k) prod ∙ length-map a (λ r. combine K s n r b) ∙ sym (length-combine K s lawful (length a) right as' (long_columns 0 m a (length a) refl)))
           (λ i l. entries i (subst (λ x. i < x) (length-map (column K s (0 + k) prod) (adjoint K s) ∙ length-column K s (0 + k) prod ∙ length-map a (λ r. combine K s n r b)) l))
           ∙ sym (get_or-map (λ r. combine K s (length a) r as') bs k (nil K s) (nil K s) (subst (λ x. k < x) (sym (length-adjoint_columns K s 0 n b)) kn) ∙ ap (λ r. combine K s (length a) r as') (row_of_columns K s 0 n b k kn))
         where
@@ -256,7 +256,7 @@ module _ (K : Domain) (s : Signature) (lawful : IsLawful s) where
 
           entries : (i : ℕ) → i < length a → entry K s (map (adjoint K s) (column K s (0 + k) prod)) i ≡ entry K s (combine K s (length a) right as') i
           entries i l =
-              get_or-map (adjoint K s) (column K s (0 + k) prod) i (none K plain_cmp) (none K plain_cmp) (subst (λ x. i < x) (sym (length-column K s (0 + k) prod ∙ length-map a (λ r. combine K s n r b))) l)
+              get_or-map (adjoint K s) (column K s (0 + k) prod) i (empty_sum K plain_cmp) (empty_sum K plain_cmp) (subst (λ x. i < x) (sym (length-column K s (0 + k) prod ∙ length-map a (λ r. combine K s n r b))) l)
               ∙ ap (adjoint K s) (column_row K s (0 + k) prod i (subst (λ x. i < x) (sym (length-map a (λ r. combine K s n r b))) l)
               ∙ ap (λ r. entry K s r (0 + k)) (get_or-map (λ r. combine K s n r b) a i (nil K s) (nil K s) l)
               ∙ entry-combine n (get_or a i (nil K s)) b (0 + k) lb)
@@ -294,14 +294,14 @@ module _ (K : Domain) where
   pub zero_row_twice : (n : ℕ) → row_plus K (zero_row K n) (zero_row K n) ≡ zero_row K n
   unfolding row_plus zero_row
   zero_row_twice zero = refl
-  zero_row_twice (suc n) = λ i. Operators.plus_none K (none K plain_cmp) i ∷ zero_row_twice n i
+  zero_row_twice (suc n) = λ i. Operators.plus_zero K (empty_sum K plain_cmp) i ∷ zero_row_twice n i
 
   pub zero_row_plus : (n : ℕ) (r : Row K) → length r ≡ n → row_plus K (zero_row K n) r ≡ r
   unfolding row_plus zero_row
   zero_row_plus zero [] e = refl
   zero_row_plus zero (a ∷ r) e = absurd (omega arith)
   zero_row_plus (suc n) [] e = absurd (omega arith)
-  zero_row_plus (suc n) (a ∷ r) e = λ i. Operators.none-plus K a i ∷ zero_row_plus n r (ap pred e) i
+  zero_row_plus (suc n) (a ∷ r) e = λ i. Operators.zero-plus K a i ∷ zero_row_plus n r (ap pred e) i
 
 module _ (K : Domain) (s : Signature) where
   pub scale_sum : (c d : Operator K) (r : Row K) → row_scale K s (plus K plain_cmp c d) r ≡ row_plus K (row_scale K s c r) (row_scale K s d r)
@@ -309,12 +309,12 @@ module _ (K : Domain) (s : Signature) where
   scale_sum c d [] = refl
   scale_sum c d (a ∷ r) = λ i. (times-linear_left K s a).plus c d i ∷ scale_sum c d r i
 
-  pub none_scale_row : (n : ℕ) (r : Row K) → length r ≡ n → row_scale K s (none K plain_cmp) r ≡ zero_row K n
+  pub zero_scale_row : (n : ℕ) (r : Row K) → length r ≡ n → row_scale K s (empty_sum K plain_cmp) r ≡ zero_row K n
   unfolding row_scale zero_row
-  none_scale_row zero [] e = refl
-  none_scale_row zero (a ∷ r) e = absurd (omega arith)
-  none_scale_row (suc n) [] e = absurd (omega arith)
-  none_scale_row (suc n) (a ∷ r) e = λ i. Operators.linear-none K (times-linear_left K s a) i ∷ none_scale_row n r (ap pred e) i
+  zero_scale_row zero [] e = refl
+  zero_scale_row zero (a ∷ r) e = absurd (omega arith)
+  zero_scale_row (suc n) [] e = absurd (omega arith)
+  zero_scale_row (suc n) (a ∷ r) e = λ i. Operators.linear-empty_sum K (times-linear_left K s a) i ∷ zero_scale_row n r (ap pred e) i
 
   -- (c + d) A = c A + d A
   pub combine-plus : (n : ℕ) (c d : Row K) (rows : List (Row K)) → length c ≡ length d → combine K s n (row_plus K c d) rows ≡ row_plus K (combine K s n c rows) (combine K s n d rows)
@@ -329,7 +329,7 @@ module _ (K : Domain) (s : Signature) where
   unfolding combine zero_row
   combine-zero zero n rows h = refl
   combine-zero (suc m) n [] h = refl
-  combine-zero (suc m) n (r ∷ rs) h = (λ i. row_plus K (none_scale_row n r h.0 i) (combine-zero m n rs h.1 i)) ∙ zero_row_twice K n
+  combine-zero (suc m) n (r ∷ rs) h = (λ i. row_plus K (zero_scale_row n r h.0 i) (combine-zero m n rs h.1 i)) ∙ zero_row_twice K n
 
 module _ (K : Domain) (s : Signature) (lawful : IsLawful s) where
   -- (c A) B = c (A B)

@@ -10,7 +10,7 @@ use Rattle.std.specs.List.{zip}
 use Rattle.ore_algebra.specs.Domain.{Domain}
 use Rattle.ore_algebra.specs.Free.{plus, scale}
 use Rattle.ore_algebra.specs.Limits.{Limits, unlimited, ◌>>=◌, IsAtMost}
-use Rattle.ore_algebra.proofs.LimitLaws.{most_value}
+use Rattle.ore_algebra.proofs.LimitLaws.{most_map, most_value}
 use Rattle.ore_rational.proofs.FractionLaws.{rationals}
 use Rattle.ore_monomial.specs.Monomial.{plain_cmp}
 use Rattle.ore_monomial.specs.Signature.{Signature}
@@ -20,7 +20,7 @@ use Rattle.ore_ring.specs.Within.{plus_within, times_within, opposite}
 use Rattle.ore_ring.proofs.WithinLaws as Ring
 use Rattle.ore_rows.specs.Rows.{Row, row_plus, row_minus, row_scale}
 use Rattle.ore_rows.specs.Arithmetic.{Arithmetic, exact, within, IsSound, scaled, less}
-use Rattle.ore_rows.proofs.WithinValues.{map_unlimited, most_map, times_most, plus_most}
+use Rattle.ore_rows.proofs.WithinValues.{map_unlimited}
 
 module _ (K : Domain) (s : Signature) where
   pub exact_sound : IsSound K s (exact K s)
@@ -52,8 +52,8 @@ module _ (K : Domain) (s : Signature) where
 pub within_sound : (l : Limits) (s : Signature) → IsSound rationals s (within l s)
 unfolding opposite
 within_sound l s = record {
-  product = λ f g. subst (IsAtMost (times_within l s f g)) (Ring.times_unlimited s f g) (times_most l s f g);
-  difference = λ f g. subst (IsAtMost (plus_within l f (opposite g))) (Ring.plus_unlimited f (opposite g)) (plus_most l f (opposite g));
+  product = λ f g. subst (IsAtMost (times_within l s f g)) (Ring.times_unlimited s f g) (Ring.times_at_most l s f g);
+  difference = λ f g. subst (IsAtMost (plus_within l f (opposite g))) (Ring.plus_unlimited f (opposite g)) (Ring.plus_at_most l f (opposite g));
 }
 
 pub within_unlimited : (s : Signature) → within unlimited s ≡ exact rationals s

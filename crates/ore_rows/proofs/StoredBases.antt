@@ -17,7 +17,7 @@ use Rattle.std.specs.declared.option.Option.TheVariants.{Some}
 use Rattle.std.proofs.lemmas.List.{length_push, map-append}
 use Rattle.std.proofs.lemmas.Option.{slice_get-map, slice_get-get_or}
 use Rattle.std.proofs.lemmas.List.Elements.{All-nil, All-cons, All-head, All-tail, All-map, All-push}
-use Rattle.ore_algebra.specs.Free.{none, coefficient}
+use Rattle.ore_algebra.specs.Free.{empty_sum, coefficient}
 use Rattle.ore_rational.proofs.FractionLaws.{rationals}
 use Rattle.ore_rational.specs.Fraction.{Fraction}
 use Rattle.ore_monomial.specs.Monomial.{plain_cmp}
@@ -27,7 +27,7 @@ use Rattle.ore_monomial.specs.declared.order.Order.{Order}
 use Rattle.ore_monomial.proofs.Operators
 use Rattle.ore_ring.specs.Belongs.{Belongs}
 use Rattle.ore_ring.specs.Ordered.{Ordered}
-use Rattle.ore_rows.specs.Reduction.{Monic, IsMonic, AreMonic, rows_of, cofactors_of, leads_of, lead_at}
+use Rattle.ore_rows.specs.Reduction.{Monic, IsMonic, AreMonic, basis_rows, cofactors_of, leads_of, basis_lead}
 use Rattle.ore_rows.specs.RowLead.{IsRowLead}
 use Rattle.ore_rows.specs.Stored.{IsZeroRow, sums_of}
 use Rattle.ore_rows.specs.StoredBasis.{StoredBasis, HasLead, HaveLeads, HaveWidths, AllBelong, monic_of, monics, with_leads, IsStored}
@@ -39,7 +39,7 @@ length-with_leads [] (t ∷ ls) h = absurd (omega arith)
 length-with_leads (e ∷ es) [] h = absurd (omega arith)
 length-with_leads (e ∷ es) (t ∷ ls) h = ap suc (length-with_leads es ls (ap pred h))
 
-pub rows-with_leads : (es : List Entry) (ls : List Term) → length ls ≡ length es → rows_of (with_leads es ls) ≡ map (λ (e : Entry). e.row) es
+pub rows-with_leads : (es : List Entry) (ls : List Term) → length ls ≡ length es → basis_rows (with_leads es ls) ≡ map (λ (e : Entry). e.row) es
 rows-with_leads [] [] h = refl
 rows-with_leads [] (t ∷ ls) h = absurd (omega arith)
 rows-with_leads (e ∷ es) [] h = absurd (omega arith)
@@ -64,12 +64,12 @@ with_leads-push (f ∷ es) [] e t h = absurd (omega arith)
 with_leads-push (f ∷ es) (u ∷ ls) e t h = λ i. record { row = f.row; cofactor = f.cofactor; lead = u } ∷ with_leads-push es ls e t (ap pred h) i
 
 pub no_lead_of_zeros : (o : Order) (r : List Ordered) (t : Term) (k : Fraction) → IsZeroRow r → IsRowLead rationals o (sums_of r) t k → ⊥
-no_lead_of_zeros o r t k z a = a.apart (sym a.stands ∙ ap (λ f. coefficient rationals plain_cmp f t.monomial) (zero_entry r t.column z) ∙ Operators.coefficient-none rationals t.monomial)
+no_lead_of_zeros o r t k z a = a.apart (sym a.stands ∙ ap (λ f. coefficient rationals plain_cmp f t.monomial) (zero_entry r t.column z) ∙ Operators.coefficient-empty_sum rationals t.monomial)
   where
-    zero_entry : (r : List Ordered) (j : ℕ) → IsZeroRow r → get_or (sums_of r) j (none rationals plain_cmp) ≡ none rationals plain_cmp
+    zero_entry : (r : List Ordered) (j : ℕ) → IsZeroRow r → get_or (sums_of r) j (empty_sum rationals plain_cmp) ≡ empty_sum rationals plain_cmp
     zero_entry [] j z = refl
-    zero_entry (f ∷ r) zero z = All-head (λ (g : Ordered). g.sum ≡ none rationals plain_cmp) f r z
-    zero_entry (f ∷ r) (suc j) z = zero_entry r j (All-tail (λ (g : Ordered). g.sum ≡ none rationals plain_cmp) f r z)
+    zero_entry (f ∷ r) zero z = All-head (λ (g : Ordered). g.sum ≡ empty_sum rationals plain_cmp) f r z
+    zero_entry (f ∷ r) (suc j) z = zero_entry r j (All-tail (λ (g : Ordered). g.sum ≡ empty_sum rationals plain_cmp) f r z)
 
 -- the rows that stand beside leads have the widths of the rows
 pub widths-with_leads : (n m : ℕ) (es : List Entry) (ls : List Term) → IsStored n m es ls → HaveWidths n m (with_leads es ls)
@@ -120,17 +120,17 @@ pub has_lead : (s : Signature) (row : List Ordered) (t : Term) → All (Belongs 
 has_lead s row t belong h = record { order = s.order; carried = λ k f l. (belong k f l).order; lead = h }
 
 pub is_monic : (s : Signature) (row : List Ordered) (t : Term) → All (Belongs s) row → HasLead row t → IsRowLead rationals s.order (sums_of row) t rationals.one
-is_monic s [] t belong h = absurd (no_lead_of_zeros h.order [] t rationals.one (All-nil (λ (f : Ordered). f.sum ≡ none rationals plain_cmp)) h.lead)
+is_monic s [] t belong h = absurd (no_lead_of_zeros h.order [] t rationals.one (All-nil (λ (f : Ordered). f.sum ≡ empty_sum rationals plain_cmp)) h.lead)
 is_monic s (f ∷ row) t belong h = subst (λ (o : Order). IsRowLead rationals o (sums_of (f ∷ row)) t rationals.one) (sym (All-head (λ (g : Ordered). g.by ≡ h.order) f row h.carried) ∙ (All-head (Belongs s) f row belong).order) h.lead
 
 pub are_monic : (s : Signature) (b : StoredBasis) → AllBelong s b.items → HaveLeads b.items → AreMonic rationals s.order (monics b)
 are_monic s b belong h = All-map (IsMonic rationals s.order) monic_of b.items (λ k m l. is_monic s (get_or b.items k m).row (get_or b.items k m).lead (belong k m l).0 (h k m l))
 
 -- the lead of the row at a place
-pub lead_read : (es : List Entry) (ls : List Term) (k : ℕ) (e : Entry) → length ls ≡ length es → k < length es → e ≡ get_or es k e → HaveLeads (with_leads es ls) → HasLead e.row (lead_at (with_leads es ls) k)
+pub lead_read : (es : List Entry) (ls : List Term) (k : ℕ) (e : Entry) → length ls ≡ length es → k < length es → e ≡ get_or es k e → HaveLeads (with_leads es ls) → HasLead e.row (basis_lead (with_leads es ls) k)
 lead_read es ls k e l inside h a = by es ls k l inside h a
   where
-    by : (es : List Entry) (ls : List Term) (k : ℕ) → length ls ≡ length es → k < length es → e ≡ get_or es k e → HaveLeads (with_leads es ls) → HasLead e.row (lead_at (with_leads es ls) k)
+    by : (es : List Entry) (ls : List Term) (k : ℕ) → length ls ≡ length es → k < length es → e ≡ get_or es k e → HaveLeads (with_leads es ls) → HasLead e.row (basis_lead (with_leads es ls) k)
     by [] ls k l inside h a = absurd (omega arith)
     by (f ∷ es) [] k l inside h a = absurd (omega arith)
     by (f ∷ es) (t ∷ ls) zero l inside h a = subst (λ (x : Entry). HasLead x.row t) (sym h) (All-head (λ (b : Monic (List Ordered)). HasLead b.row b.lead) _ _ a)

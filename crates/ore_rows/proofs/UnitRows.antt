@@ -14,7 +14,7 @@ use Rattle.std.proofs.lemmas.Bool.Decides.{nat_tests}
 use Rattle.std.proofs.lemmas.List.{ext_get_or, get_or-map, length-map}
 use Rattle.std.proofs.lemmas.List.FromFn.{length-map-range_with_len, get_or-map-range_with_len}
 use Rattle.ore_algebra.specs.Domain.{Domain}
-use Rattle.ore_algebra.specs.Free.{none, single, plus}
+use Rattle.ore_algebra.specs.Free.{empty_sum, single, plus}
 use Rattle.ore_monomial.specs.Monomial.{unit, plain_cmp}
 use Rattle.ore_monomial.specs.Signature.{Signature, IsLawful}
 use Rattle.ore_monomial.specs.LetterRule.{Operator}
@@ -34,32 +34,32 @@ module _ (K : Domain) where
   unfolding unit_row
   length-unit_row n i = length-map-range_with_len (unit_entry K i) 0 n
 
-  pub entry-unit_row : (n i j : ℕ) → j < n → get_or (unit_row K n i) j (none K plain_cmp) ≡ unit_entry K i j
+  pub entry-unit_row : (n i j : ℕ) → j < n → get_or (unit_row K n i) j (empty_sum K plain_cmp) ≡ unit_entry K i j
   unfolding unit_row
-  entry-unit_row n i j h = get_or-map-range_with_len (unit_entry K i) 0 n j j (none K plain_cmp) h (omega arith)
+  entry-unit_row n i j h = get_or-map-range_with_len (unit_entry K i) 0 n j j (empty_sum K plain_cmp) h (omega arith)
 
   -- the entries from j on, where none of them is the one at i
   zeros_from : (i j n : ℕ) → i < j → map (unit_entry K i) (range_with_len j n) ≡ zero_row K n
   unfolding zero_row
   zeros_from i j zero h = refl
-  zeros_from i j (suc n) h = λ k. cond ((let e : nat_eq j i ≡ false = grind (arith, nat_tests) in e) k) one_operator (none K plain_cmp) ∷ zeros_from i (j + 1) n (omega arith) k
+  zeros_from i j (suc n) h = λ k. cond ((let e : nat_eq j i ≡ false = grind (arith, nat_tests) in e) k) one_operator (empty_sum K plain_cmp) ∷ zeros_from i (j + 1) n (omega arith) k
 
   -- the entries are shifted with the one
   shifted : (i j n : ℕ) → map (unit_entry K (suc i)) (range_with_len (suc j) n) ≡ map (unit_entry K i) (range_with_len j n)
   shifted i j zero = refl
   shifted i j (suc n) =
-      (λ k. cond ((let e : nat_eq (suc j) (suc i) ≡ nat_eq j i = grind (arith, nat_tests) in e) k) one_operator (none K plain_cmp) ∷ map (unit_entry K (suc i)) (range_with_len ((let e : suc j + 1 ≡ suc (j + 1) = omega arith in e) k) n))
+      (λ k. cond ((let e : nat_eq (suc j) (suc i) ≡ nat_eq j i = grind (arith, nat_tests) in e) k) one_operator (empty_sum K plain_cmp) ∷ map (unit_entry K (suc i)) (range_with_len ((let e : suc j + 1 ≡ suc (j + 1) = omega arith in e) k) n))
       ∙ ap (λ r. unit_entry K i j ∷ r) (shifted i (j + 1) n)
 
   pub unit_row_first : (n : ℕ) → unit_row K (suc n) 0 ≡ one_operator ∷ zero_row K n
   unfolding unit_row
   unit_row_first n = ap (λ r. one_operator ∷ r) (zeros_from 0 1 n (omega arith))
 
-  pub unit_row_later : (n i : ℕ) → unit_row K (suc n) (suc i) ≡ none K plain_cmp ∷ unit_row K n i
+  pub unit_row_later : (n i : ℕ) → unit_row K (suc n) (suc i) ≡ empty_sum K plain_cmp ∷ unit_row K n i
   unfolding unit_row
   unit_row_later n i =
-      (λ k. cond ((let e : nat_eq 0 (suc i) ≡ false = grind (arith, nat_tests) in e) k) one_operator (none K plain_cmp) ∷ map (unit_entry K (suc i)) (range_with_len 1 n))
-      ∙ ap (λ r. none K plain_cmp ∷ r) (shifted i 0 n)
+      (λ k. cond ((let e : nat_eq 0 (suc i) ≡ false = grind (arith, nat_tests) in e) k) one_operator (empty_sum K plain_cmp) ∷ map (unit_entry K (suc i)) (range_with_len 1 n))
+      ∙ ap (λ r. empty_sum K plain_cmp ∷ r) (shifted i 0 n)
 
   pub length-identity_rows : (n : ℕ) → length (identity_rows K n) ≡ n
   unfolding identity_rows
@@ -78,7 +78,7 @@ module _ (K : Domain) where
   long_identity n = long_from n 0 n
 
 module _ (K : Domain) (s : Signature) where
-  of_entry : (b : Bool) → OperatorOf K s (cond b (one_operator K) (none K plain_cmp))
+  of_entry : (b : Bool) → OperatorOf K s (cond b (one_operator K) (empty_sum K plain_cmp))
   of_entry true = of_single K s unit K.one (MonomialOf-unit s)
   of_entry false = of_none K s
 
@@ -101,15 +101,15 @@ module _ (K : Domain) (s : Signature) (lawful : IsLawful s) where
   plus_zero_row zero [] e = refl
   plus_zero_row zero (f ∷ r) e = absurd (omega arith)
   plus_zero_row (suc n) [] e = absurd (omega arith)
-  plus_zero_row (suc n) (f ∷ r) e = λ i. Operators.plus_none K f i ∷ plus_zero_row n r (let p : length r ≡ n = omega arith in p) i
+  plus_zero_row (suc n) (f ∷ r) e = λ i. Operators.plus_zero K f i ∷ plus_zero_row n r (let p : length r ≡ n = omega arith in p) i
 
   first_of : (n : ℕ) (r : Row K) (rows : List (Row K)) → AreLong K n (r ∷ rows) → combine K s n (one_operator K ∷ zero_row K (length rows)) (r ∷ rows) ≡ r
   unfolding combine
   first_of n r rows long = (λ i. row_plus K (one_scale r i) (Rows.combine-zero K s (length rows) n rows long.1 i)) ∙ plus_zero_row n r long.0
 
-  later_of : (n : ℕ) (c : Row K) (r : Row K) (rows : List (Row K)) → AreLong K n (r ∷ rows) → combine K s n (none K plain_cmp ∷ c) (r ∷ rows) ≡ combine K s n c rows
+  later_of : (n : ℕ) (c : Row K) (r : Row K) (rows : List (Row K)) → AreLong K n (r ∷ rows) → combine K s n (empty_sum K plain_cmp ∷ c) (r ∷ rows) ≡ combine K s n c rows
   unfolding combine
-  later_of n c r rows long = ap (λ q. row_plus K q (combine K s n c rows)) (Rows.none_scale_row K s n r long.0) ∙ Rows.zero_row_plus K n _ (Rows.length-combine K s lawful n c rows long.1)
+  later_of n c r rows long = ap (λ q. row_plus K q (combine K s n c rows)) (Rows.zero_scale_row K s n r long.0) ∙ Rows.zero_row_plus K n _ (Rows.length-combine K s lawful n c rows long.1)
 
   pub combine-unit_row : (n i : ℕ) (rows : List (Row K)) → i < length rows → AreLong K n rows → combine K s n (unit_row K (length rows) i) rows ≡ get_or rows i []
   combine-unit_row n i [] h long = absurd (omega arith)
@@ -127,27 +127,27 @@ module _ (K : Domain) (s : Signature) (lawful : IsLawful s) where
       ∙ ap (λ c. combine K s n c rows) (row-identity_rows K (length rows) i il)
       ∙ combine-unit_row n i rows il long)
 
-  dot-zero_row : (c : Row K) (n : ℕ) → dot K s c (zero_row K n) ≡ none K plain_cmp
+  dot-zero_row : (c : Row K) (n : ℕ) → dot K s c (zero_row K n) ≡ empty_sum K plain_cmp
   unfolding dot zero_row
   dot-zero_row [] zero = refl
   dot-zero_row [] (suc n) = refl
   dot-zero_row (f ∷ c) zero = refl
-  dot-zero_row (f ∷ c) (suc n) = (λ i. plus K plain_cmp (Operators.linear-none K (times-linear_right K s f) i) (dot-zero_row c n i)) ∙ Operators.plus_none K (none K plain_cmp)
+  dot-zero_row (f ∷ c) (suc n) = (λ i. plus K plain_cmp (Operators.linear-empty_sum K (times-linear_right K s f) i) (dot-zero_row c n i)) ∙ Operators.plus_zero K (empty_sum K plain_cmp)
 
   dot_first : (f : Operator K) (c : Row K) (n : ℕ) → dot K s (f ∷ c) (one_operator K ∷ zero_row K n) ≡ f
   unfolding dot
-  dot_first f c n = (λ i. plus K plain_cmp (times-one K s lawful f i) (dot-zero_row c n i)) ∙ Operators.plus_none K f
+  dot_first f c n = (λ i. plus K plain_cmp (times-one K s lawful f i) (dot-zero_row c n i)) ∙ Operators.plus_zero K f
 
-  dot_later : (f : Operator K) (c q : Row K) → dot K s (f ∷ c) (none K plain_cmp ∷ q) ≡ dot K s c q
+  dot_later : (f : Operator K) (c q : Row K) → dot K s (f ∷ c) (empty_sum K plain_cmp ∷ q) ≡ dot K s c q
   unfolding dot
-  dot_later f c q = ap (λ g. plus K plain_cmp g (dot K s c q)) (Operators.linear-none K (times-linear_right K s f)) ∙ Operators.none-plus K (dot K s c q)
+  dot_later f c q = ap (λ g. plus K plain_cmp g (dot K s c q)) (Operators.linear-empty_sum K (times-linear_right K s f)) ∙ Operators.zero-plus K (dot K s c q)
 
-  dot_nothing : (q : Row K) → dot K s [] q ≡ none K plain_cmp
+  dot_nothing : (q : Row K) → dot K s [] q ≡ empty_sum K plain_cmp
   unfolding dot
   dot_nothing q = refl
 
   -- a row times a unit row is its entry there
-  pub dot-unit_row : (c : Row K) (n i : ℕ) → length c ≡ n → dot K s c (unit_row K n i) ≡ get_or c i (none K plain_cmp)
+  pub dot-unit_row : (c : Row K) (n i : ℕ) → length c ≡ n → dot K s c (unit_row K n i) ≡ get_or c i (empty_sum K plain_cmp)
   dot-unit_row [] n i e = dot_nothing (unit_row K n i)
   dot-unit_row (f ∷ c) zero i e = absurd (omega arith)
   dot-unit_row (f ∷ c) (suc n) zero e = ap (dot K s (f ∷ c)) (unit_row_first K n) ∙ dot_first f c n
@@ -159,7 +159,7 @@ module _ (K : Domain) (s : Signature) (lawful : IsLawful s) where
   column_from : (n j a k : ℕ) → j < n → column K s j (map (unit_row K n) (range_with_len a k)) ≡ map (unit_entry K j) (range_with_len a k)
   unfolding column
   column_from n j a zero h = refl
-  column_from n j a (suc k) h = λ i. (entry-unit_row K n a j h ∙ ap (λ b. cond b (one_operator K) (none K plain_cmp)) (same_test a j)) i ∷ column_from n j (a + 1) k h i
+  column_from n j a (suc k) h = λ i. (entry-unit_row K n a j h ∙ ap (λ b. cond b (one_operator K) (empty_sum K plain_cmp)) (same_test a j)) i ∷ column_from n j (a + 1) k h i
 
   -- the columns of the identity are unit rows too
   pub column-identity_rows : (n j : ℕ) → j < n → column K s j (identity_rows K n) ≡ unit_row K n j
@@ -170,7 +170,7 @@ module _ (K : Domain) (s : Signature) (lawful : IsLawful s) where
   pub combine-identity_rows : (n : ℕ) (c : Row K) → length c ≡ n → combine K s n c (identity_rows K n) ≡ c
   combine-identity_rows n c e =
       let lc = Rows.length-combine K s lawful n c (identity_rows K n) (long_identity K n) in
-      ext_get_or (none K plain_cmp) _ c (lc ∙ sym e)
+      ext_get_or (empty_sum K plain_cmp) _ c (lc ∙ sym e)
       (λ i h. Rows.entry-combine K s lawful n c (identity_rows K n) i (long_identity K n)
       ∙ ap (dot K s c) (column-identity_rows n i (subst (λ m. i < m) lc h))
       ∙ dot-unit_row c n i e)

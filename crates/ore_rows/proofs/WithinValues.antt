@@ -1,6 +1,5 @@
 -- What operations on rows and matrices within limits give.
---     map_unlimited, most_map          of each item of a list: the values without limits; no further than without
---     plus_most, times_most            sums and products of operators give what they give without limits, or stop
+--     map_unlimited                    of each item of a list: the values without limits
 --     scale_unlimited, sum_unlimited, difference_unlimited, dot_unlimited, combine_unlimited, product_unlimited
 --                                      without limits they give the values of `specs/Rows.antt`
 --     scale_at_most, sum_at_most, difference_at_most, dot_at_most, combine_at_most, product_at_most
@@ -9,12 +8,12 @@
 --                                      so an Ok is the value
 use Rattle.std.proofs.Common.{◌≡◌, ℕ, zero, suc, ◌+◌, ◌<◌, List, [], ◌∷◌, map, length, get_or, refl, sym, ap, ◌∙◌, subst, arith}
 use Rattle.std.specs.declared.result.Result.{Result}
-use Rattle.std.specs.declared.result.Result.TheVariants.{Ok, Err}
+use Rattle.std.specs.declared.result.Result.TheVariants.{Ok}
 use Rattle.std.specs.List.{zip}
 use Rattle.std.proofs.lemmas.List.{ext_get_or}
-use Rattle.ore_algebra.specs.Free.{none, plus}
+use Rattle.ore_algebra.specs.Free.{empty_sum, plus}
 use Rattle.ore_algebra.specs.Limits.{Limits, Cause, unlimited, ◌>>=◌, fold_within, map_within, IsAtMost}
-use Rattle.ore_algebra.proofs.LimitLaws.{most_bind, most_fold, most_value}
+use Rattle.ore_algebra.proofs.LimitLaws.{most_bind, most_fold, most_map, value_from}
 use Rattle.ore_rational.proofs.FractionLaws.{rationals}
 use Rattle.ore_monomial.specs.Monomial.{plain_cmp}
 use Rattle.ore_monomial.specs.Signature.{Signature}
@@ -34,25 +33,6 @@ pub map_unlimited : {A B : Type 0} (f : A → Result B Cause) (g : A → B) → 
 map_unlimited f g h [] = refl
 map_unlimited f g h (x ∷ xs) = (λ i. h x i >>= λ y. map_unlimited f g h xs i >>= λ ys. Ok (y ∷ ys))
 
-pub most_map : {A B : Type 0} (f g : A → Result B Cause) → ((x : A) → IsAtMost (f x) (g x)) → (xs : List A) → IsAtMost (map_within f xs) (map_within g xs)
-most_map f g h [] = refl
-most_map f g h (x ∷ xs) = most_bind (f x) (g x) _ _ (h x) (λ y. most_bind (map_within f xs) (map_within g xs) _ _ (most_map f g h xs) (λ ys. refl))
-
--- an operation is at most its value
-value_from : {A : Type 0} (r t : Result A Cause) (x y : A) → IsAtMost r t → t ≡ Ok y → r ≡ Ok x → x ≡ y
-value_from r t x y h e = most_value r x y (subst (IsAtMost r) e h)
-
--- the operations on operators, in the words of `Limits`
-in_words : {A : Type 0} (r t : Result A Cause) → Ring.IsAtMost r t → IsAtMost r t
-in_words (Ok x) t h = h
-in_words (Err e) t h = tt
-
-pub plus_most : (l : Limits) (f g : Operator rationals) → IsAtMost (plus_within l f g) (plus_within unlimited f g)
-plus_most l f g = in_words (plus_within l f g) (plus_within unlimited f g) (Ring.plus_at_most l f g)
-
-pub times_most : (l : Limits) (s : Signature) (f g : Operator rationals) → IsAtMost (times_within l s f g) (times_within unlimited s f g)
-times_most l s f g = in_words (times_within l s f g) (times_within unlimited s f g) (Ring.times_at_most l s f g)
-
 -- ---- sums and differences
 
 pub sum_unlimited : (r q : Row rationals) → sum_within unlimited r q ≡ Ok (row_plus rationals r q)
@@ -69,13 +49,13 @@ difference_unlimited (a ∷ r) (b ∷ q) = λ i. Ring.plus_unlimited a (opposite
 
 module _ (l : Limits) where
   pub sum_at_most : (r q : Row rationals) → IsAtMost (sum_within l r q) (sum_within unlimited r q)
-  sum_at_most r q = most_map _ _ (λ p. plus_most l p.0 p.1) (zip r q)
+  sum_at_most r q = most_map _ _ (λ p. Ring.plus_at_most l p.0 p.1) (zip r q)
 
   pub sum_value : (r q x : Row rationals) → sum_within l r q ≡ Ok x → x ≡ row_plus rationals r q
   sum_value r q x = value_from (sum_within l r q) (sum_within unlimited r q) x (row_plus rationals r q) (sum_at_most r q) (sum_unlimited r q)
 
   pub difference_at_most : (r q : Row rationals) → IsAtMost (difference_within l r q) (difference_within unlimited r q)
-  difference_at_most r q = most_map _ _ (λ p. plus_most l p.0 (opposite p.1)) (zip r q)
+  difference_at_most r q = most_map _ _ (λ p. Ring.plus_at_most l p.0 (opposite p.1)) (zip r q)
 
   pub difference_value : (r q x : Row rationals) → difference_within l r q ≡ Ok x → x ≡ row_minus rationals r q
   difference_value r q x = value_from (difference_within l r q) (difference_within unlimited r q) x (row_minus rationals r q) (difference_at_most r q) (difference_unlimited r q)
@@ -93,15 +73,15 @@ module _ (s : Signature) where
 
   dot_from : (acc : Operator rationals) (c r : Row rationals) → fold_within (product_added unlimited s) acc (zip c r) ≡ Ok (plus rationals plain_cmp acc (dot rationals s c r))
   unfolding dot
-  dot_from acc [] r = ap Ok (sym (Operators.plus_none rationals acc))
-  dot_from acc (a ∷ c) [] = ap Ok (sym (Operators.plus_none rationals acc))
+  dot_from acc [] r = ap Ok (sym (Operators.plus_zero rationals acc))
+  dot_from acc (a ∷ c) [] = ap Ok (sym (Operators.plus_zero rationals acc))
   dot_from acc (a ∷ c) (b ∷ r) =
       ap (λ t. t >>= λ u. fold_within (product_added unlimited s) u (zip c r)) (added_unlimited acc a b)
       ∙ dot_from (plus rationals plain_cmp acc (times rationals s a b)) c r
       ∙ ap Ok (Operators.plus_assoc rationals acc (times rationals s a b) (dot rationals s c r))
 
   pub dot_unlimited : (c r : Row rationals) → dot_within unlimited s c r ≡ Ok (dot rationals s c r)
-  dot_unlimited c r = dot_from (none rationals plain_cmp) c r ∙ ap Ok (Operators.none-plus rationals (dot rationals s c r))
+  dot_unlimited c r = dot_from (empty_sum rationals plain_cmp) c r ∙ ap Ok (Operators.zero-plus rationals (dot rationals s c r))
 
   -- a row times the columns from j on, n of them
   dots : ℕ → ℕ → Row rationals → List (Row rationals) → Row rationals
@@ -118,7 +98,7 @@ module _ (s : Signature) where
   length-dots j zero c m = refl
   length-dots j (suc n) c m = ap suc (length-dots (suc j) n c m)
 
-  entry-dots : (j n : ℕ) (c : Row rationals) (m : List (Row rationals)) (i : ℕ) → i < n → get_or (dots j n c m) i (none rationals plain_cmp) ≡ dot rationals s c (column rationals s (j + i) m)
+  entry-dots : (j n : ℕ) (c : Row rationals) (m : List (Row rationals)) (i : ℕ) → i < n → get_or (dots j n c m) i (empty_sum rationals plain_cmp) ≡ dot rationals s c (column rationals s (j + i) m)
   unfolding dots
   entry-dots j zero c m i h = absurd (omega arith)
   entry-dots j (suc n) c m zero h = ap (λ k. dot rationals s c (column rationals s k m)) (let e : j ≡ j + 0 = omega arith in e)
@@ -127,7 +107,7 @@ module _ (s : Signature) where
   -- the entries of a combination are the products with the columns
   dots_combine : (n : ℕ) (c : Row rationals) (m : List (Row rationals)) → AreLong rationals n m → dots 0 n c m ≡ combine rationals s n c m
   dots_combine n c m h =
-      ext_get_or (none rationals plain_cmp) _ _ (length-dots 0 n c m ∙ sym (length-combine rationals s (lawful s) n c m h))
+      ext_get_or (empty_sum rationals plain_cmp) _ _ (length-dots 0 n c m ∙ sym (length-combine rationals s (lawful s) n c m h))
       (λ i k. entry-dots 0 n c m i (subst (λ p. i < p) (length-dots 0 n c m) k)
       ∙ ap (λ p. dot rationals s c (column rationals s p m)) (let e : 0 + i ≡ i = omega arith in e)
       ∙ sym (entry-combine rationals s (lawful s) n c m i h))
@@ -143,17 +123,17 @@ module _ (s : Signature) where
 
 module _ (l : Limits) (s : Signature) where
   pub scale_at_most : (f : Operator rationals) (r : Row rationals) → IsAtMost (scale_within l s f r) (scale_within unlimited s f r)
-  scale_at_most f r = most_map _ _ (times_most l s f) r
+  scale_at_most f r = most_map _ _ (Ring.times_at_most l s f) r
 
   pub scale_value : (f : Operator rationals) (r x : Row rationals) → scale_within l s f r ≡ Ok x → x ≡ row_scale rationals s f r
   scale_value f r x = value_from (scale_within l s f r) (scale_within unlimited s f r) x (row_scale rationals s f r) (scale_at_most f r) (scale_unlimited s f r)
 
   added_most : (acc : Operator rationals) (p : Operator rationals × Operator rationals) → IsAtMost (product_added l s acc p) (product_added unlimited s acc p)
   unfolding product_added
-  added_most acc p = most_bind (times_within l s p.0 p.1) (times_within unlimited s p.0 p.1) _ _ (times_most l s p.0 p.1) (λ m. plus_most l acc m)
+  added_most acc p = most_bind (times_within l s p.0 p.1) (times_within unlimited s p.0 p.1) _ _ (Ring.times_at_most l s p.0 p.1) (λ m. Ring.plus_at_most l acc m)
 
   pub dot_at_most : (c r : Row rationals) → IsAtMost (dot_within l s c r) (dot_within unlimited s c r)
-  dot_at_most c r = most_fold _ _ added_most (none rationals plain_cmp) (zip c r)
+  dot_at_most c r = most_fold _ _ added_most (empty_sum rationals plain_cmp) (zip c r)
 
   pub dot_value : (c r : Row rationals) (x : Operator rationals) → dot_within l s c r ≡ Ok x → x ≡ dot rationals s c r
   dot_value c r x = value_from (dot_within l s c r) (dot_within unlimited s c r) x (dot rationals s c r) (dot_at_most c r) (dot_unlimited s c r)

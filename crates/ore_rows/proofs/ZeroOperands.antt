@@ -1,15 +1,16 @@
 -- Operations of the ring on the operator zero, under any limits: none of them stops.
---     plus_none, none_plus         a sum with zero is the other operand
---     minus_none                   a difference from which zero is taken is the same
---     times_none, none_times       a product with zero is zero
+--     plus_zero, zero_plus         a sum with zero is the other operand
+--     minus_zero                   a difference from which zero is taken is the same
+--     times_zero, zero_times       a product with zero is zero
+--     taken_none                   where a product with zero is taken away, the same is left
 --     adjoint_none                 the adjoint of zero is zero
 --     copied                       a copy gives what a definition gives that gives the operand
 use Rattle.std.proofs.Common.{◌≡◌, [], ◌∷◌, true, refl, sym, ap, ◌∙◌, subst, cond}
 use Rattle.std.specs.Prelude.{IfOk, IfErr}
 use Rattle.std.specs.declared.result.Result.{Result}
 use Rattle.std.specs.declared.result.Result.TheVariants.{Ok, Err}
-use Rattle.ore_algebra.specs.Free.{coefficient, none, plus, terms}
-use Rattle.ore_algebra.specs.Limits.{Limits, Cause, Overflow, Degree, where_test, fold_within}
+use Rattle.ore_algebra.specs.Free.{coefficient, empty_sum, plus, terms}
+use Rattle.ore_algebra.specs.Limits.{Limits, Cause, Overflow, Degree, ◌>>=◌, guard, fold_within}
 use Rattle.ore_rational.proofs.FractionLaws.{rationals}
 use Rattle.ore_monomial.specs.Gives.{Fails, Gives}
 use Rattle.ore_monomial.specs.Monomial.{plain_cmp}
@@ -26,23 +27,24 @@ use Rattle.ore_ring.specs.Within.{shared_fits, all_shared_fit, plus_within, minu
 use Rattle.ore_ring.proofs.AllTerms.{all_terms}
 use Rattle.ore_ring.proofs.Falls.{falls_none, falling-none}
 use Rattle.ore_ring.proofs.MergeIs.{fits_is, fits_none}
+use Rattle.ore_rows.specs.RowsWithin.{product_taken}
 
 module _ (l : Limits) where
-  pub plus_none : (f : Operator rationals) → plus_within l f (none rationals plain_cmp) ≡ Ok f
-  unfolding plus_within none
-  plus_none f =
-      ap (λ b. where_test b (plus rationals plain_cmp f (none rationals plain_cmp)) Overflow) (fits_is l DegLex (terms rationals plain_cmp f) [] ∙ fits_none l DegLex (terms rationals plain_cmp f))
-      ∙ ap Ok (Operators.plus_none rationals f)
+  pub plus_zero : (f : Operator rationals) → plus_within l f (empty_sum rationals plain_cmp) ≡ Ok f
+  unfolding plus_within empty_sum
+  plus_zero f =
+      ap (λ b. guard b (plus rationals plain_cmp f (empty_sum rationals plain_cmp)) Overflow) (fits_is l DegLex (terms rationals plain_cmp f) [] ∙ fits_none l DegLex (terms rationals plain_cmp f))
+      ∙ ap Ok (Operators.plus_zero rationals f)
 
-  pub none_plus : (f : Operator rationals) → plus_within l (none rationals plain_cmp) f ≡ Ok f
-  unfolding plus_within all_shared_fit none
-  none_plus f =
-      ap (λ b. where_test b (plus rationals plain_cmp (none rationals plain_cmp) f) Overflow) (all_terms (λ t. shared_fits l t.1 (coefficient rationals plain_cmp f t.0)) DegLex [] (falls_none DegLex))
-      ∙ ap Ok (Operators.none-plus rationals f)
+  pub zero_plus : (f : Operator rationals) → plus_within l (empty_sum rationals plain_cmp) f ≡ Ok f
+  unfolding plus_within all_shared_fit empty_sum
+  zero_plus f =
+      ap (λ b. guard b (plus rationals plain_cmp (empty_sum rationals plain_cmp) f) Overflow) (all_terms (λ t. shared_fits l t.1 (coefficient rationals plain_cmp f t.0)) DegLex [] (falls_none DegLex))
+      ∙ ap Ok (Operators.zero-plus rationals f)
 
-  pub minus_none : (f : Operator rationals) → minus_within l f (none rationals plain_cmp) ≡ Ok f
+  pub minus_zero : (f : Operator rationals) → minus_within l f (empty_sum rationals plain_cmp) ≡ Ok f
   unfolding opposite
-  minus_none f = ap (plus_within l f) (Operators.scale_none rationals (rationals.minus rationals.one)) ∙ plus_none f
+  minus_zero f = ap (plus_within l f) (Operators.scale-empty_sum rationals (rationals.minus rationals.one)) ∙ plus_zero f
 
   fits_all : (ts : Terms) → degrees_fit l ts [] ≡ true
   unfolding degrees_fit
@@ -55,20 +57,24 @@ module _ (l : Limits) where
     nothing_comes acc [] = refl
     nothing_comes acc (t ∷ ts) = nothing_comes acc ts
 
-    pub times_none : (f : Operator rationals) → times_within l s f (none rationals plain_cmp) ≡ Ok (none rationals plain_cmp)
+    pub times_zero : (f : Operator rationals) → times_within l s f (empty_sum rationals plain_cmp) ≡ Ok (empty_sum rationals plain_cmp)
     unfolding times_within
-    times_none f =
-        ap (λ us. cond (degrees_fit l (falling s.order f) us) (fold_within (row_within l s us) (none rationals plain_cmp) (falling s.order f)) (Err Degree)) (falling-none s.order)
-        ∙ ap (λ b. cond b (fold_within (row_within l s []) (none rationals plain_cmp) (falling s.order f)) (Err Degree)) (fits_all (falling s.order f))
-        ∙ nothing_comes (none rationals plain_cmp) (falling s.order f)
+    times_zero f =
+        ap (λ us. cond (degrees_fit l (falling s.order f) us) (fold_within (row_within l s us) (empty_sum rationals plain_cmp) (falling s.order f)) (Err Degree)) (falling-none s.order)
+        ∙ ap (λ b. cond b (fold_within (row_within l s []) (empty_sum rationals plain_cmp) (falling s.order f)) (Err Degree)) (fits_all (falling s.order f))
+        ∙ nothing_comes (empty_sum rationals plain_cmp) (falling s.order f)
 
-    pub none_times : (f : Operator rationals) → times_within l s (none rationals plain_cmp) f ≡ Ok (none rationals plain_cmp)
+    pub zero_times : (f : Operator rationals) → times_within l s (empty_sum rationals plain_cmp) f ≡ Ok (empty_sum rationals plain_cmp)
     unfolding times_within degrees_fit
-    none_times f = ap (λ ts. cond (degrees_fit l ts (falling s.order f)) (fold_within (row_within l s (falling s.order f)) (none rationals plain_cmp) ts) (Err Degree)) (falling-none s.order)
+    zero_times f = ap (λ ts. cond (degrees_fit l ts (falling s.order f)) (fold_within (row_within l s (falling s.order f)) (empty_sum rationals plain_cmp) ts) (Err Degree)) (falling-none s.order)
 
-    pub adjoint_none : adjoint_within l s (none rationals plain_cmp) ≡ Ok (none rationals plain_cmp)
+    pub taken_none : (d f : Operator rationals) → product_taken l s d f (empty_sum rationals plain_cmp) ≡ Ok f
+    unfolding product_taken
+    taken_none d f = ap (λ r. r >>= minus_within l f) (times_zero d) ∙ minus_zero f
+
+    pub adjoint_none : adjoint_within l s (empty_sum rationals plain_cmp) ≡ Ok (empty_sum rationals plain_cmp)
     unfolding adjoint_within
-    adjoint_none = ap (fold_within (adjoint_term_within l s) (none rationals plain_cmp)) (falling-none s.order)
+    adjoint_none = ap (fold_within (adjoint_term_within l s) (empty_sum rationals plain_cmp)) (falling-none s.order)
 
 pub copied : (r : Result Ordered RingStop) (f : Ordered) (given : Result (Operator rationals) Cause) → IfOk r (λ x. x ≡ f) → IfErr r (λ e. e ≡ Memory) → given ≡ Ok f.sum → Gives (λ (w : Ordered). w.sum) r given
 copied (Ok x) f given same memory e = e ∙ ap (λ (w : Ordered). Ok w.sum) (sym same)

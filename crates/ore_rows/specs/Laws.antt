@@ -10,7 +10,7 @@
 --                      what comes of the operator zero, under any limits: such an operation never stops
 use Rattle.std.specs.Prelude.{◌≡◌, ℕ, List, length}
 use Rattle.std.specs.declared.result.Result.TheVariants.{Ok}
-use Rattle.ore_algebra.specs.Free.{none}
+use Rattle.ore_algebra.specs.Free.{empty_sum}
 use Rattle.ore_algebra.specs.Limits.{Limits, unlimited, IsAtMost}
 use Rattle.ore_rational.proofs.FractionLaws.{rationals}
 use Rattle.ore_monomial.specs.Monomial.{plain_cmp}
@@ -106,16 +106,16 @@ module _ (s : Signature) where
 
 -- a product with zero is zero
 abbrev pub ZeroProduct : Signature → Type 0
-ZeroProduct s = (l : Limits) (f : Operator rationals) → (times_within l s f (none rationals plain_cmp) ≡ Ok (none rationals plain_cmp)) × (times_within l s (none rationals plain_cmp) f ≡ Ok (none rationals plain_cmp))
+ZeroProduct s = (l : Limits) (f : Operator rationals) → (times_within l s f (empty_sum rationals plain_cmp) ≡ Ok (empty_sum rationals plain_cmp)) × (times_within l s (empty_sum rationals plain_cmp) f ≡ Ok (empty_sum rationals plain_cmp))
 
 -- a sum with zero is the other operand
 abbrev pub ZeroSum : Type 0
-ZeroSum = (l : Limits) (f : Operator rationals) → (plus_within l f (none rationals plain_cmp) ≡ Ok f) × (plus_within l (none rationals plain_cmp) f ≡ Ok f)
+ZeroSum = (l : Limits) (f : Operator rationals) → (plus_within l f (empty_sum rationals plain_cmp) ≡ Ok f) × (plus_within l (empty_sum rationals plain_cmp) f ≡ Ok f)
 
 -- where zero is taken away, the same is left
 abbrev pub ZeroDifference : Type 0
-ZeroDifference = (l : Limits) (f : Operator rationals) → minus_within l f (none rationals plain_cmp) ≡ Ok f
+ZeroDifference = (l : Limits) (f : Operator rationals) → minus_within l f (empty_sum rationals plain_cmp) ≡ Ok f
 
 -- the adjoint of zero is zero
 abbrev pub ZeroAdjoint : Signature → Type 0
-ZeroAdjoint s = (l : Limits) → adjoint_within l s (none rationals plain_cmp) ≡ Ok (none rationals plain_cmp)
+ZeroAdjoint s = (l : Limits) → adjoint_within l s (empty_sum rationals plain_cmp) ≡ Ok (empty_sum rationals plain_cmp)

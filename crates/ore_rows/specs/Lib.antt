@@ -5,6 +5,7 @@ pub mod RowsWithin
 pub mod RowLead
 pub mod LeadFound
 pub mod Reduction
+pub mod ReduceRows
 pub mod StoredSteps
 pub mod StoredBasis
 pub mod Shown

@@ -2,8 +2,9 @@
 -- (Buchberger 1965; in algebras of this kind Kandri-Rody and Weispfenning 1990.)
 --     Monic                        a row of a basis, its cofactor row and its lead; R is what its rows are
 --     IsMonic, AreMonic            the lead has the coefficient 1
---     rows_of, cofactors_of, leads_of    the parts of some such rows
+--     basis_rows, cofactors_of, leads_of    the parts of some such rows
 --     origin, row_at, lead_at      a term; the row, and the lead, at a place
+--     basis_lead                   the noted lead of a row
 --     Step                         a fraction times a monomial times the row at an index
 --     step_operator                the fraction times the monomial
 --     Work                         a row, its cofactor row, and the steps that made them
@@ -53,8 +54,8 @@ abbrev pub AreMonic : (K : Domain) → Order → List (Monic (Row K)) → Type 0
 AreMonic K o basis = All (IsMonic K o) basis
 
 -- the rows of a basis alone, in order
-abbrev pub rows_of : {R : Type 0} → List (Monic R) → List R
-rows_of basis = map (λ b. b.row) basis
+abbrev pub basis_rows : {R : Type 0} → List (Monic R) → List R
+basis_rows basis = map (λ b. b.row) basis
 
 -- the cofactor rows alone, in order
 abbrev pub cofactors_of : {R : Type 0} → List (Monic R) → List R
@@ -72,9 +73,13 @@ origin = record { monomial = unit; column = 0 }
 abbrev pub row_at : {K : Domain} → List (Row K) → ℕ → Row K
 row_at rows i = get_or rows i []
 
--- the lead at place i
-abbrev pub lead_at : {R : Type 0} → List (Monic R) → ℕ → Term
-lead_at basis i = get_or (leads_of basis) i origin
+-- the lead at place i, and 1 in the first column past the last
+abbrev pub lead_at : List Term → ℕ → Term
+lead_at leads i = get_or leads i origin
+
+-- the noted lead of the row at place i
+abbrev pub basis_lead : {R : Type 0} → List (Monic R) → ℕ → Term
+basis_lead basis i = lead_at (leads_of basis) i
 
 -- ---- steps
 
@@ -102,7 +107,7 @@ after K s rows (t ∷ ts) z = after K s rows ts (row_minus K z (row_scale K s (s
 module _ (K : Domain) (o : Order) where
   -- the step that takes the term u of the row r away, by the basis row at place i
   abbrev pub step_by : List (Monic (Row K)) → Row K → Term → ℕ → Step K
-  step_by basis r u i = record { index = i; monomial = quotient u.monomial (lead_at basis i).monomial; number = coefficient_at K r u }
+  step_by basis r u i = record { index = i; monomial = quotient u.monomial (basis_lead basis i).monomial; number = coefficient_at K r u }
 
   -- the step that takes the lead away, by the first basis row whose lead divides it
   unfoldable pub next_step : List (Monic (Row K)) → Row K → Option (Step K)
@@ -122,7 +127,7 @@ module _ (K : Domain) (A : Arithmetic K) where
   -- the step times the basis row is taken from the row, and then the step times its cofactor row from the cofactor row
   unfoldable pub subtract : List (Monic (Row K)) → Step K → Work K → Result (Work K) Cause
   subtract basis t w = do
-    row ← less_multiple (step_operator K t) (row_at (rows_of basis) t.index) w.row
+    row ← less_multiple (step_operator K t) (row_at (basis_rows basis) t.index) w.row
     cofactor ← less_multiple (step_operator K t) (row_at (cofactors_of basis) t.index) w.cofactor
     Ok (record { row = row; cofactor = cofactor; steps = w.steps ++ t ∷ [] })
 

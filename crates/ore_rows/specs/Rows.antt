@@ -20,7 +20,7 @@
 use Rattle.std.specs.Prelude.{◌≡◌, ◌≢◌, ◌↔◌, ℕ, zero, suc, nat_eq, cond, List, [], ◌∷◌, length, map, replicate, get_or}
 use Rattle.std.specs.List.{AllByRecursion, range_with_len}
 use Rattle.ore_algebra.specs.Domain.{Domain}
-use Rattle.ore_algebra.specs.Free.{none, single, plus, scale}
+use Rattle.ore_algebra.specs.Free.{empty_sum, single, plus, scale}
 use Rattle.ore_monomial.specs.Monomial.{unit, plain_cmp}
 use Rattle.ore_monomial.specs.Signature.{Signature}
 use Rattle.ore_monomial.specs.LetterRule.{Operator}
@@ -42,11 +42,11 @@ AreLong K n rows = AllByRecursion (λ r. length r ≡ n) rows
 
 -- n zeros
 unfoldable pub zero_row : (K : Domain) → ℕ → Row K
-zero_row K n = replicate n (none K plain_cmp)
+zero_row K n = replicate n (empty_sum K plain_cmp)
 
 -- 1 at the place i, and zero at any other
 abbrev pub unit_entry : (K : Domain) → ℕ → ℕ → Operator K
-unit_entry K i j = cond (nat_eq j i) (single K plain_cmp unit K.one) (none K plain_cmp)
+unit_entry K i j = cond (nat_eq j i) (single K plain_cmp unit K.one) (empty_sum K plain_cmp)
 
 -- n zeros but for 1 at the place i
 unfoldable pub unit_row : (K : Domain) → ℕ → ℕ → Row K
@@ -68,7 +68,7 @@ row_minus K r q = row_plus K r (map (scale K plain_cmp (K.minus K.one)) q)
 -- a row times a column
 unfoldable pub dot : (K : Domain) → Signature → Row K → Row K → Operator K
 dot K s (a ∷ r) (b ∷ q) = plus K plain_cmp (times K s a b) (dot K s r q)
-dot K s r q = none K plain_cmp
+dot K s r q = empty_sum K plain_cmp
 
 module _ (K : Domain) (s : Signature) where
   -- d times each entry
@@ -91,7 +91,7 @@ module _ (K : Domain) (s : Signature) where
 
   -- some nonzero operator of the signature takes z into the row module of a
   unfoldable pub IsTorsion : ℕ → List (Row K) → Row K → Type 0
-  IsTorsion n a z = (d : Operator K) × OperatorOf K s d × (d ≢ none K plain_cmp) × InRowModule n a (row_scale d z)
+  IsTorsion n a z = (d : Operator K) × OperatorOf K s d × (d ≢ empty_sum K plain_cmp) × InRowModule n a (row_scale d z)
 
   -- each row of the signature that is torsion modulo a is in the row module of a
   unfoldable pub IsTorsionFree : ℕ → List (Row K) → Type 0
@@ -105,7 +105,7 @@ module _ (K : Domain) (s : Signature) where
 
   -- the entries at place j
   unfoldable pub column : ℕ → List (Row K) → Row K
-  column j a = map (λ r. get_or r j (none K plain_cmp)) a
+  column j a = map (λ r. get_or r j (empty_sum K plain_cmp)) a
 
   -- the adjoints of the columns from j on, n of them
   unfoldable pub adjoint_columns : ℕ → ℕ → List (Row K) → List (Row K)

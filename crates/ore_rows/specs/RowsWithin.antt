@@ -3,20 +3,23 @@
 --     scale_within                       an operator times each entry
 --     sum_within, difference_within      of two rows, entry by entry
 --     product_added                      a product of operators, added to an operator
+--     HasDegrees                         the degrees of the product of two operators fit
+--     product_taken, in_turn             a product of operators, taken from an operator; from each entry of a row in turn
 --     dot_within                         a row times a column
 --     combine_from, combine_within       a row times some columns of a matrix, or all of them, column by column
 --     matrix_times_within                a matrix times a matrix, row by row
-use Rattle.std.specs.Prelude.{ℕ, zero, suc, List, [], ◌∷◌}
+use Rattle.std.specs.Prelude.{◌≡◌, true, ℕ, zero, suc, List, [], ◌∷◌}
 use Rattle.std.specs.List.{zip}
 use Rattle.std.specs.declared.result.Result.{Result}
 use Rattle.std.specs.declared.result.Result.TheVariants.{Ok}
-use Rattle.ore_algebra.specs.Free.{none}
-use Rattle.ore_algebra.specs.Limits.{Limits, Cause, ◌>>=◌, fold_within, map_within}
+use Rattle.ore_algebra.specs.Free.{empty_sum}
+use Rattle.ore_algebra.specs.Limits.{Limits, Cause, program, ◌>>=◌, fold_within, map_within}
 use Rattle.ore_rational.proofs.FractionLaws.{rationals}
 use Rattle.ore_monomial.specs.Monomial.{plain_cmp}
 use Rattle.ore_monomial.specs.Signature.{Signature}
 use Rattle.ore_monomial.specs.LetterRule.{Operator}
-use Rattle.ore_ring.specs.Within.{plus_within, minus_within, times_within}
+use Rattle.ore_ring.specs.Terms.{falling}
+use Rattle.ore_ring.specs.Within.{plus_within, minus_within, times_within, degrees_fit}
 use Rattle.ore_rows.specs.Arithmetic.{within, entry_by_entry, scaled}
 use Rattle.ore_rows.specs.Rows.{Row, column}
 
@@ -27,6 +30,10 @@ sum_within l r q = entry_by_entry (plus_within l) r q
 -- the differences of the entries at one place, in order
 abbrev pub difference_within : Limits → Row rationals → Row rationals → Result (Row rationals) Cause
 difference_within l r q = entry_by_entry (minus_within l) r q
+
+-- no two terms of d and f have degrees with too great a sum
+abbrev pub HasDegrees : Signature → Operator rationals → Operator rationals → Type 0
+HasDegrees s d f = degrees_fit program (falling s.order d) (falling s.order f) ≡ true
 
 module _ (l : Limits) (s : Signature) where
   -- f times each entry, in order
@@ -39,9 +46,19 @@ module _ (l : Limits) (s : Signature) where
     m ← times_within l s p.0 p.1
     plus_within l acc m
 
+  -- d times g is taken from f
+  unfoldable pub product_taken : Operator rationals → Operator rationals → Operator rationals → Result (Operator rationals) Cause
+  product_taken d f g = do
+    m ← times_within l s d g
+    minus_within l f m
+
+  -- d times each entry of q is taken from the entry of r at its place, one after another
+  abbrev pub in_turn : Operator rationals → Row rationals → Row rationals → Result (Row rationals) Cause
+  in_turn d r q = entry_by_entry (product_taken d) r q
+
   -- from zero, the product of each entry with that of the column is added
   abbrev pub dot_within : Row rationals → Row rationals → Result (Operator rationals) Cause
-  dot_within c r = fold_within product_added (none rationals plain_cmp) (zip c r)
+  dot_within c r = fold_within product_added (empty_sum rationals plain_cmp) (zip c r)
 
   -- the columns from j on, n of them
   unfoldable pub combine_from : ℕ → ℕ → Row rationals → List (Row rationals) → Result (Row rationals) Cause

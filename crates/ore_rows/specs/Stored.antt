@@ -8,7 +8,7 @@
 use Rattle.std.specs.Prelude.{◌≡◌, ℕ, List, map, length, get_or, refl}
 use Rattle.std.specs.List.{All}
 use Rattle.std.specs.Coded.{Coded, coded×, coded_list, coded_ℕ, code_by}
-use Rattle.ore_algebra.specs.Free.{none}
+use Rattle.ore_algebra.specs.Free.{empty_sum}
 use Rattle.ore_rational.proofs.FractionLaws.{rationals}
 use Rattle.ore_monomial.specs.Monomial.{plain_cmp}
 use Rattle.ore_ring.specs.Ordered.{Ordered, ordered_code}
@@ -21,7 +21,7 @@ pub record OperatorMatrix : Type 0 where
 
 -- each entry is the operator zero
 abbrev pub IsZeroRow : List Ordered → Type 0
-IsZeroRow r = All (λ f. f.sum ≡ none rationals plain_cmp) r
+IsZeroRow r = All (λ f. f.sum ≡ empty_sum rationals plain_cmp) r
 
 -- each row has n entries
 abbrev pub HasColumns : ℕ → List (List Ordered) → Type 0
@@ -37,7 +37,7 @@ rows_of m = map sums_of m.rows
 
 -- the operators at place j of some rows, zero where a row is too short
 abbrev pub places : ℕ → List (List Ordered) → Row rationals
-places j rows = map (λ r. get_or r j (none rationals plain_cmp)) (map sums_of rows)
+places j rows = map (λ r. get_or r j (empty_sum rationals plain_cmp)) (map sums_of rows)
 
 -- ---- codes
 

@@ -5,7 +5,7 @@ ghost use Rattle.std.specs.List.{All};
 ghost use Rattle.ore_rational.proofs.FractionLaws.{rationals};
 ghost use Rattle.ore_monomial.specs.Term.{Term};
 ghost use Rattle.ore_ring.specs.Belongs.{Belongs};
-ghost use Rattle.ore_rows.specs.Reduction.{rows_of, cofactors_of, leads_of, lead_at};
+ghost use Rattle.ore_rows.specs.Reduction.{basis_rows, cofactors_of, leads_of, basis_lead};
 ghost use Rattle.ore_rows.specs.RowLead.{IsRowLead};
 ghost use Rattle.ore_rows.specs.Stored.{sums_of};
 ghost use Rattle.ore_rows.specs.StoredBasis.{HasLead, HaveLeads, HaveWidths};
@@ -89,9 +89,9 @@ impl Basis {
     /// The row at place `k`, which is below [`Basis::len`]; the first has place 0.
     pub fn row(&self, k: usize) -> &Row
         requires { k < length self.now.items }
-        ensures value { slice_get (rows_of self.now.items) k ≡ Some result.now }
+        ensures value { slice_get (basis_rows self.now.items) k ≡ Some result.now }
         ensures width { length result.now ≡ self.now.cols }
-        ensures lead { HasLead result.now (lead_at self.now.items k) }
+        ensures lead { HasLead result.now (basis_lead self.now.items k) }
     {
         let entry = &self.items[k];
         &entry.row

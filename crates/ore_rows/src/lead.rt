@@ -39,7 +39,11 @@ fn found_with(
     requires before { IsLeadFound sig.now.order (take k row.now) before }
     ensures { IsLeadFound sig.now.order (take (k + 1) row.now) result }
 {
-    greater(sig.order(), before, k, lead(row.entry(k)))
+    let entry = row.entry(k);
+    if entry.is_zero() {
+        return before;
+    }
+    greater(sig.order(), before, k, lead(entry))
 }
 
 // The greater of the lead before the column `k` and the lead of the entry there.

@@ -11,7 +11,8 @@
 //! and stops as the first operation of the ring that stops in the order that stands there. Want of memory
 //! is the one answer beside it. [`row_copy`] and [`stack`], which puts a row above a matrix, stop for want of
 //! memory alone. [`row_take`] is `row_sub` of a row that is moved in, and [`row_less`] takes a multiple of
-//! another row from it; they move the entries that stay.
+//! another row from it; they move the entries that stay. Where the degrees fit, `row_less` forms each difference right
+//! after its product, since then nothing stops but for one cause (`proofs/InTurn.antt`).
 //!
 //! No product, sum or difference with the operator zero is formed: it has its value under any limits
 //! (`laws::law_zero`), so that an operation stops exactly where its definition does.

@@ -24,14 +24,14 @@ use std::alloc::Global;
 /// The stop of the first product or sum that stops, and want of memory.
 pub fn combine<R: OreRing>(ring: &R, alloc: Global, c: &Row, m: &Matrix) -> Result<Row, RingStop>
     requires rows { length c.now ≡ length m.now.rows }
-    requires c_of { All (Belongs (R.signature_of ring.now)) c.now }
-    requires m_of { All (All (Belongs (R.signature_of ring.now))) m.now.rows }
-    ensures gives { Gives sums_of result (combine_within program (R.signature_of ring.now) m.now.cols (sums_of c.now) (rows_of m.now)) }
-    ensures of { IfOk result (All (Belongs (R.signature_of ring.now))) }
+    requires c_of { All (Belongs (R.sig ring.now)) c.now }
+    requires m_of { All (All (Belongs (R.sig ring.now))) m.now.rows }
+    ensures gives { Gives sums_of result (combine_within program (R.sig ring.now) m.now.cols (sums_of c.now) (rows_of m.now)) }
+    ensures of { IfOk result (All (Belongs (R.sig ring.now))) }
     ensures width { IfOk result (λ r. length r ≡ m.now.cols) }
 {
     let rows = m.rows_slice();
-    let mut out = Vec::new(alloc);
+    let mut out = Vec::with_capacity(alloc, m.cols())?;
     for j in 0..m.cols() {
         out.push(dot(ring, alloc, c.entries(), rows, j)?)?;
     }
@@ -50,13 +50,13 @@ pub fn times<R: OreRing>(
     b: &Matrix,
 ) -> Result<Matrix, RingStop>
     requires fits { a.now.cols ≡ length b.now.rows }
-    requires a_of { All (All (Belongs (R.signature_of ring.now))) a.now.rows }
-    requires b_of { All (All (Belongs (R.signature_of ring.now))) b.now.rows }
-    ensures gives { Gives rows_of result (matrix_times_within program (R.signature_of ring.now) b.now.cols (rows_of a.now) (rows_of b.now)) }
+    requires a_of { All (All (Belongs (R.sig ring.now))) a.now.rows }
+    requires b_of { All (All (Belongs (R.sig ring.now))) b.now.rows }
+    ensures gives { Gives rows_of result (matrix_times_within program (R.sig ring.now) b.now.cols (rows_of a.now) (rows_of b.now)) }
     ensures cols { IfOk result (λ m. m.cols ≡ b.now.cols) }
-    ensures of { IfOk result (λ m. All (All (Belongs (R.signature_of ring.now))) m.rows) }
+    ensures of { IfOk result (λ m. All (All (Belongs (R.sig ring.now))) m.rows) }
 {
-    let mut out = Vec::new(alloc);
+    let mut out = Vec::with_capacity(alloc, a.rows())?;
     for row in a.rows_slice() {
         out.push(combine(ring, alloc, row, b)?)?;
     }
@@ -70,11 +70,11 @@ pub fn times<R: OreRing>(
 /// Want of memory.
 pub fn stack<R: OreRing>(ring: &R, alloc: Global, z: &Row, m: &Matrix) -> Result<Matrix, RingStop>
     requires width { length z.now ≡ m.now.cols }
-    requires z_of { All (Belongs (R.signature_of ring.now)) z.now }
-    requires m_of { All (All (Belongs (R.signature_of ring.now))) m.now.rows }
+    requires z_of { All (Belongs (R.sig ring.now)) z.now }
+    requires m_of { All (All (Belongs (R.sig ring.now))) m.now.rows }
     ensures value { IfOk result (λ x. x ≡ record { cols = m.now.cols; rows = z.now ∷ m.now.rows }) }
     ensures memory { IfErr result (λ e. e ≡ Memory) }
-    ensures of { IfOk result (λ x. All (All (Belongs (R.signature_of ring.now))) x.rows) }
+    ensures of { IfOk result (λ x. All (All (Belongs (R.sig ring.now))) x.rows) }
 {
     let mut out = Vec::new(alloc);
     out.push(row_copy(ring, alloc, z)?)?;
@@ -87,11 +87,11 @@ pub fn stack<R: OreRing>(ring: &R, alloc: Global, z: &Row, m: &Matrix) -> Result
 // A product added to an operator.
 #[tactic(auto, unfolding(crate::specs::RowsWithin::product_added))]
 fn add_product<R: OreRing>(ring: &R, alloc: Global, acc: Op, f: &Op, g: &Op) -> Result<Op, RingStop>
-    requires acc_of { Belongs (R.signature_of ring.now) acc }
-    requires f_of { Belongs (R.signature_of ring.now) f.now }
-    requires g_of { Belongs (R.signature_of ring.now) g.now }
-    ensures gives { Gives (λ f. f.sum) result (product_added program (R.signature_of ring.now) acc.sum (f.now.sum, g.now.sum)) }
-    ensures of { IfOk result (Belongs (R.signature_of ring.now)) }
+    requires acc_of { Belongs (R.sig ring.now) acc }
+    requires f_of { Belongs (R.sig ring.now) f.now }
+    requires g_of { Belongs (R.sig ring.now) g.now }
+    ensures gives { Gives (λ f. f.sum) result (product_added program (R.sig ring.now) acc.sum (f.now.sum, g.now.sum)) }
+    ensures of { IfOk result (Belongs (R.sig ring.now)) }
 {
     let product = mul(ring, alloc, f, g)?;
     join(ring, alloc, acc, product)
@@ -105,11 +105,11 @@ fn dot<R: OreRing>(
     rows: &[Row],
     j: usize,
 ) -> Result<Op, RingStop>
-    requires c_of { All (Belongs (R.signature_of ring.now)) c.now }
-    requires rows_of { All (All (Belongs (R.signature_of ring.now))) rows.now }
+    requires c_of { All (Belongs (R.sig ring.now)) c.now }
+    requires rows_of { All (All (Belongs (R.sig ring.now))) rows.now }
     requires place { All (λ r. j < length r) rows.now }
-    ensures gives { Gives (λ f. f.sum) result (dot_within program (R.signature_of ring.now) (sums_of c.now) (places j rows.now)) }
-    ensures of { IfOk result (Belongs (R.signature_of ring.now)) }
+    ensures gives { Gives (λ f. f.sum) result (dot_within program (R.sig ring.now) (sums_of c.now) (places j rows.now)) }
+    ensures of { IfOk result (Belongs (R.sig ring.now)) }
 {
     let mut acc = Op::zero(alloc, ring.signature().order());
     for (f, row) in c.iter().zip(rows) {

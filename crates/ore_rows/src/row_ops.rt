@@ -1,6 +1,6 @@
 //! Operations of a ring on rows.
 
-ghost use Rattle.std.specs.Prelude.{◌≡◌, length, IfOk, IfErr};
+ghost use Rattle.std.specs.Prelude.{◌≡◌, true, length, IfOk, IfErr};
 ghost use Rattle.std.specs.List.{All};
 ghost use Rattle.ore_algebra.specs.Limits.{program};
 ghost use Rattle.ore_monomial.specs.Gives.{Gives};
@@ -9,27 +9,28 @@ ghost use Rattle.ore_rational.proofs.FractionLaws.{rationals};
 ghost use Rattle.ore_ring.specs.Belongs.{Belongs};
 ghost use Rattle.ore_rows.specs.Arithmetic.{within};
 ghost use Rattle.ore_rows.specs.Reduction.{less_multiple};
-ghost use Rattle.ore_rows.specs.RowsWithin.{scale_within, sum_within, difference_within};
+ghost use Rattle.ore_rows.specs.RowsWithin.{scale_within, sum_within, difference_within, HasDegrees, in_turn};
 ghost use Rattle.ore_rows.specs.Stored.{sums_of};
 
-use crate::entry_ops::{add, mul, sub, take};
+use crate::entry_ops::{add, less, mul, sub, take};
 use crate::row::Row;
 use ore_monomial::RingStop;
-use ore_ring::{Op, OreRing};
+use ore_ring::{Op, OreRing, degrees_fit};
 use std::alloc::Global;
+use std::mem;
 
 /// `f` times each entry, in order. `f` and the entries are of the signature of the ring.
 ///
 /// # Errors
 /// The stop of the first product that stops, and want of memory.
 pub fn scale<R: OreRing>(ring: &R, alloc: Global, f: &Op, row: &Row) -> Result<Row, RingStop>
-    requires f_of { Belongs (R.signature_of ring.now) f.now }
-    requires row_of { All (Belongs (R.signature_of ring.now)) row.now }
-    ensures gives { Gives sums_of result (scale_within program (R.signature_of ring.now) f.now.sum (sums_of row.now)) }
-    ensures of { IfOk result (All (Belongs (R.signature_of ring.now))) }
+    requires f_of { Belongs (R.sig ring.now) f.now }
+    requires row_of { All (Belongs (R.sig ring.now)) row.now }
+    ensures gives { Gives sums_of result (scale_within program (R.sig ring.now) f.now.sum (sums_of row.now)) }
+    ensures of { IfOk result (All (Belongs (R.sig ring.now))) }
     ensures width { IfOk result (λ r. length r ≡ length row.now) }
 {
-    let mut out = Vec::new(alloc);
+    let mut out = Vec::with_capacity(alloc, row.len())?;
     for g in row.entries() {
         out.push(mul(ring, alloc, f, g)?)?;
     }
@@ -44,7 +45,7 @@ pub fn row_copy<R: OreRing>(ring: &R, alloc: Global, row: &Row) -> Result<Row, R
     ensures same { IfOk result (λ r. r ≡ row.now) }
     ensures memory { IfErr result (λ e. e ≡ Memory) }
 {
-    let mut out = Vec::new(alloc);
+    let mut out = Vec::with_capacity(alloc, row.len())?;
     for g in row.entries() {
         out.push(ring.copy(alloc, g)?)?;
     }
@@ -57,13 +58,13 @@ pub fn row_copy<R: OreRing>(ring: &R, alloc: Global, row: &Row) -> Result<Row, R
 /// The stop of the first sum that stops, and want of memory.
 pub fn row_add<R: OreRing>(ring: &R, alloc: Global, a: &Row, b: &Row) -> Result<Row, RingStop>
     requires lengths { length a.now ≡ length b.now }
-    requires a_of { All (Belongs (R.signature_of ring.now)) a.now }
-    requires b_of { All (Belongs (R.signature_of ring.now)) b.now }
+    requires a_of { All (Belongs (R.sig ring.now)) a.now }
+    requires b_of { All (Belongs (R.sig ring.now)) b.now }
     ensures gives { Gives sums_of result (sum_within program (sums_of a.now) (sums_of b.now)) }
-    ensures of { IfOk result (All (Belongs (R.signature_of ring.now))) }
+    ensures of { IfOk result (All (Belongs (R.sig ring.now))) }
     ensures width { IfOk result (λ r. length r ≡ length a.now) }
 {
-    let mut out = Vec::new(alloc);
+    let mut out = Vec::with_capacity(alloc, a.len())?;
     for (f, g) in a.entries().iter().zip(b.entries()) {
         out.push(add(ring, alloc, f, g)?)?;
     }
@@ -76,13 +77,13 @@ pub fn row_add<R: OreRing>(ring: &R, alloc: Global, a: &Row, b: &Row) -> Result<
 /// The stop of the first difference that stops, and want of memory.
 pub fn row_sub<R: OreRing>(ring: &R, alloc: Global, a: &Row, b: &Row) -> Result<Row, RingStop>
     requires lengths { length a.now ≡ length b.now }
-    requires a_of { All (Belongs (R.signature_of ring.now)) a.now }
-    requires b_of { All (Belongs (R.signature_of ring.now)) b.now }
+    requires a_of { All (Belongs (R.sig ring.now)) a.now }
+    requires b_of { All (Belongs (R.sig ring.now)) b.now }
     ensures gives { Gives sums_of result (difference_within program (sums_of a.now) (sums_of b.now)) }
-    ensures of { IfOk result (All (Belongs (R.signature_of ring.now))) }
+    ensures of { IfOk result (All (Belongs (R.sig ring.now))) }
     ensures width { IfOk result (λ r. length r ≡ length a.now) }
 {
-    let mut out = Vec::new(alloc);
+    let mut out = Vec::with_capacity(alloc, a.len())?;
     for (f, g) in a.entries().iter().zip(b.entries()) {
         out.push(sub(ring, alloc, f, g)?)?;
     }
@@ -96,21 +97,21 @@ pub fn row_sub<R: OreRing>(ring: &R, alloc: Global, a: &Row, b: &Row) -> Result<
 /// The stop of the first difference that stops, and want of memory. Then the first row is dropped.
 pub fn row_take<R: OreRing>(ring: &R, alloc: Global, row: Row, other: &Row) -> Result<Row, RingStop>
     requires lengths { length row ≡ length other.now }
-    requires row_of { All (Belongs (R.signature_of ring.now)) row }
-    requires other_of { All (Belongs (R.signature_of ring.now)) other.now }
+    requires row_of { All (Belongs (R.sig ring.now)) row }
+    requires other_of { All (Belongs (R.sig ring.now)) other.now }
     ensures gives { Gives sums_of result (difference_within program (sums_of row) (sums_of other.now)) }
-    ensures of { IfOk result (All (Belongs (R.signature_of ring.now))) }
+    ensures of { IfOk result (All (Belongs (R.sig ring.now))) }
     ensures width { IfOk result (λ r. length r ≡ length row) }
 {
-    let mut out = Vec::new(alloc);
+    let mut out = Vec::with_capacity(alloc, row.len())?;
     for (f, g) in row.into_vec().into_iter().zip(other.entries()) {
         out.push(take(ring, alloc, f, g)?)?;
     }
     Ok(Row::from_vec(out))
 }
 
-/// A row less `f` times another of its length: the products are formed in order, and then the differences. Entries
-/// whose multiple is zero are moved. All operators are of the signature of the ring.
+/// A row less `f` times another of its length. It stops as if the products were formed in order, and then the
+/// differences. Entries whose multiple is zero are moved. All operators are of the signature of the ring.
 ///
 /// # Errors
 /// The stop of the first product or difference that stops, and want of memory. Then the first row is dropped.
@@ -123,13 +124,60 @@ pub fn row_less<R: OreRing>(
     other: &Row,
 ) -> Result<Row, RingStop>
     requires lengths { length row ≡ length other.now }
-    requires row_of { All (Belongs (R.signature_of ring.now)) row }
-    requires f_of { Belongs (R.signature_of ring.now) f.now }
-    requires other_of { All (Belongs (R.signature_of ring.now)) other.now }
-    ensures gives { Gives sums_of result (less_multiple rationals (within program (R.signature_of ring.now)) f.now.sum (sums_of other.now) (sums_of row)) }
-    ensures of { IfOk result (All (Belongs (R.signature_of ring.now))) }
+    requires row_of { All (Belongs (R.sig ring.now)) row }
+    requires f_of { Belongs (R.sig ring.now) f.now }
+    requires other_of { All (Belongs (R.sig ring.now)) other.now }
+    ensures gives { Gives sums_of result (less_multiple rationals (within program (R.sig ring.now)) f.now.sum (sums_of other.now) (sums_of row)) }
+    ensures of { IfOk result (All (Belongs (R.sig ring.now))) }
     ensures width { IfOk result (λ r. length r ≡ length row) }
 {
+    if degrees_fit_in(ring, f, other) {
+        return less_in_turn(ring, alloc, row, f, other);
+    }
     let multiple = scale(ring, alloc, f, other)?;
     row_take(ring, alloc, row, &multiple)
+}
+
+// Whether the degrees of `f` times each entry fit.
+fn degrees_fit_in<R: OreRing>(ring: &R, f: &Op, row: &Row) -> bool
+    requires f_of { Belongs (R.sig ring.now) f.now }
+    requires row_of { All (Belongs (R.sig ring.now)) row.now }
+    ensures { result ≡ true → All (λ g. HasDegrees (R.sig ring.now) f.now.sum g.sum) row.now }
+{
+    let _ = ring;
+    for g in row.entries() {
+        if !degrees_fit(f, g) {
+            return false;
+        }
+    }
+    true
+}
+
+// Entry by entry, each less `f` times the other entry, in the memory of the row; an entry stays where the other one is
+// zero. Where all degrees fit, only Overflow stops a product or a difference, so it doesn't matter which comes first.
+fn less_in_turn<R: OreRing>(
+    ring: &R,
+    alloc: Global,
+    row: Row,
+    f: &Op,
+    other: &Row,
+) -> Result<Row, RingStop>
+    requires lengths { length row ≡ length other.now }
+    requires row_of { All (Belongs (R.sig ring.now)) row }
+    requires f_of { Belongs (R.sig ring.now) f.now }
+    requires other_of { All (Belongs (R.sig ring.now)) other.now }
+    ensures gives { Gives sums_of result (in_turn program (R.sig ring.now) f.now.sum (sums_of row) (sums_of other.now)) }
+    ensures of { IfOk result (All (Belongs (R.sig ring.now))) }
+    ensures width { IfOk result (λ r. length r ≡ length row) }
+{
+    let mut entries = row.into_vec();
+    for k in 0..entries.len() {
+        let g = other.entry(k);
+        if g.is_zero() {
+            continue;
+        }
+        let entry = mem::replace(&mut entries[k], Op::zero(alloc, f.order()));
+        entries[k] = less(ring, alloc, f, entry, g)?;
+    }
+    Ok(Row::from_vec(entries))
 }

@@ -2,7 +2,7 @@
 
 ghost use Rattle.std.specs.Prelude.{◌≡◌, length, cond, IfOk};
 ghost use Rattle.std.specs.List.{All};
-ghost use Rattle.ore_algebra.specs.Free.{none, single};
+ghost use Rattle.ore_algebra.specs.Free.{empty_sum, single};
 ghost use Rattle.ore_rational.proofs.FractionLaws.{rationals};
 ghost use Rattle.ore_monomial.specs.Monomial.{plain_cmp};
 ghost use Rattle.ore_monomial.specs.Monomial as monomials;
@@ -27,7 +27,7 @@ pub fn unit_row(alloc: Global, sig: &Signature, n: usize, i: usize) -> Result<Ro
     ensures width { IfOk result (λ r. length r ≡ n) }
     ensures of { IfOk result (All (Belongs sig.now)) }
 {
-    let mut out = Vec::new(alloc);
+    let mut out = Vec::with_capacity(alloc, n)?;
     for k in 0..n {
         out.push(one_or_zero(alloc, sig, k == i)?)?;
     }
@@ -44,7 +44,7 @@ pub fn identity(alloc: Global, sig: &Signature, n: usize) -> Result<Matrix, NoMe
     ensures count { IfOk result (λ m. length m.rows ≡ n) }
     ensures of { IfOk result (λ m. All (All (Belongs sig.now)) m.rows) }
 {
-    let mut out = Vec::new(alloc);
+    let mut out = Vec::with_capacity(alloc, n)?;
     for k in 0..n {
         out.push(unit_row(alloc, sig, n, k)?)?;
     }
@@ -53,7 +53,7 @@ pub fn identity(alloc: Global, sig: &Signature, n: usize) -> Result<Matrix, NoMe
 
 // The operator 1, or the operator 0.
 fn one_or_zero(alloc: Global, sig: &Signature, one: bool) -> Result<Op, NoMemory>
-    ensures value { IfOk result (λ f. f.sum ≡ cond one (single rationals plain_cmp monomials.unit rationals.one) (none rationals plain_cmp)) }
+    ensures value { IfOk result (λ f. f.sum ≡ cond one (single rationals plain_cmp monomials.unit rationals.one) (empty_sum rationals plain_cmp)) }
     ensures of { IfOk result (Belongs sig.now) }
 {
     if !one {

@@ -8,5 +8,5 @@ use Rattle.ore_adjoint.proofs.matrix.adjoint.Goals as goal
 
 pub returns-then-is_zero-clause-gives : goal.returns-then-is_zero-clause-gives
 returns-then-is_zero-clause-gives g c =
-    let s = g.R.OreRing.signature_of c.args.ring.now in
+    let s = g.R.OreRing.sig c.args.ring.now in
     ap (adjoint_within program s) (c.if-is_zero.ensures.0 refl) ∙ adjoint_none program s ∙ ap (λ (w : Ordered). Ok w.sum) (sym c.zero.ensures)

@@ -14,7 +14,7 @@ use Rattle.ore_adjoint.proofs.matrix.adjoint_column.Goals as goal
 
 pub returns-in_err-adjoint-clause-gives : goal.returns-in_err-adjoint-clause-gives
 returns-in_err-adjoint-clause-gives g c =
-    let s = g.R.OreRing.signature_of c.args.ring.now in
+    let s = g.R.OreRing.sig c.args.ring.now in
     let front = sums_of c.loop-i.out.items in
     let p = err_from_is_err_and c.from_residual.result c.from_residual.ensures.1 in
     rw (p.1, p.2) (fails_like _ _ _
@@ -25,7 +25,7 @@ returns-in_err-adjoint-clause-gives g c =
 
 pub loop-i-preserved : goal.loop-i-preserved
 loop-i-preserved g c =
-    let s = g.R.OreRing.signature_of c.args.ring.now in
+    let s = g.R.OreRing.sig c.args.ring.now in
     let front = sums_of c.loop-i.out.items in
     let rest = column rationals s c.args.j (map sums_of (drop (c.loop-i.i + 1) c.args.m.now.rows)) in
     record {
@@ -41,7 +41,7 @@ loop-i-preserved g c =
 
 pub returns-clause-gives : goal.returns-clause-gives
 returns-clause-gives g c =
-    let s = g.R.OreRing.signature_of c.args.ring.now in
+    let s = g.R.OreRing.sig c.args.ring.now in
     let front = sums_of c.loop-i.out.items in
     let past : length c.args.m.now.rows ≤ c.loop-i.i = omega (arith, c.loop-i-test.false, c.rows-i-end.ensures.value) in
     sym c.loop-i.invariant.told

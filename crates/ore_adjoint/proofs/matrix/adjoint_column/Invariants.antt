@@ -11,7 +11,7 @@ use Rattle.ore_adjoint.proofs.matrix.adjoint_column.Given as goal
 
 abbrev pub invariant-loop-i : goal.invariant-loop-i
 invariant-loop-i g l = record {
-  told : fronted (sums_of l.out.items) (map_within (adjoint_within program (g.R.OreRing.signature_of l.ring)) (column rationals (g.R.OreRing.signature_of l.ring) l.j (map sums_of (drop l.i l.m.rows)))) ≡ adjoint_column_within program (g.R.OreRing.signature_of l.ring) l.j (rows_of l.m);
-  belongs : All (Belongs (g.R.OreRing.signature_of l.ring)) l.out.items;
+  told : fronted (sums_of l.out.items) (map_within (adjoint_within program (g.R.OreRing.sig l.ring)) (column rationals (g.R.OreRing.sig l.ring) l.j (map sums_of (drop l.i l.m.rows)))) ≡ adjoint_column_within program (g.R.OreRing.sig l.ring) l.j (rows_of l.m);
+  belongs : All (Belongs (g.R.OreRing.sig l.ring)) l.out.items;
   wide : length l.out.items ≡ l.i;
 }

@@ -12,7 +12,7 @@ use Rattle.ore_adjoint.proofs.matrix.transpose_adjoint.Goals as goal
 
 pub returns-in_err-adjoint_column-clause-gives : goal.returns-in_err-adjoint_column-clause-gives
 returns-in_err-adjoint_column-clause-gives g c =
-    let s = g.R.OreRing.signature_of c.args.ring.now in
+    let s = g.R.OreRing.sig c.args.ring.now in
     let row = λ (j : ℕ). adjoint_column_within program s j (rows_of c.args.m.now) in
     let front = map sums_of c.loop-j.out.items in
     let below : c.loop-j.j < c.args.m.now.cols = omega (arith, c.loop-j-test.true, c.cols-j-end.ensures.value) in
@@ -25,7 +25,7 @@ returns-in_err-adjoint_column-clause-gives g c =
 
 pub loop-j-preserved : goal.loop-j-preserved
 loop-j-preserved g c =
-    let s = g.R.OreRing.signature_of c.args.ring.now in
+    let s = g.R.OreRing.sig c.args.ring.now in
     let row = λ (j : ℕ). adjoint_column_within program s j (rows_of c.args.m.now) in
     let front = map sums_of c.loop-j.out.items in
     let rest = range_with_len (c.loop-j.j + 1) (c.args.m.now.cols - (c.loop-j.j + 1)) in
@@ -44,7 +44,7 @@ loop-j-preserved g c =
 
 pub returns-clause-gives : goal.returns-clause-gives
 returns-clause-gives g c =
-    let s = g.R.OreRing.signature_of c.args.ring.now in
+    let s = g.R.OreRing.sig c.args.ring.now in
     let row = λ (j : ℕ). adjoint_column_within program s j (rows_of c.args.m.now) in
     let front = map sums_of c.loop-j.out.items in
     let past : c.args.m.now.cols ≤ c.loop-j.j = omega (arith, c.loop-j-test.false, c.cols-j-end.ensures.value) in

@@ -15,7 +15,7 @@ use Rattle.ore_division.proofs.division.reduce.Goals as goal
 
 pub returns-in_err-work-clause-gives : goal.returns-in_err-work-clause-gives
 returns-in_err-work-clause-gives g c =
-    let s : Signature = g.R.OreRing.signature_of c.args.ring.now in
+    let s : Signature = g.R.OreRing.sig c.args.ring.now in
     let b = c.args.basis.now in
     let due = ap (λ (v : Signature). reduction.next_step rationals v.order (monics b) (sums_of c.loop-step.work.row)) (sym c.signature.ensures) ∙ sym c.in-Some.ensures.value in
     let start = ap (λ (ts : List (reduction.Step rationals)). reduction.reduce rationals s.order (within program s) (monics b) (record { row = sums_of c.args.row; cofactor = sums_of c.args.cofactor; steps = ts })) (c.from_vec.ensures ∙ c.new.ensures.items) in
@@ -25,14 +25,14 @@ returns-in_err-work-clause-gives g c =
 
 pub loop-step-smaller : goal.loop-step-smaller
 loop-step-smaller g c =
-    let s : Signature = g.R.OreRing.signature_of c.args.ring.now in
+    let s : Signature = g.R.OreRing.sig c.args.ring.now in
     let b = c.args.basis.now in
     let due = ap (λ (v : Signature). reduction.next_step rationals v.order (monics b) (sums_of c.loop-step.work.row)) (sym c.signature.ensures) ∙ sym c.in-Some.ensures.value in
     loop_smaller s b (are_monic s b c.requires.basis_of c.cols.ensures.leads) c.cols.ensures.widths (work_of c.loop-step.work) (long_row b.cols c.loop-step.work.row c.loop-step.invariant.row_width) c.in-Some.step due (work_of c.in_ok-work.work) c.in_ok-work.ensures.gives
 
 pub loop-step-preserved : goal.loop-step-preserved
 loop-step-preserved g c =
-    let s : Signature = g.R.OreRing.signature_of c.args.ring.now in
+    let s : Signature = g.R.OreRing.sig c.args.ring.now in
     let b = c.args.basis.now in
     let due = ap (λ (v : Signature). reduction.next_step rationals v.order (monics b) (sums_of c.loop-step.work.row)) (sym c.signature.ensures) ∙ sym c.in-Some.ensures.value in
     record {
@@ -45,7 +45,7 @@ loop-step-preserved g c =
 
 pub returns-clause-gives : goal.returns-clause-gives
 returns-clause-gives g c =
-    let s : Signature = g.R.OreRing.signature_of c.args.ring.now in
+    let s : Signature = g.R.OreRing.sig c.args.ring.now in
     let b = c.args.basis.now in
     let none = ap (λ (v : Signature). reduction.next_step rationals v.order (monics b) (sums_of c.loop-step.work.row)) (sym c.signature.ensures) ∙ sym c.in_default.ensures.value in
     let start = ap (λ (ts : List (reduction.Step rationals)). reduction.reduce rationals s.order (within program s) (monics b) (record { row = sums_of c.args.row; cofactor = sums_of c.args.cofactor; steps = ts })) (c.from_vec.ensures ∙ c.new.ensures.items) in

@@ -14,9 +14,9 @@ use Rattle.ore_rows.proofs.matrix_ops.combine.Goals as goal
 
 pub returns-in_err-dot-clause-gives : goal.returns-in_err-dot-clause-gives
 returns-in_err-dot-clause-gives g c =
-    let s = g.R.OreRing.signature_of c.args.ring.now in
+    let s = g.R.OreRing.sig c.args.ring.now in
     let j = c.loop-j.j in
-    let p = err_from_is_err_and c.from_residual.result c.from_residual.ensures.1 in
+    let p = err_from_is_err_and c.from_residual-in_err-dot.result c.from_residual-in_err-dot.ensures.1 in
     let same = column_places s j c.args.m.now.rows ∙ ap (places j) (sym c.rows_slice-rows.ensures.value) in
     rw (p.1, p.2) (fails_like _ _ _
     (λ e h. sym c.loop-j.invariant.told
@@ -26,7 +26,7 @@ returns-in_err-dot-clause-gives g c =
 
 pub loop-j-preserved : goal.loop-j-preserved
 loop-j-preserved g c =
-    let s = g.R.OreRing.signature_of c.args.ring.now in
+    let s = g.R.OreRing.sig c.args.ring.now in
     let j = c.loop-j.j in
     let same = column_places s j c.args.m.now.rows ∙ ap (places j) (sym c.rows_slice-rows.ensures.value) in
     record {
@@ -42,7 +42,7 @@ loop-j-preserved g c =
 
 pub returns-clause-gives : goal.returns-clause-gives
 returns-clause-gives g c =
-    let s = g.R.OreRing.signature_of c.args.ring.now in
+    let s = g.R.OreRing.sig c.args.ring.now in
     let past : c.cols-j-end.result ≤ c.loop-j.j = omega (arith, c.loop-j-test.false) in
     sym c.loop-j.invariant.told
     ∙ combine_end program s (sums_of c.args.c.now) (rows_of c.args.m.now) c.loop-j.j c.cols-j-end.result (sums_of c.loop-j.out.items) past

@@ -8,7 +8,7 @@ use Rattle.ore_rows.proofs.matrix_ops.combine.Given as goal
 
 abbrev pub invariant-loop-j : goal.invariant-loop-j
 invariant-loop-j g l = record {
-  told : fronted (sums_of l.out.items) (combine_from program (g.R.OreRing.signature_of l.ring) l.j (l.j-end - l.j) (sums_of l.c) (rows_of l.m)) ≡ combine_within program (g.R.OreRing.signature_of l.ring) l.m.cols (sums_of l.c) (rows_of l.m);
-  belongs : All (Belongs (g.R.OreRing.signature_of l.ring)) l.out.items;
+  told : fronted (sums_of l.out.items) (combine_from program (g.R.OreRing.sig l.ring) l.j (l.j-end - l.j) (sums_of l.c) (rows_of l.m)) ≡ combine_within program (g.R.OreRing.sig l.ring) l.m.cols (sums_of l.c) (rows_of l.m);
+  belongs : All (Belongs (g.R.OreRing.sig l.ring)) l.out.items;
   wide : length l.out.items ≡ l.j;
 }

@@ -21,8 +21,8 @@ loop-f-preserved g c =
           ∙ sym (both_next (λ (w : Ordered). w.sum) (plus_within program) c.loop-f.out.items _ _ _ _ _ _ c.in_ok-add.field-0 rests.0 rests.1 c.in_ok-add.ensures.gives)
           ∙ c.loop-f.invariant.told;
       belongs = search rules;
-      first_belongs = all_rest (Belongs (g.R.OreRing.signature_of c.args.ring.now)) _ _ _ rests.0 c.loop-f.invariant.first_belongs;
-      second_belongs = all_rest (Belongs (g.R.OreRing.signature_of c.args.ring.now)) _ _ _ rests.1 c.loop-f.invariant.second_belongs;
+      first_belongs = all_rest (Belongs (g.R.OreRing.sig c.args.ring.now)) _ _ _ rests.0 c.loop-f.invariant.first_belongs;
+      second_belongs = all_rest (Belongs (g.R.OreRing.sig c.args.ring.now)) _ _ _ rests.1 c.loop-f.invariant.second_belongs;
     }
 
 pub returns-clause-gives : goal.returns-clause-gives

@@ -11,7 +11,7 @@ use Rattle.ore_rows.proofs.row_ops.row_sub.Given as goal
 abbrev pub invariant-loop-f : goal.invariant-loop-f
 invariant-loop-f g l = record {
   told : fronted (sums_of l.out.items) (difference_within program (sums_of (iter_rest (zip_first l.f-iterator))) (sums_of (iter_rest (zip_second l.f-iterator)))) ≡ difference_within program (sums_of l.a) (sums_of l.b);
-  belongs : All (Belongs (g.R.OreRing.signature_of l.ring)) l.out.items;
-  first_belongs : All (Belongs (g.R.OreRing.signature_of l.ring)) (iter_rest (zip_first l.f-iterator));
-  second_belongs : All (Belongs (g.R.OreRing.signature_of l.ring)) (iter_rest (zip_second l.f-iterator));
+  belongs : All (Belongs (g.R.OreRing.sig l.ring)) l.out.items;
+  first_belongs : All (Belongs (g.R.OreRing.sig l.ring)) (iter_rest (zip_first l.f-iterator));
+  second_belongs : All (Belongs (g.R.OreRing.sig l.ring)) (iter_rest (zip_second l.f-iterator));
 }

@@ -23,8 +23,8 @@ loop-f-preserved g c =
           ∙ c.loop-f.invariant.told;
       belongs = search rules;
       count = shorter _ _ _ _ _ rests.0 rests.1 c.loop-f.invariant.count;
-      first_belongs = all_rest (Belongs (g.R.OreRing.signature_of c.args.ring.now)) _ _ _ rests.0 c.loop-f.invariant.first_belongs;
-      second_belongs = all_rest (Belongs (g.R.OreRing.signature_of c.args.ring.now)) _ _ _ rests.2 c.loop-f.invariant.second_belongs;
+      first_belongs = all_rest (Belongs (g.R.OreRing.sig c.args.ring.now)) _ _ _ rests.0 c.loop-f.invariant.first_belongs;
+      second_belongs = all_rest (Belongs (g.R.OreRing.sig c.args.ring.now)) _ _ _ rests.2 c.loop-f.invariant.second_belongs;
     }
 
 pub returns-clause-gives : goal.returns-clause-gives

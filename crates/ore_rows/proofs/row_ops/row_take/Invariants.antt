@@ -12,8 +12,8 @@ use Rattle.ore_rows.proofs.row_ops.row_take.Given as goal
 abbrev pub invariant-loop-f : goal.invariant-loop-f
 invariant-loop-f g l = record {
   told : fronted (sums_of l.out.items) (difference_within program (sums_of (into_iter_items (zip_first l.f-iterator))) (sums_of (iter_rest (zip_second l.f-iterator)))) ≡ difference_within program (sums_of l.fn.row) (sums_of l.other);
-  belongs : All (Belongs (g.R.OreRing.signature_of l.ring)) l.out.items;
+  belongs : All (Belongs (g.R.OreRing.sig l.ring)) l.out.items;
   count : length (into_iter_items (zip_first l.f-iterator)) ≡ into_iter_len (zip_first l.f-iterator);
-  first_belongs : All (Belongs (g.R.OreRing.signature_of l.ring)) (into_iter_items (zip_first l.f-iterator));
-  second_belongs : All (Belongs (g.R.OreRing.signature_of l.ring)) (iter_rest (zip_second l.f-iterator));
+  first_belongs : All (Belongs (g.R.OreRing.sig l.ring)) (into_iter_items (zip_first l.f-iterator));
+  second_belongs : All (Belongs (g.R.OreRing.sig l.ring)) (iter_rest (zip_second l.f-iterator));
 }

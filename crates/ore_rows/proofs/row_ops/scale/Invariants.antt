@@ -8,7 +8,7 @@ use Rattle.ore_rows.proofs.row_ops.scale.Given as goal
 
 abbrev pub invariant-loop-g : goal.invariant-loop-g
 invariant-loop-g g l = record {
-  told : fronted (sums_of l.out.items) (scale_within program (g.R.OreRing.signature_of l.ring) l.f.sum (sums_of (drop l.g-index l.g-items))) ≡ scale_within program (g.R.OreRing.signature_of l.ring) l.f.sum (sums_of l.row);
-  belongs : All (Belongs (g.R.OreRing.signature_of l.ring)) l.out.items;
+  told : fronted (sums_of l.out.items) (scale_within program (g.R.OreRing.sig l.ring) l.f.sum (sums_of (drop l.g-index l.g-items))) ≡ scale_within program (g.R.OreRing.sig l.ring) l.f.sum (sums_of l.row);
+  belongs : All (Belongs (g.R.OreRing.sig l.ring)) l.out.items;
   wide : length l.out.items ≡ l.g-index;
 }

@@ -1,7 +1,7 @@
 use Rattle.std.proofs.Common.{◌≡◌, length, subst, sym, ap, ◌∙◌, arith}
 use Rattle.std.specs.List.{slice_get}
 use Rattle.std.proofs.lemmas.Grind.{common_steps}
-use Rattle.ore_rows.specs.Reduction.{rows_of, lead_at}
+use Rattle.ore_rows.specs.Reduction.{basis_rows, basis_lead}
 use Rattle.ore_rows.specs.StoredBasis.{HasLead}
 use Rattle.ore_rows.proofs.StoredBases.{entry_at, width_at, length-with_leads, rows-with_leads, lead_read}
 use Rattle.ore_rows.proofs.basis.Basis.row.Goals as goal
@@ -14,7 +14,7 @@ index-entry-requires c =
 pub returns-clause-value : goal.returns-clause-value
 returns-clause-value c =
     let same : length c.args.self.now.items ≡ length c.self.inside.items.items = sym (ap (λ b. length b.items) c.self.view_is) ∙ length-with_leads c.self.inside.items.items c.self.inside.leads c.self.invariant.long in
-    ap (λ b. slice_get (rows_of b.items) c.args.k) (sym c.self.view_is)
+    ap (λ b. slice_get (basis_rows b.items) c.args.k) (sym c.self.view_is)
     ∙ ap (λ rs. slice_get rs c.args.k) (rows-with_leads c.self.inside.items.items c.self.inside.leads c.self.invariant.long)
     ∙ entry_at (λ e. e.row) c.self.inside.items.items c.args.k c.index-entry.result.now (omega arith) c.index-entry.ensures
 
@@ -26,5 +26,5 @@ returns-clause-width c =
 pub returns-clause-lead : goal.returns-clause-lead
 returns-clause-lead c =
     let same : length c.args.self.now.items ≡ length c.self.inside.items.items = sym (ap (λ b. length b.items) c.self.view_is) ∙ length-with_leads c.self.inside.items.items c.self.inside.leads c.self.invariant.long in
-    subst (λ b. HasLead c.index-entry.result.now.row (lead_at b.items c.args.k)) c.self.view_is
+    subst (λ b. HasLead c.index-entry.result.now.row (basis_lead b.items c.args.k)) c.self.view_is
     (lead_read c.self.inside.items.items c.self.inside.leads c.args.k c.index-entry.result.now c.self.invariant.long (omega arith) c.index-entry.ensures c.self.invariant.monic)
