@@ -9,7 +9,8 @@ use Rattle.ore_course.specs.Choices.{Refusal, Runner, Stopped}
 use Rattle.ore_course.specs.Course.{Course, Done, Stops, Runs}
 use Rattle.ore_course.specs.Leading.{is_lawful, any_rule, run, AreAllowed, LeadsTo, IsIn, AreAllowedIn}
 use Rattle.ore_course.specs.Report.{Reported, StopLine, Report, IsHonestAt, IsHonest, IsStopAllowed, IsHonestBy, AtForced, AtChoice, AtBudget}
-use Rattle.ore_course.proofs.Basics.{no_ok, one_ok}
+use Rattle.ore_course.proofs.Basics.{one_ok}
+use Rattle.ore_algebra.proofs.ResultLaws.{no_ok}
 use Rattle.ore_course.proofs.Calls.{in_one}
 
 -- what isn't refused as unlawful is lawful

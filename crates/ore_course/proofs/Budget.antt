@@ -18,7 +18,8 @@ use Rattle.ore_course.specs.Course.{Course, ◌>>=◌, forced, run_from, Done, S
 use Rattle.ore_course.specs.Leading.{run, IsComplete, LeadsTo, IsIn}
 use Rattle.ore_course.specs.Report.{Reported, StopLine, Report, IsHonestAt, IsHonest, ByStop, ByBudget, AtForced, AtChoice, AtBudget}
 use Rattle.ore_course.specs.Bounded.{IsShort, HasFewChoices, AreRunsOf, AreShort, HasBudget, Extends, IsCourseAtMost}
-use Rattle.ore_course.proofs.Basics.{one_ok, no_ok, no_nil, result_cases, same_ok, bool_cases, true_false}
+use Rattle.ore_course.proofs.Basics.{one_ok, no_nil, result_cases, bool_cases, true_false}
+use Rattle.ore_algebra.proofs.ResultLaws.{same_ok, no_ok}
 use Rattle.ore_course.proofs.Leads.{run_step}
 
 same_budget : (a b : ℕ) → ByBudget a ≡ ByBudget b → a ≡ b
@@ -35,7 +36,7 @@ first_or_later d ds c (zero, less, e) = inl (sym e)
 first_or_later d ds c (suc k, less, e) = inr (k, omega (arith, less), e)
 
 module _ {S C : Type 0} (R : Runner S C) where
-  cost_small : (c : C) → cost R c ≤ 1
+  cost_small : (c : C) → cost R.is_treatment c ≤ 1
   unfolding cost
   cost_small c = by (R.is_treatment c)
     where
@@ -43,7 +44,7 @@ module _ {S C : Type 0} (R : Runner S C) where
       by true = omega arith
       by false = omega arith
 
-  few : (cs : List C) → treats R cs ≤ length cs
+  few : (cs : List C) → treats R.is_treatment cs ≤ length cs
   unfolding treats
   few [] = omega arith
   few (c ∷ cs) = let h = few cs in let small = cost_small c in omega (arith, h, small)
@@ -70,11 +71,11 @@ module _ {S C : Type 0} (R : Runner S C) where
   honest_runs course runs cause AtBudget (e, st, h, s) = in_runs course runs st h
 
   -- a report that the budget is spent says how many were treated
-  pub spent_cause : {X : Type 0} (course : Course S X) (runs : List (List C)) (cause : Reported) (stop : StopLine C) (n : ℕ) → IsHonestAt R course runs cause stop → cause ≡ ByBudget n → n ≡ treats_in R runs
+  pub spent_cause : {X : Type 0} (course : Course S X) (runs : List (List C)) (cause : Reported) (stop : StopLine C) (n : ℕ) → IsHonestAt R course runs cause stop → cause ≡ ByBudget n → n ≡ treats_in R.is_treatment runs
   unfolding IsHonestAt
   spent_cause course runs cause AtForced n (c, e, h) same = absurd (no_stop (sym e ∙ same))
   spent_cause course runs cause (AtChoice choice) n (c, e, st, h, s) same = absurd (no_stop (sym e ∙ same))
-  spent_cause course runs cause AtBudget n h same = same_budget n (treats_in R runs) (sym same ∙ h.0)
+  spent_cause course runs cause AtBudget n h same = same_budget n (treats_in R.is_treatment runs) (sym same ∙ h.0)
 
   module _ (few_choices : HasFewChoices R) where
     -- ---- one number for finitely many choices
@@ -144,7 +145,7 @@ module _ {S C : Type 0} (R : Runner S C) where
     module _ {X : Type 0} where
       -- the runs of a course that follow a state, where this is complete
       abbrev Fewer : S → Course S X → ℕ → Type 0
-      Fewer last course b = (runs : List (List C)) → (runs ≢ [] → IsComplete R last) → AreRunsOf R course runs → treats_in R runs < b
+      Fewer last course b = (runs : List (List C)) → (runs ≢ [] → IsComplete R last) → AreRunsOf R course runs → treats_in R.is_treatment runs < b
 
       incomplete_fewer : (last : S) (course : Course S X) → R.is_complete last ≡ false → Fewer last course 1
       unfolding treats_in
@@ -163,7 +164,7 @@ module _ {S C : Type 0} (R : Runner S C) where
       budget_exists (Done x) h = (1, elim [ [] ↦ λ k. omega arith | cs ∷ runs ↦ λ k. absurd k ])
       budget_exists (Stops c) h = (1, elim [ [] ↦ λ k. omega arith | cs ∷ runs ↦ λ k. absurd k ])
       budget_exists (Runs first next) (short, later) =
-          by (one_serves (λ last b. Fewer last (next last) b) (λ st a b le h runs over k. below (treats_in R runs) a b le (h runs over k)) short.0 first short.1
+          by (one_serves (λ last b. Fewer last (next last) b) (λ st a b le h runs over k. below (treats_in R.is_treatment runs) a b le (h runs over k)) short.0 first short.1
           (λ cs last e. after_state last (next last) (λ complete. budget_exists (next last) (later cs last e complete))))
         where
           below : (t a b : ℕ) → a ≤ b → t < a → t < b
@@ -183,7 +184,7 @@ module _ {S C : Type 0} (R : Runner S C) where
             suc (short.0 + b),
             elim [
               | [] ↦ λ k. omega arith
-              | cs ∷ runs ↦ λ (last, led, over, more). after (treats R cs + treats_in R runs) (short.0 + b) (sum (treats R cs) (treats_in R runs) short.0 b (less (treats R cs) (length cs) short.0 (few cs) (short.1 cs last led)) (h cs last led runs over more))
+              | cs ∷ runs ↦ λ (last, led, over, more). after (treats R.is_treatment cs + treats_in R.is_treatment runs) (short.0 + b) (sum (treats R.is_treatment cs) (treats_in R.is_treatment runs) short.0 b (less (treats R.is_treatment cs) (length cs) short.0 (few cs) (short.1 cs last led)) (h cs last led runs over more))
             ],
           )
 
@@ -231,22 +232,22 @@ module _ {S C : Type 0} (R E : Runner S C) (extends : Extends R E) where
   within_exact (Runs first next) (Runs other later) (cs ∷ runs) (e, most) (last, led, complete, more) =
       (last, subst (λ s. run E s cs ≡ Ok last) e (run_extends first cs last led), (λ n. sym (extends.same last) ∙ complete n), within_exact (next last) (later last) runs (most last) more)
 
-  same_cost : (c : C) → cost R c ≡ cost E c
+  same_cost : (c : C) → cost R.is_treatment c ≡ cost E.is_treatment c
   unfolding cost
   same_cost c = ap (λ b. cond b 1 0) (extends.treatments c)
 
-  same_treats : (cs : List C) → treats R cs ≡ treats E cs
+  same_treats : (cs : List C) → treats R.is_treatment cs ≡ treats E.is_treatment cs
   unfolding treats
   same_treats [] = refl
   same_treats (c ∷ cs) = let one = same_cost c in let more = same_treats cs in omega (arith, one, more)
 
-  same_treats_in : (runs : List (List C)) → treats_in R runs ≡ treats_in E runs
+  same_treats_in : (runs : List (List C)) → treats_in R.is_treatment runs ≡ treats_in E.is_treatment runs
   unfolding treats_in
   same_treats_in [] = refl
   same_treats_in (cs ∷ runs) = let one = same_treats cs in let more = same_treats_in runs in omega (arith, one, more)
 
   -- every honest report has fewer treatments than the number of the exact course
-  pub fewer : {X : Type 0} (course exact : Course S X) → IsCourseAtMost course exact → (budget : HasBudget E exact) → (report : Report C) → IsHonest R course report → treats_in R report.runs < budget.0
+  pub fewer : {X : Type 0} (course exact : Course S X) → IsCourseAtMost course exact → (budget : HasBudget E exact) → (report : Report C) → IsHonest R course report → treats_in R.is_treatment report.runs < budget.0
   fewer course exact most budget report h =
       subst (λ n. n < budget.0) (sym (same_treats_in report.runs)) (budget.1 report.runs (within_exact course exact report.runs most (honest_runs R course report.runs report.cause report.stop h)))
 

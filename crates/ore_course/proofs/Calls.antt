@@ -1,5 +1,4 @@
 -- How code that follows a course is proved: one lemma for each statement.
---     with_choice, without_last, treats    of runs with one choice more
 --     in_one                     runs lead to one state
 --     started                    nothing is done yet
 --     worked                     forced work has given a value
@@ -13,58 +12,16 @@ use Rattle.std.proofs.Common.{◌≡◌, ◌≢◌, ℕ, ◌+◌, ◌≤◌, Boo
 use Rattle.std.specs.declared.result.Result.{Result}
 use Rattle.std.specs.declared.result.Result.TheVariants.{Ok, Err}
 use Rattle.ore_algebra.specs.Limits.{Cause}
-use Rattle.ore_course.specs.Choices.{cost, Runner, treats, treats_in, with_choice, but_last, without_last, next_kept}
+use Rattle.ore_course.specs.Choices.{cost, Runner, treats_in, with_choice, without_last, next_kept}
 use Rattle.ore_course.specs.Course.{Course, ◌>>=◌, forced, Done, Stops, Runs}
 use Rattle.ore_course.specs.Leading.{IsFormedWithin, Rule, run, LeadsTo, IsIn, IsFormedBy, AreAllowedIn}
 use Rattle.ore_course.specs.Report.{IsHonestAt, IsStopAllowed, IsHonestBy, IsWithin, ByStop, ByBudget, AtChoice}
 use Rattle.ore_course.specs.Following.{IsReported, Halt, report_of, IsReportable, Follows, IsLeftIn, IsStopChoice, IsSpent, IsUnlawful, IsHaltedIn, InForced, InChoice, Passed, Spent, NoLawful, Memory}
 use Rattle.ore_course.proofs.Basics.{one_ok, no_nil}
+use Rattle.ore_course.proofs.GivenRuns.{with_choice-append, without_last-with_choice, treats_in-with_choice}
 use Rattle.ore_course.proofs.Leads.{bind_done, leads_trans, leads_bind, in_none, in_trans, in_bind, allowed_none, allowed_trans, allowed_bind, allowed_in_bind}
 
--- ---- runs with one choice more
-
-module _ {C : Type 0} where
-  pub with_choice-append : (before runs : List (List C)) (c : C) → runs ≢ [] → with_choice (before ++ runs) c ≡ before ++ with_choice runs c
-  unfolding with_choice
-  with_choice-append [] runs c h = refl
-  with_choice-append (cs ∷ []) [] c h = absurd (h refl)
-  with_choice-append (cs ∷ []) (ds ∷ runs) c h = refl
-  with_choice-append (cs ∷ ds ∷ before) runs c h = ap (λ rs. cs ∷ rs) (with_choice-append (ds ∷ before) runs c h)
-
-  but_last-append : (cs : List C) (c : C) → but_last (cs ++ c ∷ []) ≡ cs
-  unfolding but_last
-  but_last-append [] c = refl
-  but_last-append (d ∷ []) c = refl
-  but_last-append (d ∷ e ∷ cs) c = ap (λ ds. d ∷ ds) (but_last-append (e ∷ cs) c)
-
-  without_last-cons : (cs : List C) (runs : List (List C)) → runs ≢ [] → without_last (cs ∷ runs) ≡ cs ∷ without_last runs
-  unfolding without_last
-  without_last-cons cs [] h = absurd (h refl)
-  without_last-cons cs (ds ∷ runs) h = refl
-
-  with_choice-some : (ds : List C) (runs : List (List C)) (c : C) → with_choice (ds ∷ runs) c ≢ []
-  unfolding with_choice
-  with_choice-some ds [] c e = no_nil e
-  with_choice-some ds (es ∷ runs) c e = no_nil e
-
-  pub without_last-with_choice : (runs : List (List C)) (c : C) → without_last (with_choice runs c) ≡ runs
-  unfolding without_last with_choice
-  without_last-with_choice [] c = refl
-  without_last-with_choice (cs ∷ []) c = ap (λ ds. ds ∷ []) (but_last-append cs c)
-  without_last-with_choice (cs ∷ ds ∷ runs) c = without_last-cons cs (with_choice (ds ∷ runs) c) (with_choice-some ds runs c) ∙ ap (λ rs. cs ∷ rs) (without_last-with_choice (ds ∷ runs) c)
-
 module _ {S C : Type 0} (R : Runner S C) where
-  treats-push : (cs : List C) (c : C) → treats R (cs ++ c ∷ []) ≡ treats R cs + cost R c
-  unfolding treats
-  treats-push [] c = omega arith
-  treats-push (d ∷ cs) c = let h = treats-push cs c in omega (arith, h)
-
-  pub treats_in-with_choice : (runs : List (List C)) (c : C) → runs ≢ [] → treats_in R (with_choice runs c) ≡ treats_in R runs + cost R c
-  unfolding treats_in with_choice
-  treats_in-with_choice [] c h = absurd (h refl)
-  treats_in-with_choice (cs ∷ []) c h = let e = treats-push cs c in omega (arith, e)
-  treats_in-with_choice (cs ∷ ds ∷ runs) c h = let e = treats_in-with_choice (ds ∷ runs) c (λ e. no_nil e) in omega (arith, e)
-
   pub in_some : {X : Type 0} (course : Course S X) (runs : List (List C)) (st : S) → IsIn R course runs st → runs ≢ []
   in_some course [] st h e = in_none R course st h
   in_some course (cs ∷ runs) st h e = no_nil e
@@ -177,7 +134,7 @@ module _ {S C : Type 0} (R : Runner S C) where
     pub formed : {X : Type 0} {course : Course S X} {given : List (List C)} {x : X} → Follows R rule course [] given (Done x) → IsFormedBy R course given x × AreAllowedIn R rule course given
     formed {course = course} {x = x} h = (subst (λ rs. LeadsTo R course rs (Done x)) (sym h.given_is) h.leads, subst (λ rs. AreAllowedIn R rule course rs) (sym h.given_is) h.allowed)
 
-    pub formed_within : {X : Type 0} {course : Course S X} {given : List (List C)} {x : X} (budget : ℕ) → Follows R rule course [] given (Done x) → treats_in R given ≤ budget → IsFormedWithin R rule budget course given x
+    pub formed_within : {X : Type 0} {course : Course S X} {given : List (List C)} {x : X} (budget : ℕ) → Follows R rule course [] given (Done x) → treats_in R.is_treatment given ≤ budget → IsFormedWithin R rule budget course given x
     formed_within budget h paid = let k = formed h in record { formed = k.0; allowed = k.1; paid = paid }
 
     stop_there : {X : Type 0} (course : Course S X) (runs : List (List C)) (c : Cause) (choice : C) → IsLeftIn R rule course runs (IsStopChoice R rule c choice)
@@ -190,7 +147,7 @@ module _ {S C : Type 0} (R : Runner S C) where
     }
 
     pub reported : {X : Type 0} (course : Course S X) (given : List (List C)) (budget : ℕ) (replays : Bool) (kept : List (List C)) (halt : Halt C)
-        → IsHaltedIn R rule course [] given budget replays kept halt → IsReportable halt → treats_in R given ≤ budget
+        → IsHaltedIn R rule course [] given budget replays kept halt → IsReportable halt → treats_in R.is_treatment given ≤ budget
         → IsHonestBy R rule course (report_of given budget halt) × IsWithin R budget (report_of given budget halt)
     unfolding IsHaltedIn IsHonestAt IsStopAllowed
     reported course given budget replays kept (Passed c InForced) h u paid = (
@@ -199,9 +156,9 @@ module _ {S C : Type 0} (R : Runner S C) where
     )
     reported course given budget replays kept (Passed c (InChoice choice)) (passed, e, left) u paid =
         let same : passed ≡ without_last given = sym (ap without_last e ∙ without_last-with_choice passed choice) in
-        let count : treats_in R given ≡ treats_in R passed + cost R choice = ap (λ rs. treats_in R rs) e ∙ treats_in-with_choice passed choice (in_some course passed left.state left.is_in) in (
+        let count : treats_in R.is_treatment given ≡ treats_in R.is_treatment passed + cost R.is_treatment choice = ap (λ rs. treats_in R.is_treatment rs) e ∙ treats_in-with_choice R.is_treatment passed choice (in_some course passed left.state left.is_in) in (
           subst (λ rs. IsHonestBy R rule course (record { cause = ByStop c; runs = rs; stop = AtChoice choice })) same (stop_there course passed c choice left),
-          subst (λ rs. treats_in R rs + cost R choice ≤ budget) same (omega (arith, count)),
+          subst (λ rs. treats_in R.is_treatment rs + cost R.is_treatment choice ≤ budget) same (omega (arith, count)),
         )
     reported course given budget replays kept Spent (added, e, left, spent, live) u paid =
         let is_in : IsIn R course given left.state = subst (λ rs. IsIn R course rs left.state) (sym e) left.is_in in (
@@ -217,7 +174,7 @@ module _ {S C : Type 0} (R : Runner S C) where
 
     -- the clause of a wrapper: a call that began where no run was given, of whose halts this is the halt
     pub halt_reported : {X A H : Type 0} (course : Course S X) (halt_of : H → Halt C) (result : Result A H) (before given : List (List C)) (budget : ℕ) (replays : Bool) (kept : List (List C))
-        → IfErr result (λ h. IsHaltedIn R rule course before given budget replays kept (halt_of h)) → before ≡ [] → treats_in R given ≤ budget
+        → IfErr result (λ h. IsHaltedIn R rule course before given budget replays kept (halt_of h)) → before ≡ [] → treats_in R.is_treatment given ≤ budget
         → IfErr result (λ h. IsReported R rule course given budget (halt_of h))
     halt_reported course halt_of (Ok a) before given budget replays kept h start paid = tt
     halt_reported course halt_of (Err halt) before given budget replays kept h start paid =

@@ -17,7 +17,8 @@ use Rattle.ore_course.specs.Leading.{run}
 use Rattle.ore_course.specs.Report.{Report}
 use Rattle.ore_course.specs.Failing.{Place, OfRun, OfChoice, OfStop, follow, is_over, stop_passes, failing, first_failing}
 use Rattle.ore_course.specs.FirstFailing.{AreFollowed, CannotBegin, IsRefused, IsFirstFailing}
-use Rattle.ore_course.proofs.Basics.{same_ok, no_ok, same_some, no_some, result_cases, bool_cases}
+use Rattle.ore_course.proofs.Basics.{same_some, no_some, result_cases, bool_cases}
+use Rattle.ore_algebra.proofs.ResultLaws.{same_ok, no_ok}
 use Rattle.ore_course.proofs.Leads.{run_step}
 use Rattle.ore_course.proofs.Honesty.{failing_on, failing_at, failing_run}
 
@@ -64,7 +65,7 @@ module _ {S C : Type 0} (R : Runner S C) where
 
   module _ {X : Type 0} (report : Report C) where
     abbrev StopFails : Option S → Course S X → Type 0
-    StopFails last rest = stop_passes R report.cause (treats_in R report.runs) last rest report.stop ≡ false
+    StopFails last rest = stop_passes R report.cause (treats_in R.is_treatment report.runs) last rest report.stop ≡ false
 
     -- the runs that are left begin with run k
     FailsFrom : ℕ → Option S → Course S X → List (List C) → Place C → Type 0
@@ -88,7 +89,7 @@ module _ {S C : Type 0} (R : Runner S C) where
 
     found : (k : ℕ) (last : Option S) (rest : Course S X) (runs : List (List C)) (place : Place C) → failing R report k last rest runs ≡ Some place → FailsFrom k last rest runs place
     unfolding failing FailsFrom AreFollowed CannotBegin IsRefused
-    found k last rest [] place e = let h = cond_some (stop_passes R report.cause (treats_in R report.runs) last rest report.stop) place e in subst (λ p. FailsFrom k last rest [] p) h.1 h.0
+    found k last rest [] place e = let h = cond_some (stop_passes R report.cause (treats_in R.is_treatment report.runs) last rest report.stop) place e in subst (λ p. FailsFrom k last rest [] p) h.1 h.0
     found k last (Done x) (cs ∷ runs) place e = no_run k last (Done x) cs runs place tt (same_some (OfRun k) place e)
     found k last (Stops cause) (cs ∷ runs) place e = no_run k last (Stops cause) cs runs place tt (same_some (OfRun k) place e)
     found k last (Runs first next) (cs ∷ runs) place e = by (bool_cases (is_over R last)) (result_cases (run R first cs)) (λ st. found (suc k) (Some st) (next st) runs place)

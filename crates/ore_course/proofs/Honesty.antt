@@ -20,7 +20,8 @@ use Rattle.ore_course.specs.Leading.{run, LeadsTo, IsIn}
 use Rattle.ore_course.specs.Report.{Reported, StopLine, Report, IsHonestAt, IsHonest, ByStop, ByBudget, AtForced, AtChoice, AtBudget}
 use Rattle.ore_course.specs.Failing.{OfChoice, Place, is_cause, is_budget, follow, is_over, stops_so, is_stopped, stop_passes, failing, first_failing, OfRun}
 use Rattle.ore_course.specs.FirstFailing.{AreFollowed}
-use Rattle.ore_course.proofs.Basics.{same_ok, result_cases, bool_cases, true_false, same_some, no_some, no_ok}
+use Rattle.ore_course.proofs.Basics.{result_cases, bool_cases, true_false, same_some, no_some}
+use Rattle.ore_algebra.proofs.ResultLaws.{same_ok, no_ok}
 
 -- ---- tests
 
@@ -123,7 +124,7 @@ module _ {S C : Type 0} (R : Runner S C) where
     Passes cause treated stop last rest = stop_passes R cause treated last rest stop ≡ true
 
     fails_not : (report : Report C) (k : ℕ) (last : Option S) (rest : Course S X) (runs : List (List C))
-        → failing R report k last rest runs ≡ None → AreFollowed R (Passes report.cause (treats_in R report.runs) report.stop) last rest runs
+        → failing R report k last rest runs ≡ None → AreFollowed R (Passes report.cause (treats_in R.is_treatment report.runs) report.stop) last rest runs
     unfolding failing AreFollowed
     fails_not report k last rest [] e = cond_none _ _ e
     fails_not report k last (Done x) (cs ∷ runs) e = absurd (no_some e)
@@ -131,14 +132,14 @@ module _ {S C : Type 0} (R : Runner S C) where
     fails_not report k last (Runs first next) (cs ∷ runs) e = by (bool_cases (is_over R last)) (result_cases (run R first cs)) (λ st. fails_not report (suc k) (Some st) (next st) runs)
       where
         by : (is_over R last ≡ true) ⊎ (is_over R last ≡ false) → ((st : S) × (run R first cs ≡ Ok st)) ⊎ ((c : Refusal) × (run R first cs ≡ Err c))
-            → ((st : S) → failing R report (suc k) (Some st) (next st) runs ≡ None → AreFollowed R (Passes report.cause (treats_in R report.runs) report.stop) (Some st) (next st) runs)
-            → (is_over R last ≡ true) × (st : S) × (run R first cs ≡ Ok st) × AreFollowed R (Passes report.cause (treats_in R report.runs) report.stop) (Some st) (next st) runs
+            → ((st : S) → failing R report (suc k) (Some st) (next st) runs ≡ None → AreFollowed R (Passes report.cause (treats_in R.is_treatment report.runs) report.stop) (Some st) (next st) runs)
+            → (is_over R last ≡ true) × (st : S) × (run R first cs ≡ Ok st) × AreFollowed R (Passes report.cause (treats_in R.is_treatment report.runs) report.stop) (Some st) (next st) runs
         by (inl over) (inl (st, led)) more = (over, st, led, more st (sym (failing_on report k last first next cs runs st over led) ∙ e))
         by (inl over) (inr (c, led)) more = let f = follow_err k 0 first cs c led in absurd (no_some (sym (failing_at report k last first next cs runs f.0 over f.1) ∙ e))
         by (inr over) r more = absurd (no_some (sym (failing_run report k last (Runs first next) cs runs over) ∙ e))
 
     not_fails : (report : Report C) (k : ℕ) (last : Option S) (rest : Course S X) (runs : List (List C))
-        → AreFollowed R (Passes report.cause (treats_in R report.runs) report.stop) last rest runs → failing R report k last rest runs ≡ None
+        → AreFollowed R (Passes report.cause (treats_in R.is_treatment report.runs) report.stop) last rest runs → failing R report k last rest runs ≡ None
     unfolding failing AreFollowed
     not_fails report k last rest [] e = rw e refl
     not_fails report k last (Done x) (cs ∷ runs) e = absurd e
@@ -224,24 +225,24 @@ module _ {S C : Type 0} (R : Runner S C) where
 
     -- ---- the law
 
-    stop_honest : (course : Course S X) (runs : List (List C)) (cause : Reported) (stop : StopLine C) → AreFollowed R (Passes cause (treats_in R runs) stop) None course runs → IsHonestAt R course runs cause stop
+    stop_honest : (course : Course S X) (runs : List (List C)) (cause : Reported) (stop : StopLine C) → AreFollowed R (Passes cause (treats_in R.is_treatment runs) stop) None course runs → IsHonestAt R course runs cause stop
     unfolding IsHonestAt
-    stop_honest course runs cause AtForced e = forced_stops cause (treats_in R runs) None course runs e
+    stop_honest course runs cause AtForced e = forced_stops cause (treats_in R.is_treatment runs) None course runs e
     stop_honest course runs cause (AtChoice choice) e =
-        let h = none_ends (Passes cause (treats_in R runs) (AtChoice choice)) (ChoiceStops cause choice) (choice_state cause (treats_in R runs) choice) (choice_passes cause (treats_in R runs) choice) course runs e in
+        let h = none_ends (Passes cause (treats_in R.is_treatment runs) (AtChoice choice)) (ChoiceStops cause choice) (choice_state cause (treats_in R.is_treatment runs) choice) (choice_passes cause (treats_in R.is_treatment runs) choice) course runs e in
         let s = stops_so_true cause _ h.2 in (s.0, s.1, h.0, h.1, s.2)
     stop_honest course runs cause AtBudget e =
-        let h = none_ends (Passes cause (treats_in R runs) AtBudget) (IsLeft cause (treats_in R runs)) (budget_state cause (treats_in R runs)) (budget_passes cause (treats_in R runs)) course runs e in
-        let s = and_parts _ _ h.2 in (is_budget_true cause (treats_in R runs) s.1, h.0, h.1, not-true _ s.0)
+        let h = none_ends (Passes cause (treats_in R.is_treatment runs) AtBudget) (IsLeft cause (treats_in R.is_treatment runs)) (budget_state cause (treats_in R.is_treatment runs)) (budget_passes cause (treats_in R.is_treatment runs)) course runs e in
+        let s = and_parts _ _ h.2 in (is_budget_true cause (treats_in R.is_treatment runs) s.1, h.0, h.1, not-true _ s.0)
 
-    honest_stop : (course : Course S X) (runs : List (List C)) (cause : Reported) (stop : StopLine C) → IsHonestAt R course runs cause stop → AreFollowed R (Passes cause (treats_in R runs) stop) None course runs
+    honest_stop : (course : Course S X) (runs : List (List C)) (cause : Reported) (stop : StopLine C) → IsHonestAt R course runs cause stop → AreFollowed R (Passes cause (treats_in R.is_treatment runs) stop) None course runs
     unfolding IsHonestAt
-    honest_stop course runs cause AtForced (c, e, h) = forced_ends cause (treats_in R runs) None course runs c refl e h
+    honest_stop course runs cause AtForced (c, e, h) = forced_ends cause (treats_in R.is_treatment runs) None course runs c refl e h
     honest_stop course runs cause (AtChoice choice) (c, e, st, h, s) =
-        in_ends (Passes cause (treats_in R runs) (AtChoice choice)) (ChoiceStops cause choice) (choice_state cause (treats_in R runs) choice) (choice_passes cause (treats_in R runs) choice) None course runs st refl h (so_stops cause _ c e s)
+        in_ends (Passes cause (treats_in R.is_treatment runs) (AtChoice choice)) (ChoiceStops cause choice) (choice_state cause (treats_in R.is_treatment runs) choice) (choice_passes cause (treats_in R.is_treatment runs) choice) None course runs st refl h (so_stops cause _ c e s)
     honest_stop course runs cause AtBudget (e, st, h, s) =
-        in_ends (Passes cause (treats_in R runs) AtBudget) (IsLeft cause (treats_in R runs)) (budget_state cause (treats_in R runs)) (budget_passes cause (treats_in R runs)) None course runs st refl h
-        (and_from _ _ (rw s refl) (budget_true cause (treats_in R runs) e))
+        in_ends (Passes cause (treats_in R.is_treatment runs) AtBudget) (IsLeft cause (treats_in R.is_treatment runs)) (budget_state cause (treats_in R.is_treatment runs)) (budget_passes cause (treats_in R.is_treatment runs)) None course runs st refl h
+        (and_from _ _ (rw s refl) (budget_true cause (treats_in R.is_treatment runs) e))
 
     pub honest_exactly : (course : Course S X) (report : Report C) → (first_failing R course report ≡ None) ↔ IsHonest R course report
     honest_exactly course report = (

@@ -13,7 +13,7 @@ use Rattle.ore_course.specs.Choices.{Refusal, Stopped, Runner, with_choice}
 use Rattle.ore_course.specs.Course.{◌>>=◌, forced, run_from, Done, Stops}
 use Rattle.ore_course.specs.Leading.{Rule, run, IsComplete, AreAllowed, LeadsTo, IsIn, AreAllowedIn}
 use Rattle.ore_course.specs.Following.{InChoice, Passed, Follows, IsLeftIn, IsStopChoice, IsHaltedIn}
-use Rattle.ore_course.proofs.Basics.{same_ok, no_ok}
+use Rattle.ore_algebra.proofs.ResultLaws.{same_ok, no_ok}
 use Rattle.ore_course.proofs.Leads.{run_step}
 
 module _ {S C : Type 0} (R : Runner S C) (rule : Rule S C) where

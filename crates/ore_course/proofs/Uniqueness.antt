@@ -16,7 +16,8 @@ use Rattle.ore_course.specs.Course.{Course, Done, Stops, Runs}
 use Rattle.ore_course.specs.Leading.{Rule, run, IsComplete, AreAllowed, LeadsTo, IsIn, IsFormedBy, AreAllowedIn}
 use Rattle.ore_course.specs.Report.{Reported, StopLine, Report, IsHonestAt, IsStopAllowed, IsHonestBy, IsWithinBy, IsWithin, ByStop, ByBudget, AtForced, AtChoice, AtBudget}
 use Rattle.ore_course.specs.Bounded.{IsStrict}
-use Rattle.ore_course.proofs.Basics.{same_ok, same_err, one_ok, ok_err, no_ok, true_false}
+use Rattle.ore_course.proofs.Basics.{one_ok, ok_err, true_false}
+use Rattle.ore_algebra.proofs.ResultLaws.{same_ok, same_err, no_ok}
 
 pub data Outcome (C X : Type 0) : Type 0 where
   Answer : X → Outcome C X
@@ -41,7 +42,7 @@ shifted : (V : ℕ → Type 0) (used a b : ℕ) → V (used + (a + b)) → V (us
 shifted V used a b v = let same : used + (a + b) ≡ used + a + b = omega arith in subst V same v
 
 module _ {S C : Type 0} (R : Runner S C) (rule : Rule S C) where
-  cost_treatment : (c : C) → R.is_treatment c ≡ true → cost R c ≡ 1
+  cost_treatment : (c : C) → R.is_treatment c ≡ true → cost R.is_treatment c ≡ 1
   unfolding cost
   cost_treatment c e = rw e refl
 
@@ -49,29 +50,29 @@ module _ {S C : Type 0} (R : Runner S C) (rule : Rule S C) where
     -- so many treatments came before
     Path : (S → ℕ → Type 0) → S → ℕ → List C → Type 0
     Path G st used [] = G st used
-    Path G st used (c ∷ cs) = (rule.allows st c ≡ true) × (next : S) × (R.step st c ≡ Ok next) × Path G next (used + cost R c) cs
+    Path G st used (c ∷ cs) = (rule.allows st c ≡ true) × (next : S) × (R.step st c ≡ Ok next) × Path G next (used + cost R.is_treatment c) cs
 
     path_bounded : (G : S → ℕ → Type 0) → ((st : S) (used : ℕ) → G st used → used ≤ budget) → (st : S) (used : ℕ) (cs : List C) → Path G st used cs → used ≤ budget
     unfolding Path
     path_bounded G h st used [] g = h st used g
-    path_bounded G h st used (c ∷ cs) (a, next, e, more) = let k = path_bounded G h next (used + cost R c) cs more in omega (arith, k)
+    path_bounded G h st used (c ∷ cs) (a, next, e, more) = let k = path_bounded G h next (used + cost R.is_treatment c) cs more in omega (arith, k)
 
-    path_of : (G : S → ℕ → Type 0) (st : S) (used : ℕ) (cs : List C) (last : S) → AreAllowed R rule st cs → run R st cs ≡ Ok last → G last (used + treats R cs) → Path G st used cs
+    path_of : (G : S → ℕ → Type 0) (st : S) (used : ℕ) (cs : List C) (last : S) → AreAllowed R rule st cs → run R st cs ≡ Ok last → G last (used + treats R.is_treatment cs) → Path G st used cs
     unfolding Path AreAllowed run treats
     path_of G st used [] last a e g = let same : used + 0 ≡ used = omega arith in subst (λ n. G st n) same (subst (λ s. G s (used + 0)) (sym (same_ok st last e)) g)
     path_of G st used (c ∷ cs) last a e g = by (R.step st c) refl e
-        (λ next h more. path_of G next (used + cost R c) cs last more h
-        (let same : used + treats R (c ∷ cs) ≡ used + cost R c + treats R cs = omega arith in subst (λ n. G last n) same g))
+        (λ next h more. path_of G next (used + cost R.is_treatment c) cs last more h
+        (let same : used + treats R.is_treatment (c ∷ cs) ≡ used + cost R.is_treatment c + treats R.is_treatment cs = omega arith in subst (λ n. G last n) same g))
       where
         by : (r : Result S Refusal) → R.step st c ≡ r → ◌≡◌ {A = Result S Refusal} (elim r [ Ok next ↦ run R next cs | Err refusal ↦ Err refusal ]) (Ok last)
-            → ((next : S) → run R next cs ≡ Ok last → AreAllowed R rule next cs → Path G next (used + cost R c) cs)
-            → (rule.allows st c ≡ true) × (next : S) × (R.step st c ≡ Ok next) × Path G next (used + cost R c) cs
+            → ((next : S) → run R next cs ≡ Ok last → AreAllowed R rule next cs → Path G next (used + cost R.is_treatment c) cs)
+            → (rule.allows st c ≡ true) × (next : S) × (R.step st c ≡ Ok next) × Path G next (used + cost R.is_treatment c) cs
         by (Ok next) s h more = (a.0, next, s, more next h (a.1 next s))
         by (Err refusal) s h more = absurd (no_ok h)
 
     -- where one way ends, no allowed choice leads on along the other
     abbrev Blocks : (S → ℕ → Type 0) → (S → ℕ → Type 0) → Type 0
-    Blocks G H = (st : S) (used : ℕ) (c : C) (next : S) (cs : List C) → G st used → rule.allows st c ≡ true → R.step st c ≡ Ok next → Path H next (used + cost R c) cs → ⊥
+    Blocks G H = (st : S) (used : ℕ) (c : C) (next : S) (cs : List C) → G st used → rule.allows st c ≡ true → R.step st c ≡ Ok next → Path H next (used + cost R.is_treatment c) cs → ⊥
 
     one_path : (G H : S → ℕ → Type 0) → Blocks G H → Blocks H G → (st : S) (used : ℕ) (cs ds : List C) → Path G st used cs → Path H st used ds
         → (cs ≡ ds) × (last : S) × (n : ℕ) × G last n × H last n
@@ -82,14 +83,14 @@ module _ {S C : Type 0} (R : Runner S C) (rule : Rule S C) where
     one_path G H left right st used (c ∷ cs) (d ∷ ds) (a, next, e, more) (b, other, f, more_other) =
         let same : d ≡ c = strict.one st d c b a in
         let there : other ≡ next = one_ok (R.step st c) other next (subst (λ x. R.step st x ≡ Ok other) same f) e in
-        let moved : Path H next (used + cost R c) ds = subst (λ s. Path H s (used + cost R c) ds) there (subst (λ x. Path H other (used + cost R x) ds) same more_other) in
-        let k = one_path G H left right next (used + cost R c) cs ds more moved in
+        let moved : Path H next (used + cost R.is_treatment c) ds = subst (λ s. Path H s (used + cost R.is_treatment c) ds) there (subst (λ x. Path H other (used + cost R.is_treatment x) ds) same more_other) in
+        let k = one_path G H left right next (used + cost R.is_treatment c) cs ds more moved in
         (ap (λ xs. c ∷ xs) k.0 ∙ ap (λ x. x ∷ ds) (sym same), k.1, k.2, k.3, k.4)
 
     module _ {X : Type 0} where
       -- the report stops in this run, at a choice, or where the budget is spent
       AtChoiceHere : S → ℕ → Outcome C X → Type 0
-      AtChoiceHere st used o = (c : Cause) × (choice : C) × (o ≡ Stop (ByStop c) (AtChoice choice)) × (R.step st choice ≡ Err (Stopped c)) × (rule.allows st choice ≡ true) × (used + cost R choice ≤ budget)
+      AtChoiceHere st used o = (c : Cause) × (choice : C) × (o ≡ Stop (ByStop c) (AtChoice choice)) × (R.step st choice ≡ Err (Stopped c)) × (rule.allows st choice ≡ true) × (used + cost R.is_treatment choice ≤ budget)
 
       AtBudgetHere : S → ℕ → Outcome C X → Type 0
       AtBudgetHere st used o = (o ≡ Stop (ByBudget budget) AtBudget) × (R.is_complete st ≡ false) × (rule.allows_spent st ≡ true) × (used ≡ budget)
@@ -127,7 +128,7 @@ module _ {S C : Type 0} (R : Runner S C) (rule : Rule S C) where
           ok_err (R.step st c) next (Stopped cause) g (subst (λ x. R.step st x ≡ Err (Stopped cause)) (strict.one st choice c a b) s)
       blocks runs o V H h st used c next cs (inl (e, inr (f, left, a, spent))) b g more =
           let one = cost_treatment c (strict.treats_last st c a b) in
-          let k = path_bounded H h next (used + cost R c) cs more in absurd (omega (arith, k, one, spent))
+          let k = path_bounded H h next (used + cost R.is_treatment c) cs more in absurd (omega (arith, k, one, spent))
       blocks runs o V H h st used c next cs (inr (complete, v)) b g more = ok_err (R.step st c) next Unlawful g (closed st c complete)
 
       one_stop : (st : S) (used : ℕ) (o p : Outcome C X) → AtChoiceHere st used o ⊎ AtBudgetHere st used o → AtChoiceHere st used p ⊎ AtBudgetHere st used p → o ≡ p
@@ -185,33 +186,33 @@ module _ {S C : Type 0} (R : Runner S C) (rule : Rule S C) where
       -- ---- reports and answers go this way
 
       run_valid : (runs : List (List C)) (o : Outcome C X) (first : S) (next : S → Course S X) (used : ℕ) (cs : List C) (last : S) → AreAllowed R rule first cs → run R first cs ≡ Ok last
-          → EndsRun runs o (λ st n. Valid runs o (next st) n) last (used + treats R cs) → Valid (cs ∷ runs) o (Runs first next) used
+          → EndsRun runs o (λ st n. Valid runs o (next st) n) last (used + treats R.is_treatment cs) → Valid (cs ∷ runs) o (Runs first next) used
       unfolding Valid
       run_valid runs o first next used cs last a led end = path_of (EndsRun runs o (λ st n. Valid runs o (next st) n)) first used cs last a led end
 
       lead_valid : (runs : List (List C)) (o : Outcome C X) (course rest : Course S X) (used : ℕ) → LeadsTo R course runs rest → AreAllowedIn R rule course runs
-          → Valid [] o rest (used + treats_in R runs) → Valid runs o course used
+          → Valid [] o rest (used + treats_in R.is_treatment runs) → Valid runs o course used
       unfolding LeadsTo AreAllowedIn treats_in
       lead_valid [] o course rest used e a v = let same : used + 0 ≡ used = omega arith in subst (λ n. Valid [] o course n) same (subst (λ p. Valid [] o p (used + 0)) (sym e) v)
       lead_valid (cs ∷ runs) o (Done x) rest used e a v = absurd e
       lead_valid (cs ∷ runs) o (Stops c) rest used e a v = absurd e
       lead_valid (cs ∷ runs) o (Runs first next) rest used (last, led, complete, more) a v =
-          run_valid runs o first next used cs last a.0 led (inr (complete, lead_valid runs o (next last) rest (used + treats R cs) more (a.1 last led) (shifted (λ n. Valid [] o rest n) used (treats R cs) (treats_in R runs) v)))
+          run_valid runs o first next used cs last a.0 led (inr (complete, lead_valid runs o (next last) rest (used + treats R.is_treatment cs) more (a.1 last led) (shifted (λ n. Valid [] o rest n) used (treats R.is_treatment cs) (treats_in R.is_treatment runs) v)))
 
       in_valid : (runs : List (List C)) (o : Outcome C X) (course : Course S X) (st : S) (used : ℕ) → IsIn R course runs st → AreAllowedIn R rule course runs
-          → AtChoiceHere st (used + treats_in R runs) o ⊎ AtBudgetHere st (used + treats_in R runs) o → Valid runs o course used
+          → AtChoiceHere st (used + treats_in R.is_treatment runs) o ⊎ AtBudgetHere st (used + treats_in R.is_treatment runs) o → Valid runs o course used
       unfolding IsIn AreAllowedIn treats_in
       in_valid runs o (Done x) st used h a s = absurd h
       in_valid runs o (Stops c) st used h a s = absurd h
       in_valid [] o (Runs first next) st used h a s = absurd h
       in_valid (cs ∷ []) o (Runs first next) st used h a s =
-          let same : used + (treats R cs + 0) ≡ used + treats R cs = omega arith in
+          let same : used + (treats R.is_treatment cs + 0) ≡ used + treats R.is_treatment cs = omega arith in
           run_valid [] o first next used cs st a.0 h (inl (refl, subst (λ n. AtChoiceHere st n o ⊎ AtBudgetHere st n o) same s))
       in_valid (cs ∷ ds ∷ runs) o (Runs first next) st used (last, led, complete, more) a s =
           run_valid (ds ∷ runs) o first next used cs last a.0 led
-          (inr (complete, in_valid (ds ∷ runs) o (next last) st (used + treats R cs) more (a.1 last led) (shifted (λ n. AtChoiceHere st n o ⊎ AtBudgetHere st n o) used (treats R cs) (treats_in R (ds ∷ runs)) s)))
+          (inr (complete, in_valid (ds ∷ runs) o (next last) st (used + treats R.is_treatment cs) more (a.1 last led) (shifted (λ n. AtChoiceHere st n o ⊎ AtBudgetHere st n o) used (treats R.is_treatment cs) (treats_in R.is_treatment (ds ∷ runs)) s)))
 
-      formed_valid : (course : Course S X) (runs : List (List C)) (x : X) → IsFormedBy R course runs x → AreAllowedIn R rule course runs → treats_in R runs ≤ budget → Valid runs (Answer x) course 0
+      formed_valid : (course : Course S X) (runs : List (List C)) (x : X) → IsFormedBy R course runs x → AreAllowedIn R rule course runs → treats_in R.is_treatment runs ≤ budget → Valid runs (Answer x) course 0
       unfolding Valid
       formed_valid course runs x h a paid = lead_valid runs (Answer x) course (Done x) 0 h a (refl, omega (arith, paid))
 
@@ -219,13 +220,13 @@ module _ {S C : Type 0} (R : Runner S C) (rule : Rule S C) where
           → IsWithinBy R budget (record { cause = cause; runs = runs; stop = stop }) cause → Valid runs (Stop cause stop) course 0
       unfolding Valid IsHonestAt IsStopAllowed AtChoiceHere AtBudgetHere
       stop_valid course runs cause AtForced (c, e, h) a s w =
-          let paid : treats_in R runs + 0 ≤ budget = subst (λ r. IsWithinBy R budget (record { cause = cause; runs = runs; stop = AtForced }) r) e w in
+          let paid : treats_in R.is_treatment runs + 0 ≤ budget = subst (λ r. IsWithinBy R budget (record { cause = cause; runs = runs; stop = AtForced }) r) e w in
           lead_valid runs (Stop cause AtForced) course (Stops c) 0 h a (ap (λ r. Stop r AtForced) e, omega (arith, paid))
       stop_valid course runs cause (AtChoice choice) (c, e, st, h, t) a s w =
-          let paid : treats_in R runs + cost R choice ≤ budget = subst (λ r. IsWithinBy R budget (record { cause = cause; runs = runs; stop = AtChoice choice }) r) e w in
+          let paid : treats_in R.is_treatment runs + cost R.is_treatment choice ≤ budget = subst (λ r. IsWithinBy R budget (record { cause = cause; runs = runs; stop = AtChoice choice }) r) e w in
           in_valid runs (Stop cause (AtChoice choice)) course st 0 h a (inl (c, choice, ap (λ r. Stop r (AtChoice choice)) e, t, s st h, omega (arith, paid)))
       stop_valid course runs cause AtBudget (e, st, h, t) a s w =
-          let spent : treats_in R runs ≡ budget = subst (λ r. IsWithinBy R budget (record { cause = cause; runs = runs; stop = AtBudget }) r) e w in
+          let spent : treats_in R.is_treatment runs ≡ budget = subst (λ r. IsWithinBy R budget (record { cause = cause; runs = runs; stop = AtBudget }) r) e w in
           in_valid runs (Stop cause AtBudget) course st 0 h a (inr (ap (λ r. Stop r AtBudget) (e ∙ ap ByBudget spent), t, s st h, omega (arith, spent)))
 
       honest_valid : (course : Course S X) (report : Report C) → IsHonestBy R rule course report → IsWithin R budget report → Valid report.runs (Stop report.cause report.stop) course 0
@@ -239,12 +240,12 @@ module _ {S C : Type 0} (R : Runner S C) (rule : Rule S C) where
           let n = same_stop {C = C} {X = X} r.cause s.cause r.stop s.stop m.1 in
           λ i. record { cause = n.0 i; runs = m.0 i; stop = n.1 i }
 
-      pub one_answer : (course : Course S X) (runs rs : List (List C)) (x y : X) → IsFormedBy R course runs x → AreAllowedIn R rule course runs → treats_in R runs ≤ budget
-          → IsFormedBy R course rs y → AreAllowedIn R rule course rs → treats_in R rs ≤ budget → (runs ≡ rs) × (x ≡ y)
+      pub one_answer : (course : Course S X) (runs rs : List (List C)) (x y : X) → IsFormedBy R course runs x → AreAllowedIn R rule course runs → treats_in R.is_treatment runs ≤ budget
+          → IsFormedBy R course rs y → AreAllowedIn R rule course rs → treats_in R.is_treatment rs ≤ budget → (runs ≡ rs) × (x ≡ y)
       one_answer course runs rs x y h a paid k b paid_too =
           let m = one_outcome runs rs (Answer x) (Answer y) course 0 (formed_valid course runs x h a paid) (formed_valid course rs y k b paid_too) in (m.0, same_answer x y m.1)
 
-      pub not_both : (course : Course S X) (runs : List (List C)) (x : X) (r : Report C) → IsFormedBy R course runs x → AreAllowedIn R rule course runs → treats_in R runs ≤ budget
+      pub not_both : (course : Course S X) (runs : List (List C)) (x : X) (r : Report C) → IsFormedBy R course runs x → AreAllowedIn R rule course runs → treats_in R.is_treatment runs ≤ budget
           → IsHonestBy R rule course r → IsWithin R budget r → ⊥
       not_both course runs x r h a paid k w =
           no_answer (one_outcome runs r.runs (Answer x) (Stop r.cause r.stop) course 0 (formed_valid course runs x h a paid) (honest_valid course r k w)).1

@@ -39,7 +39,7 @@ module _ {S C : Type 0} (R : Runner S C) where
 
     -- whatever is chosen, all runs together have fewer treatments than some number
     abbrev pub HasBudget : Course S X → Type 0
-    HasBudget course = (bound : ℕ) × ((runs : List (List C)) → AreRunsOf course runs → treats_in R runs < bound)
+    HasBudget course = (bound : ℕ) × ((runs : List (List C)) → AreRunsOf course runs → treats_in R.is_treatment runs < bound)
 
 -- each choice that leads on by the first leads to the same state by the second; complete states and treatments are the same
 pub record Extends {S C : Type 0} (R E : Runner S C) : Type 0 where

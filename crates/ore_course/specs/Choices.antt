@@ -29,9 +29,10 @@ module _ {S C : Type 0} (R : Runner S C) where
   abbrev pub IsClosed : Type 0
   IsClosed = (st : S) (c : C) → R.is_complete st ≡ true → R.step st c ≡ Err Unlawful
 
+module _ {C : Type 0} (is_treatment : C → Bool) where
   -- a treatment costs one of the budget, and any other choice nothing
   unfoldable pub cost : C → ℕ
-  cost c = cond (R.is_treatment c) 1 0
+  cost c = cond (is_treatment c) 1 0
 
   -- how many of the choices are treatments
   unfoldable pub treats : List C → ℕ

@@ -84,7 +84,7 @@ module _ {S C : Type 0} (R : Runner S C) where
 
     -- from run k on: the runs that are left, after the state of the run before, with this course left
     unfoldable pub failing : Report C → ℕ → Option S → Course S X → List (List C) → Option (Place C)
-    failing report k last rest [] = cond (stop_passes report.cause (treats_in R report.runs) last rest report.stop) None (Some OfStop)
+    failing report k last rest [] = cond (stop_passes report.cause (treats_in R.is_treatment report.runs) last rest report.stop) None (Some OfStop)
     failing report k last (Done x) (cs ∷ runs) = Some (OfRun k)
     failing report k last (Stops cause) (cs ∷ runs) = Some (OfRun k)
     failing report k last (Runs first next) (cs ∷ runs) = elim (is_over last) [

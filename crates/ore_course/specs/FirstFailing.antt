@@ -37,4 +37,4 @@ module _ {S C : Type 0} (R : Runner S C) {X : Type 0} where
   IsFirstFailing course report (OfRun k) = (k < length report.runs) × AreFollowed CannotBegin None course (take k report.runs)
   IsFirstFailing course report (OfChoice k n c) =
       (cs : List C) × (slice_get report.runs k ≡ Some cs) × (slice_get cs n ≡ Some c) × AreFollowed (IsRefused (take n cs) c) None course (take k report.runs)
-  IsFirstFailing course report OfStop = AreFollowed (λ last rest. stop_passes R report.cause (treats_in R report.runs) last rest report.stop ≡ false) None course report.runs
+  IsFirstFailing course report OfStop = AreFollowed (λ last rest. stop_passes R report.cause (treats_in R.is_treatment report.runs) last rest report.stop ≡ false) None course report.runs

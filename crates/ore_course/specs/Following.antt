@@ -81,7 +81,7 @@ module _ {S C : Type 0} (R : Runner S C) (rule : Rule S C) where
     IsHaltedIn course before given budget replays kept (Passed cause (InChoice c)) =
         (passed : List (List C)) × (given ≡ before ++ with_choice passed c) × IsLeftIn R rule course passed (IsStopChoice cause c)
     IsHaltedIn course before given budget replays kept Spent =
-        (added : List (List C)) × (given ≡ before ++ added) × IsLeftIn R rule course added IsSpent × (treats_in R given ≡ budget) × (replays ≡ false)
+        (added : List (List C)) × (given ≡ before ++ added) × IsLeftIn R rule course added IsSpent × (treats_in R.is_treatment given ≡ budget) × (replays ≡ false)
     IsHaltedIn course before given budget replays kept NoLawful =
         (added : List (List C)) × (given ≡ before ++ added) × IsLeftIn R rule course added (IsUnlawful (next_kept kept given)) × (replays ≡ true)
     IsHaltedIn course before given budget replays kept Memory = Unit {0}

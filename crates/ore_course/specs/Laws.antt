@@ -52,17 +52,17 @@ module _ (S C X : Type 0) where
   -- an answer is formed by the choices given, as the rule allows
   abbrev pub FollowedIsFormed : Type 0
   FollowedIsFormed = (R : Runner S C) (rule : Rule S C) (course : Course S X) (given : List (List C)) (x : X) (budget : ℕ)
-      → Follows R rule course [] given (Done x) → treats_in R given ≤ budget → IsFormedWithin R rule budget course given x
+      → Follows R rule course [] given (Done x) → treats_in R.is_treatment given ≤ budget → IsFormedWithin R rule budget course given x
 
   -- a halt that has a report has an honest one, by the rule and within the budget
   abbrev pub HaltIsReported : Type 0
   HaltIsReported = (R : Runner S C) (rule : Rule S C) (course : Course S X) (given : List (List C)) (budget : ℕ) (replays : Bool) (kept : List (List C)) (halt : Halt C)
-      → IsHaltedIn R rule course [] given budget replays kept halt → treats_in R given ≤ budget → IsReported R rule course given budget halt
+      → IsHaltedIn R rule course [] given budget replays kept halt → treats_in R.is_treatment given ≤ budget → IsReported R rule course given budget halt
 
   -- where no report is honest by the rule and within the budget, a call with a live chooser answers, or memory gives out
   abbrev pub AnswersUnlessReported : Type 0
   AnswersUnlessReported = (R : Runner S C) (rule : Rule S C) (course : Course S X) (given : List (List C)) (budget : ℕ) (kept : List (List C)) (result : Result X (Halt C))
-      → HasNoReport R rule budget course → treats_in R given ≤ budget → IfOk result (λ x. Follows R rule course [] given (Done x)) → IfErr result (IsHaltedIn R rule course [] given budget false kept)
+      → HasNoReport R rule budget course → treats_in R.is_treatment given ≤ budget → IfOk result (λ x. Follows R rule course [] given (Done x)) → IfErr result (IsHaltedIn R rule course [] given budget false kept)
       → ((x : X) × (result ≡ Ok x) × Follows R rule course [] given (Done x)) ⊎ (result ≡ Err Memory)
 
   -- the course was followed by the choices that are kept for a report, up to an answer
@@ -101,7 +101,7 @@ module _ (S C X : Type 0) where
   -- a course that may stop has honest reports with fewer treatments than the one that it is at most
   abbrev pub ReportsHaveFewer : Type 0
   ReportsHaveFewer = (R E : Runner S C) → Extends R E → (course exact : Course S X) → IsCourseAtMost course exact → (budget : HasBudget E exact) (report : Report C)
-      → IsHonest R course report → treats_in R report.runs < budget.0
+      → IsHonest R course report → treats_in R.is_treatment report.runs < budget.0
 
   -- and no budget of that number or more is spent
   abbrev pub BudgetIsNotSpent : Type 0

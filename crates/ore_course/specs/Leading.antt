@@ -72,4 +72,4 @@ module _ {S C : Type 0} (R : Runner S C) where
     pub record IsFormedWithin (rule : Rule S C) (budget : ℕ) (course : Course S X) (runs : List (List C)) (x : X) : Type 0 where
       pub formed : IsFormedBy course runs x
       pub allowed : AreAllowedIn rule course runs
-      pub paid : treats_in R runs ≤ budget
+      pub paid : treats_in R.is_treatment runs ≤ budget

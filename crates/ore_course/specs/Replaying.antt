@@ -66,7 +66,7 @@ module _ {C : Type 0} where
 module _ {S C : Type 0} (R : Runner S C) where
   -- run by run, a line fails where fewer choices passed than are listed; where no run was begun; where one more was begun
   unfoldable pub decided : Report C → End C → ℕ → List (List C) → List (List C) → Option (Place C)
-  decided report end k [] [] = cond (stop_decided report.cause (treats_in R report.runs) report.stop end) None (Some OfStop)
+  decided report end k [] [] = cond (stop_decided report.cause (treats_in R.is_treatment report.runs) report.stop end) None (Some OfStop)
   decided report end k (gs ∷ passed) [] = Some OfStop
   decided report end k [] (cs ∷ runs) = Some (OfRun k)
   decided report end k (gs ∷ passed) (cs ∷ runs) = elim (slice_get cs (length gs)) [ Some c ↦ Some (OfChoice k (length gs) c) | None ↦ decided report end (suc k) passed runs ]

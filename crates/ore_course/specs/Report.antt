@@ -38,7 +38,7 @@ module _ {S C : Type 0} (R : Runner S C) {X : Type 0} where
   unfoldable pub IsHonestAt : Course S X → List (List C) → Reported → StopLine C → Type 0
   IsHonestAt course runs why AtForced = (cause : Cause) × (why ≡ ByStop cause) × LeadsTo R course runs (Stops cause)
   IsHonestAt course runs why (AtChoice c) = (cause : Cause) × (why ≡ ByStop cause) × (st : S) × IsIn R course runs st × (R.step st c ≡ Err (Stopped cause))
-  IsHonestAt course runs why AtBudget = (why ≡ ByBudget (treats_in R runs)) × (st : S) × IsIn R course runs st × (R.is_complete st ≡ false)
+  IsHonestAt course runs why AtBudget = (why ≡ ByBudget (treats_in R.is_treatment runs)) × (st : S) × IsIn R course runs st × (R.is_complete st ≡ false)
 
   -- the choices of the report lead to the stop that it names
   abbrev pub IsHonest : Course S X → Report C → Type 0
@@ -60,12 +60,12 @@ module _ {S C : Type 0} (R : Runner S C) where
   -- what the choice that stops would have cost
   abbrev pub stop_cost : StopLine C → ℕ
   stop_cost AtForced = 0
-  stop_cost (AtChoice c) = cost R c
+  stop_cost (AtChoice c) = cost R.is_treatment c
   stop_cost AtBudget = 0
 
   -- its budget is this one, or an operation stopped and the budget allows all treatments, with that of the stop
   abbrev pub IsWithinBy : ℕ → Report C → Reported → Type 0
-  IsWithinBy budget report (ByStop cause) = treats_in R report.runs + stop_cost report.stop ≤ budget
+  IsWithinBy budget report (ByStop cause) = treats_in R.is_treatment report.runs + stop_cost report.stop ≤ budget
   IsWithinBy budget report (ByBudget n) = n ≡ budget
 
   -- the report is within the budget

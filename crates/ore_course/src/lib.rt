@@ -28,19 +28,22 @@
 //!
 //! `law_*` in `laws` states what is proved of them. Proofs of code cite the lemmas of `proofs/`: `Calls.antt` has one for
 //! each kind of statement of a function that follows a course, `OneRun.antt` those for a call that makes one run,
-//! `Leads.antt` takes a course apart that was followed to its end, and `Budget.antt` shows a course to have a budget.
+//! `Leads.antt` takes a course apart that was followed to its end, `Endings.antt` shows a run to have a number that its
+//! choices don't reach, and `Budget.antt` shows a course to have a budget.
 //!
 //! For runs on the rows of a matrix these are:
 //!
 //! | here | there |
 //! |---|---|
+//! | runner | `runner` of `ore_pairs` (`specs/Runner.antt`), and `runner_within` for limits |
 //! | state, first state | `State` and `begin` of `ore_pairs` |
 //! | choice, treatment | `Choice` of `ore_rows`; `Treat` |
-//! | step, refusal | `step` of `ore_pairs` within the limits of the program; `Refusal` |
-//! | complete | each pair with equal lead columns is listed: `IsComplete` of `ore_pairs`, as a test |
-//! | rule | `allows` and `allows_spent` of a chooser, on what is shown of the state and on its listed pairs |
-//! | halt | `Halt` of `ore_groebner`, where `Treat` stands for the choice that treats this pair |
-//! | report, its lines | `Report` of `ore_cert` without its plan, which names the course; the first run has line 4 |
+//! | step, refusal | `step` of `ore_pairs`; `Refusal` is the one here |
+//! | complete | each pair with equal lead columns is listed: `is_complete` of `ore_pairs` |
+//! | a course of one run | `run_on` and `run_within` of `ore_pairs` |
+//! | rule | `rule_of` of `ore_pairs`: what a chooser allows, on what is shown of the state and on its listed pairs |
+//! | halt | `halt_of` of `ore_groebner` (`specs/Courses.antt`): `Treat` stands for the choice that treats this pair |
+//! | report, its lines | `course_report` of `ore_cert`, without the plan, which names the course; the first run has line 4 |
 #![tactic(auto)]
 
 pub mod laws;

@@ -13,7 +13,8 @@ use Rattle.ore_monomial.specs.Signature.{Signature, IsLawful}
 use Rattle.ore_rows.specs.Rows.{Row, RowOf, AreLong, zero_row, combine, matrix_times, InRowModule}
 use Rattle.ore_rows.specs.RowLead.{IsRowLead}
 use Rattle.ore_rows.proofs.RowLaws as Rows
-use Rattle.ore_pairs.specs.PairList.{Entry, AreAllListed, AreEntriesOf, syzygies}
+use Rattle.ore_pairs.specs.PairList.{Entry, pairs_of, AreEntriesOf, syzygies}
+use Rattle.ore_pairs.specs.PairRule.{AreAllListed}
 use Rattle.ore_pairs.specs.Blocks.{IsBasis}
 use Rattle.ore_pairs.proofs.PairCount.{all_listed}
 use Rattle.ore_pairs.proofs.Products.{IsLeadDivided}
@@ -41,7 +42,7 @@ module _ (K : Domain) (s : Signature) (lawful : IsLawful s) (o : Order) (n : ℕ
   pub combine-through : (c : Row K) → combine K s n (through c) basis ≡ combine K s n c a
   combine-through c = Rows.combine-combine K s lawful (length basis) n c from basis v.from_shape.1 v.long ∙ ap (combine K s n c) v.from_is
 
-  all : AreAllListed leads entries
+  all : AreAllListed leads (pairs_of entries)
   all = all_listed K s o n basis leads entries v.lawful v.counted
 
   module _ (of : AllByRecursion (RowOf K s) basis) (steps_of : AreEntriesOf K s entries) where

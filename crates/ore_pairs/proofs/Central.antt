@@ -20,7 +20,7 @@ use Rattle.ore_rows.specs.RowLead.{coefficient_at, IsRowLead}
 use Rattle.ore_rows.proofs.RowLaws as Rows
 use Rattle.ore_pairs.specs.Steps.{lead_at, AreLeads}
 use Rattle.ore_pairs.proofs.RowSums.{row_assoc, plus-zero_row, of_entry}
-use Rattle.ore_pairs.proofs.Near.{weight, IsAtMost, IsSubmodule, IsNear}
+use Rattle.ore_pairs.proofs.Near.{weight, AreWeightsAtMost, IsSubmodule, IsNear}
 use Rattle.ore_pairs.proofs.Close.{AreClose}
 use Rattle.ore_pairs.proofs.Products.{IsLeadDivided, at, at-zero_row, nothing_at, lead_within, at_most-combine}
 use Rattle.ore_pairs.proofs.Top.{Top, top_of}
@@ -33,7 +33,7 @@ pub record IsStandard (K : Domain) (s : Signature) (o : Order) (p : ℕ) (basis 
   pub member : N part
   pub long : length rest ≡ length basis
   pub is : z ≡ row_plus K part rest
-  pub greatest : (rest ≡ zero_row K (length basis)) ⊎ ((k : ℕ) × (q : Monomial) × (k < length basis) × IsAtMost K o leads (weight leads k q) rest × (coefficient_at K (combine K s p rest basis) (weight leads k q) ≢ K.none))
+  pub greatest : (rest ≡ zero_row K (length basis)) ⊎ ((k : ℕ) × (q : Monomial) × (k < length basis) × AreWeightsAtMost K o leads (weight leads k q) rest × (coefficient_at K (combine K s p rest basis) (weight leads k q) ≢ K.zero))
 
 module _ (K : Domain) (s : Signature) (lawful : IsLawful s) (o : Order) (p : ℕ) (basis : List (Row K)) (leads : List Term) (long : AreLong K p basis) (monic : AreLeads K o basis leads) (N : Row K → Type 0) (sub : IsSubmodule K s (length basis) N) where
   abbrev n : ℕ
@@ -52,9 +52,9 @@ module _ (K : Domain) (s : Signature) (lawful : IsLawful s) (o : Order) (p : ℕ
 
     -- each row of the signature with the greatest weight t is standard
     abbrev From : Term → Type 0
-    From t = (z : Row K) → length z ≡ n → RowOf K s z → (k : ℕ) (q : Monomial) → MonomialOf s q → k < n → weight leads k q ≡ t → IsAtMost K o leads t z → Standard z
+    From t = (z : Row K) → length z ≡ n → RowOf K s z → (k : ℕ) (q : Monomial) → MonomialOf s q → k < n → weight leads k q ≡ t → AreWeightsAtMost K o leads t z → Standard z
 
-    alone : (z : Row K) → length z ≡ n → (z ≡ zero_row K n) ⊎ ((k : ℕ) × (q : Monomial) × (k < n) × IsAtMost K o leads (weight leads k q) z × (coefficient_at K (combine K s p z basis) (weight leads k q) ≢ K.none)) → Standard z
+    alone : (z : Row K) → length z ≡ n → (z ≡ zero_row K n) ⊎ ((k : ℕ) × (q : Monomial) × (k < n) × AreWeightsAtMost K o leads (weight leads k q) z × (coefficient_at K (combine K s p z basis) (weight leads k q) ≢ K.zero)) → Standard z
     alone z l g = record { part = zero_row K n; rest = z; member = sub.has_zero; long = l; is = sym (Rows.zero_row_plus K n z l); greatest = g }
 
     -- the rest of a near row is standard, so the row is
@@ -72,10 +72,10 @@ module _ (K : Domain) (s : Signature) (lawful : IsLawful s) (o : Order) (p : ℕ
         }
 
     from_smaller : (t : Term) → ((u : Term) → u.column < p → term_cmp o u t ≡ Less → From u) → From t
-    from_smaller t ih z l oz k q oq kl e h = by (K.discrete (found t z) K.none)
+    from_smaller t ih z l oz k q oq kl e h = by (K.discrete (found t z) K.zero)
       where
-        by : Dec (found t z ≡ K.none) → Standard z
-        by (no d) = alone z l (inr (k, q, kl, subst (λ t. IsAtMost K o leads t z) (sym e) h, λ c. d (ap (coefficient_at K (combine K s p z basis)) (sym e) ∙ c)))
+        by : Dec (found t z ≡ K.zero) → Standard z
+        by (no d) = alone z l (inr (k, q, kl, subst (λ t. AreWeightsAtMost K o leads t z) (sym e) h, λ c. d (ap (coefficient_at K (combine K s p z basis)) (sym e) ∙ c)))
         by (yes c) =
             let near : IsNear K s o leads n N t z = subst (IsNear K s o leads n N t) (moved_nothing K s lawful o p basis leads long monic N sub t k q oq e z l c)
             (near-moved K s lawful o p basis leads long monic N sub t k q oq e z l oz h (λ i il same. close i k il kl same)) in
@@ -112,7 +112,7 @@ module _ (K : Domain) (s : Signature) (lawful : IsLawful s) (o : Order) (p : ℕ
       pub lead_divided : (z : Row K) (t : Term) (k : K.Number) → length z ≡ n → RowOf K s z → IsRowLead K o (combine K s p z basis) t k → IsLeadDivided n leads t
       lead_divided z t k l oz lead = by (standard z l oz)
         where
-          stands : (st : Standard z) → found t st.rest ≢ K.none
+          stands : (st : Standard z) → found t st.rest ≢ K.zero
           stands st c = lead.apart (sym lead.stands ∙ sym (found-rest t z st) ∙ c)
 
           by : Standard z → IsLeadDivided n leads t

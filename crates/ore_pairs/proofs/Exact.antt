@@ -7,7 +7,7 @@ use Rattle.std.proofs.Common.{◌≡◌, ℕ, ◌<◌, List, [], ◌∷◌, leng
 use Rattle.std.specs.List.{AllByRecursion}
 use Rattle.std.proofs.ByRecursion.{All-get_or, All-drop}
 use Rattle.ore_algebra.specs.Domain.{Domain}
-use Rattle.ore_algebra.specs.Free.{none}
+use Rattle.ore_algebra.specs.Free.{empty_sum}
 use Rattle.ore_monomial.specs.Monomial.{plain_cmp}
 use Rattle.ore_monomial.specs.Term.{Term}
 use Rattle.ore_monomial.specs.declared.order.Order.{Order}
@@ -71,7 +71,7 @@ module _ (K : Domain) (s : Signature) (lawful : IsLawful s) where
     left_inside l ll h c lc oc = by_places K s lawful (λ c. InRowModule K s n l (left c)) n c lc
         (subst (InRowModule K s n l) (sym left-zero_row) (module_zero K s lawful n l ll))
         (λ a b la lb x y. subst (InRowModule K s n l) (sym (left-row_plus a b (la ∙ sym lb))) (Rows.module_plus K s lawful n l _ _ x y))
-        (λ k kn. subst (InRowModule K s n l) (sym (left-place k kn (get_or c k (none K plain_cmp)))) (Rows.module_scale K s lawful n l _ _ (of_entry K s c k oc) (h k kn)))
+        (λ k kn. subst (InRowModule K s n l) (sym (left-place k kn (get_or c k (empty_sum K plain_cmp)))) (Rows.module_scale K s lawful n l _ _ (of_entry K s c k oc) (h k kn)))
 
   left_over_inside : (m q : ℕ) (from to l inside : List (Row K)) → length from ≡ q → AreLong K m from → AreLong K q to → AreLong K q l → AreLong K (length l) inside → AllByRecursion (RowOf K s) inside
       → ((i : ℕ) → i < q → i < length inside)

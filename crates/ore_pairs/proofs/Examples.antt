@@ -5,12 +5,13 @@
 --     outside_valid, outside_follows     a block for D and the row 1, where D is not 1; so 1 is no multiple of D
 --     zeros_invalid                      no block shows that D, -1 spans all that takes two zeros to zero
 --     longer_inexact                     the row 1, D has an entry too many to be exact for one zero
-use Rattle.std.proofs.Common.{◌≡◌, ◌≢◌, inl, inr, ⊎_elim, ℕ, zero, suc, ◌<◌, false, List, [], ◌∷◌, length, get_or, refl, sym, ap, ◌∙◌, subst, arith}
+use Rattle.std.specs.Prelude.{◌&&◌}
+use Rattle.std.proofs.Common.{◌≡◌, ◌≢◌, ⊎_elim, ℕ, zero, suc, ◌<◌, true, false, List, [], ◌∷◌, length, get_or, refl, sym, ap, ◌∙◌, subst, arith}
 use Rattle.std.specs.Ordering.{is_gt}
 use Rattle.std.specs.Cmp.{tied_itself}
 use Rattle.std.specs.List.{AllByRecursion}
 use Rattle.ore_algebra.specs.Domain.{Domain}
-use Rattle.ore_algebra.specs.Free.{none, single, plus, scale, coefficient}
+use Rattle.ore_algebra.specs.Free.{empty_sum, single, plus, scale, coefficient}
 use Rattle.ore_monomial.specs.Monomial.{Monomial, unit, lcm, quotient, Divides, plain_cmp}
 use Rattle.ore_monomial.specs.Term.{Term, term_cmp}
 use Rattle.ore_monomial.specs.declared.order.Order.{Order}
@@ -25,11 +26,13 @@ use Rattle.ore_ring.specs.Product.{times}
 use Rattle.ore_ring.proofs.Belonging.{of_none, of_single}
 use Rattle.ore_ring.proofs.NoZeroDivisor.{no_zero_divisor}
 use Rattle.ore_ring.proofs.Product.{times-linear_left, times-linear_right, one-times, times-one}
+use Rattle.ore_leads.proofs.Dividing.{divides_term_true}
 use Rattle.ore_rows.specs.Rows.{Row, RowOf, zero_row, unit_row, row_plus, row_minus, row_scale, combine, matrix_times, InRowModule, IsExact}
 use Rattle.ore_rows.specs.RowLead.{coefficient_at, IsRowLead}
 use Rattle.ore_rows.proofs.Differences.{number-times}
-use Rattle.ore_pairs.specs.Steps.{row_at, lead_at, AreLeads, after, s_row}
+use Rattle.ore_pairs.specs.Steps.{row_at, lead_at, pair_term, AreLeads, after, s_row}
 use Rattle.ore_pairs.specs.PairList.{Entry, Pair, Skip, AreLawful, pair_count, treated_count}
+use Rattle.ore_pairs.specs.PairRule.{is_listed, may_treat, may_skip}
 use Rattle.ore_pairs.specs.Blocks.{ExactBlock, OutsideBlock, IsBasis, IsValidExact, IsValidOutside, IsExactBlockOf, IsOutsideBlockOf}
 use Rattle.ore_pairs.proofs.Tails.{only_monomial}
 use Rattle.ore_pairs.proofs.Exact.{exact_block}
@@ -55,7 +58,7 @@ module _ (K : Domain) (s : Signature) (lawful : IsLawful s) (o : Order) (d : Mon
   D = single K plain_cmp d K.one
 
   abbrev nil : Operator K
-  nil = none K plain_cmp
+  nil = empty_sum K plain_cmp
 
   abbrev opposite : Operator K → Operator K
   opposite f = scale K plain_cmp (K.minus K.one) f
@@ -71,18 +74,18 @@ module _ (K : Domain) (s : Signature) (lawful : IsLawful s) (o : Order) (d : Mon
   lead_of_one : (m : Monomial) → IsRowLead K o (single K plain_cmp m K.one ∷ []) (first_lead m) K.one
   lead_of_one m = record { stands = Operators.coefficient-own K m K.one; apart = K.one_apart; greatest = λ u h. at u.column u.monomial h }
     where
-      at : (j : ℕ) (q : Monomial) → coefficient_at K (single K plain_cmp m K.one ∷ []) (record { monomial = q; column = j }) ≢ K.none → is_gt (term_cmp o (record { monomial = q; column = j }) (first_lead m)) ≡ false
+      at : (j : ℕ) (q : Monomial) → coefficient_at K (single K plain_cmp m K.one ∷ []) (record { monomial = q; column = j }) ≢ K.zero → is_gt (term_cmp o (record { monomial = q; column = j }) (first_lead m)) ≡ false
       at zero q h = subst (λ q. is_gt (term_cmp o (first_lead q) (first_lead m)) ≡ false) (sym (only_monomial K m q K.one h)) (ap is_gt (tied_itself (term_total o) (first_lead m)))
-      at (suc j) q h = absurd (h (Operators.coefficient-none K q))
+      at (suc j) q h = absurd (h (Operators.coefficient-empty_sum K q))
 
   nil-times : (f : Operator K) → times K s nil f ≡ nil
-  nil-times f = Operators.linear-none K (times-linear_left K s f)
+  nil-times f = Operators.linear-empty_sum K (times-linear_left K s f)
 
   times-nil : (f : Operator K) → times K s f nil ≡ nil
-  times-nil f = Operators.linear-none K (times-linear_right K s f)
+  times-nil f = Operators.linear-empty_sum K (times-linear_right K s f)
 
   opposite-nil : opposite nil ≡ nil
-  opposite-nil = Operators.scale_none K (K.minus K.one)
+  opposite-nil = Operators.scale-empty_sum K (K.minus K.one)
 
   opposite-one : opposite one ≡ minus_one
   opposite-one = Operators.scale-single K (K.minus K.one) K.one unit ∙ ap (single K plain_cmp unit) (K.times_one (K.minus K.one))
@@ -122,13 +125,13 @@ module _ (K : Domain) (s : Signature) (lawful : IsLawful s) (o : Order) (d : Mon
   raised_second m = ap (λ q. single K plain_cmp q K.one) (ap (λ q. quotient q m) (lcm-unit m) ∙ quotient-itself m)
 
   basis_is : IsBasis K s o 1 column column both (Pair 0 1 [] ∷ []) leads
-  unfolding combine row_plus row_minus row_scale zero_row matrix_times pair_count after s_row
+  unfolding combine row_plus row_minus row_scale zero_row matrix_times pair_count after s_row may_treat is_listed
   basis_is = record {
     long = (refl, (refl, tt));
     monic = leads_are;
     from_shape = (refl, (refl, (refl, tt)));
-    from_is = simp (one-times K s lawful, nil-times, Operators.plus_none K, Operators.none-plus K);
-    lawful = ((record { ordered = omega arith; within = omega arith; columns = refl; unlisted = λ h. h }, record { low = tt; nothing = simp (raised_first, raised_second, one-times K s lawful, times-one K s lawful, Operators.plus_opposite K) }), tt);
+    from_is = simp (one-times K s lawful, nil-times, Operators.plus_zero K, Operators.zero-plus K);
+    lawful = ((refl, record { low = tt; nothing = simp (raised_first, raised_second, one-times K s lawful, times-one K s lawful, Operators.plus_opposite K) }), tt);
     counted = refl;
   }
 
@@ -136,17 +139,17 @@ module _ (K : Domain) (s : Signature) (lawful : IsLawful s) (o : Order) (d : Mon
   unfolding combine row_plus row_minus row_scale zero_row matrix_times after s_row unit_row treated_count
   exact_valid = record {
     leads = leads;
-    annihilates = (simp (times-one K s lawful, minus_one-times, Operators.plus_none K, Operators.plus_opposite K), tt);
+    annihilates = (simp (times-one K s lawful, minus_one-times, Operators.plus_zero K, Operators.plus_opposite K), tt);
     is_basis = basis_is;
     to_shape = (refl, (refl, (refl, tt)));
-    to_is = simp (one-times K s lawful, nil-times, Operators.plus_none K, Operators.none-plus K);
+    to_is = simp (one-times K s lawful, nil-times, Operators.plus_zero K, Operators.zero-plus K);
     inside_shape = (refl, (refl, (refl, (refl, tt))));
     first_inside = elim [
-      | zero ↦ λ h. simp (one-times K s lawful, nil-times, opposite-nil, Operators.plus_none K, Operators.plus_opposite K)
-      | suc zero ↦ λ h. simp (one-times K s lawful, nil-times, opposite-nil, Operators.plus_none K, Operators.none-plus K, Operators.plus_opposite K)
+      | zero ↦ λ h. simp (one-times K s lawful, nil-times, opposite-nil, Operators.plus_zero K, Operators.plus_opposite K)
+      | suc zero ↦ λ h. simp (one-times K s lawful, nil-times, opposite-nil, Operators.plus_zero K, Operators.zero-plus K, Operators.plus_opposite K)
       | suc (suc i) ↦ λ h. absurd (omega arith)
     ];
-    later_inside = (simp (raised_first, raised_second, one-times K s lawful, times-one K s lawful, times-nil, opposite-nil, opposite-one, Operators.plus_none K, Operators.none-plus K), tt);
+    later_inside = (simp (raised_first, raised_second, one-times K s lawful, times-one K s lawful, times-nil, opposite-nil, opposite-one, Operators.plus_zero K, Operators.zero-plus K), tt);
   }
 
   exact_of : IsExactBlockOf K s block
@@ -179,21 +182,15 @@ module _ (K : Domain) (s : Signature) (lawful : IsLawful s) (o : Order) (d : Mon
   three_entries = Pair 0 1 [] ∷ Pair 0 2 [] ∷ Skip 1 2 0 ∷ []
 
   skip_lawful : (e : Monomial) → AreLawful K s o 1 (three e) (three_leads e) [] three_entries
-  unfolding after s_row row_minus row_plus row_scale zero_row
+  unfolding after s_row row_minus row_plus row_scale zero_row may_treat may_skip is_listed
   skip_lawful e = (
-    (record { ordered = omega arith; within = omega arith; columns = refl; unlisted = λ h. h }, record { low = tt; nothing = simp (raised_first, raised_second, one-times K s lawful, times-one K s lawful, Operators.plus_opposite K) }),
+    (refl, record { low = tt; nothing = simp (raised_first, raised_second, one-times K s lawful, times-one K s lawful, Operators.plus_opposite K) }),
     (
-      (record { ordered = omega arith; within = omega arith; columns = refl; unlisted = ⊎_elim (λ p. let q = p.1 in absurd (omega arith)) (λ h. h) }, record { low = tt; nothing = simp (raised_first, raised_second, one-times K s lawful, times-one K s lawful, Operators.plus_opposite K) }),
+      (refl, record { low = tt; nothing = simp (raised_first, raised_second, one-times K s lawful, times-one K s lawful, Operators.plus_opposite K) }),
       (
         (
-          record { ordered = omega arith; within = omega arith; columns = refl; unlisted = ⊎_elim (λ p. let q = p.0 in absurd (omega arith)) (⊎_elim (λ p. let q = p.0 in absurd (omega arith)) (λ h. h)) },
-          record {
-            within = omega arith;
-            other = (λ q. absurd (omega arith), λ q. absurd (omega arith));
-            column = refl;
-            divides = λ x. let a = exponent-unit x in omega arith;
-            listed = (inr (inr (inl (refl, refl))), inr (inl (refl, refl)));
-          },
+          refl,
+          ap (λ b. b && true && true) ((divides_term_true (first_lead unit) (pair_term (three_leads e) 1 2)).1 (refl, λ x. let a = exponent-unit x in omega arith)),
         ),
         tt,
       ),
@@ -220,7 +217,7 @@ module _ (K : Domain) (s : Signature) (lawful : IsLawful s) (o : Order) (d : Mon
       long = (refl, tt);
       monic = record { long = refl; monic = elim [ zero ↦ λ l. lead_of_one d | suc i ↦ λ l. absurd (omega arith) ] };
       from_shape = (refl, (refl, tt));
-      from_is = simp (one-times K s lawful, Operators.plus_none K);
+      from_is = simp (one-times K s lawful, Operators.plus_zero K);
       lawful = tt;
       counted = refl;
     };
@@ -244,7 +241,7 @@ module _ (K : Domain) (s : Signature) (lawful : IsLawful s) (o : Order) (d : Mon
   zeros = (nil ∷ []) ∷ (nil ∷ []) ∷ []
 
   apart_nil : (m : Monomial) → single K plain_cmp m K.one ≢ nil
-  apart_nil m e = K.one_apart (sym (Operators.coefficient-own K m K.one) ∙ ap (λ f. coefficient K plain_cmp f m) e ∙ Operators.coefficient-none K m)
+  apart_nil m e = K.one_apart (sym (Operators.coefficient-own K m K.one) ∙ ap (λ f. coefficient K plain_cmp f m) e ∙ Operators.coefficient-empty_sum K m)
 
   not_reached : InRowModule K s 2 relation (nil ∷ one ∷ []) → ⊥
   unfolding InRowModule combine row_plus row_scale zero_row
@@ -254,13 +251,13 @@ module _ (K : Domain) (s : Signature) (lawful : IsLawful s) (o : Order) (d : Mon
       let first : plus K plain_cmp (times K s f D) nil ≡ nil = ap (λ r. get_or r 0 nil) e in
       let second : plus K plain_cmp (times K s f minus_one) nil ≡ one = ap (λ r. get_or r 1 nil) e in
       ⊎_elim
-      (λ z. apart_nil unit (sym second ∙ Operators.plus_none K _ ∙ ap (λ f. times K s f minus_one) z ∙ nil-times minus_one))
+      (λ z. apart_nil unit (sym second ∙ Operators.plus_zero K _ ∙ ap (λ f. times K s f minus_one) z ∙ nil-times minus_one))
       (apart_nil d)
-      (no_zero_divisor K o s lawful f D (sym (Operators.plus_none K _) ∙ first))
+      (no_zero_divisor K o s lawful f D (sym (Operators.plus_zero K _) ∙ first))
 
   zeros_invalid : (b : ExactBlock K) → IsExactBlockOf K s b → ¬ IsValidExact K s o 1 zeros relation b
   unfolding IsExact combine row_plus row_scale zero_row
-  zeros_invalid b of v = not_reached (((exact_block K s lawful o 1 zeros relation b (refl, tt) of v).1 (nil ∷ one ∷ []) refl (of_none K s, (of_single K s unit K.one (MonomialOf-unit s), tt))).0 (simp (nil-times, times-nil, Operators.plus_none K)))
+  zeros_invalid b of v = not_reached (((exact_block K s lawful o 1 zeros relation b (refl, tt) of v).1 (nil ∷ one ∷ []) refl (of_none K s, (of_single K s unit K.one (MonomialOf-unit s), tt))).0 (simp (nil-times, times-nil, Operators.plus_zero K)))
 
   -- ---- sizes
 

@@ -6,12 +6,12 @@
 --     kernel_member            what takes the basis to zeros is in each module N that has these syzygies
 --     syzygies_generate        it is in their row module
 --     leads_divide             the lead of each member of the basis's row module is divided by a basis lead of its column
-use Rattle.std.proofs.Common.{◌≡◌, inl, inr, ⊎_elim, ℕ, ◌<◌, List, [], ◌∷◌, length, get_or, sym, ap, ◌∙◌, subst, arith}
+use Rattle.std.proofs.Common.{◌≡◌, ⊎_elim, ℕ, ◌<◌, true, true≢false, List, [], ◌∷◌, length, get_or, sym, ap, ◌∙◌, subst, arith}
 use Rattle.std.specs.List.{AllByRecursion}
 use Rattle.std.proofs.ByRecursion.{All-get_or, All-from_get_or}
 use native.Mathlib.Decide.{dec_lt}
 use Rattle.ore_algebra.specs.Domain.{Domain}
-use Rattle.ore_algebra.specs.Free.{none}
+use Rattle.ore_algebra.specs.Free.{empty_sum}
 use Rattle.ore_monomial.specs.Monomial.{plain_cmp}
 use Rattle.ore_monomial.specs.Term.{Term}
 use Rattle.ore_monomial.specs.declared.order.Order.{Order}
@@ -21,7 +21,9 @@ use Rattle.ore_rows.specs.RowLead.{IsRowLead}
 use Rattle.ore_rows.proofs.RowLaws as Rows
 use Rattle.ore_rows.proofs.RowModules.{module_zero, module_row, length-module}
 use Rattle.ore_pairs.specs.Steps.{AreStepsOf, row_at, lead_at, AreLeads, syzygy}
-use Rattle.ore_pairs.specs.PairList.{Entry, Pair, Skip, first, second, IsListed, IsListedFor, IsLawfulEntry, AreLawful, AreAllListed, AreEntriesOf, syzygies}
+use Rattle.ore_pairs.specs.PairList.{Entry, Pair, Skip, first, second, pairs_of, IsLawfulEntry, AreLawful, AreEntriesOf, syzygies}
+use Rattle.ore_pairs.specs.PairRule.{is_listed, either_listed, AreAllListed}
+use Rattle.ore_pairs.proofs.PairRuleLaws.{treat_from, skip_from, pair_to, listed_split, either_from}
 use Rattle.ore_pairs.proofs.RowSums.{of_entry}
 use Rattle.ore_pairs.proofs.Places.{by_combination}
 use Rattle.ore_pairs.proofs.Near.{IsSubmodule}
@@ -44,15 +46,15 @@ module _ (K : Domain) (s : Signature) (lawful : IsLawful s) where
   combination_vanishes n p b c rows lb long h = by_combination K s lawful (λ z. combine K s p z b ≡ zero_row K p) n c rows long
       (Rows.combine-zero K s n p b lb)
       (λ x y lx ly ex ey. Rows.combine-plus K s p x y b (lx ∙ sym ly) ∙ (λ i. row_plus K (ex i) (ey i)) ∙ Rows.zero_row_twice K p)
-      (λ k kc kl. sym (Rows.scale-combine K s lawful (get_or c k (none K plain_cmp)) p (row_at rows k) b) ∙ ap (row_scale K s (get_or c k (none K plain_cmp))) (All-get_or (λ r. combine K s p r b ≡ zero_row K p) rows k [] kl h) ∙ Rows.scale-zero_row K s _ p)
+      (λ k kc kl. sym (Rows.scale-combine K s lawful (get_or c k (empty_sum K plain_cmp)) p (row_at rows k) b) ∙ ap (row_scale K s (get_or c k (empty_sum K plain_cmp))) (All-get_or (λ r. combine K s p r b ≡ zero_row K p) rows k [] kl h) ∙ Rows.scale-zero_row K s _ p)
 
   pub combination_inside : (n q : ℕ) (l b : List (Row K)) (c : Row K) (rows : List (Row K)) → AreLong K q b → AreLong K q l → AreLong K n rows → RowOf K s c
       → AllByRecursion (λ r. InRowModule K s q l (combine K s q r b)) rows → InRowModule K s q l (combine K s q (combine K s n c rows) b)
   combination_inside n q l b c rows lb ll long oc h = by_combination K s lawful (λ z. InRowModule K s q l (combine K s q z b)) n c rows long
       (subst (InRowModule K s q l) (sym (Rows.combine-zero K s n q b lb)) (module_zero K s lawful q l ll))
       (λ x y lx ly ix iy. subst (InRowModule K s q l) (sym (Rows.combine-plus K s q x y b (lx ∙ sym ly))) (Rows.module_plus K s lawful q l _ _ ix iy))
-      (λ k kc kl. subst (InRowModule K s q l) (Rows.scale-combine K s lawful (get_or c k (none K plain_cmp)) q (row_at rows k) b)
-      (Rows.module_scale K s lawful q l (get_or c k (none K plain_cmp)) _ (of_entry K s c k oc) (All-get_or (λ r. InRowModule K s q l (combine K s q r b)) rows k [] kl h)))
+      (λ k kc kl. subst (InRowModule K s q l) (Rows.scale-combine K s lawful (get_or c k (empty_sum K plain_cmp)) q (row_at rows k) b)
+      (Rows.module_scale K s lawful q l (get_or c k (empty_sum K plain_cmp)) _ (of_entry K s c k oc) (All-get_or (λ r. InRowModule K s q l (combine K s q r b)) rows k [] kl h)))
 
 -- ---- all pairs are close
 
@@ -65,14 +67,13 @@ module _ (K : Domain) (s : Signature) (lawful : IsLawful s) (o : Order) (p : ℕ
     Close i j = AreClose K s lawful o leads n N sub i j
 
     abbrev AreKnown : List (Entry K) → Type 0
-    AreKnown es = (i j : ℕ) → IsListed i j es → Close i j
+    AreKnown es = (i j : ℕ) → is_listed i j (pairs_of es) ≡ true → Close i j
 
     turned : (i j : ℕ) → Close i j → Close j i
     turned i j = close_turned K s lawful o leads n N sub i j
 
-    known_either : (before : List (Entry K)) → AreKnown before → (i j : ℕ) → IsListedFor i j before → Close i j
-    known_either before known i j (inl h) = known i j h
-    known_either before known i j (inr h) = turned j i (known j i h)
+    known_either : (before : List (Entry K)) → AreKnown before → (i j : ℕ) → either_listed i j (pairs_of before) ≡ true → Close i j
+    known_either before known i j h = ⊎_elim (known i j) (λ e. turned j i (known j i e)) (either_from i j (pairs_of before) h)
 
     -- the syzygy of a treated pair is in N, and its steps are of the signature
     abbrev IsMember : Entry K → Type 0
@@ -80,32 +81,36 @@ module _ (K : Domain) (s : Signature) (lawful : IsLawful s) (o : Order) (p : ℕ
     IsMember (Skip i j via) = Unit {0}
 
     close_entry : (before : List (Entry K)) (e : Entry K) → AreKnown before → IsMember e → IsLawfulEntry K s o p basis leads before e → Close (first e) (second e)
-    close_entry before (Pair i j steps) known member (new, treated) =
+    close_entry before (Pair i j steps) known member (allowed, treated) =
+        let new = treat_from leads (pairs_of before) i j allowed in
         let jl : j < n = subst (λ m. j < m) many new.within in
         let il : i < n = let l = new.ordered in omega arith in
         close_pair K s lawful o leads n N sub declared i j il jl new.columns steps many treated.low member.1 member.0
-    close_entry before (Skip i j via) known member (new, skipped) =
-        close_skip K s lawful o leads n N sub declared i j via skipped.column skipped.divides (known_either before known i via skipped.listed.0) (turned j via (known_either before known j via skipped.listed.1))
+    close_entry before (Skip i j via) known member (allowed, skipped) =
+        let can = skip_from leads (pairs_of before) i j via skipped in
+        close_skip K s lawful o leads n N sub declared i j via can.column can.divides (known_either before known i via can.known.0) (turned j via (known_either before known j via can.known.1))
 
     close_listed : (before es : List (Entry K)) → AreKnown before → AllByRecursion IsMember es → AreLawful K s o p basis leads before es → AreKnown es
-    close_listed before [] known members laws i j h = absurd h
+    unfolding is_listed
+    close_listed before [] known members laws i j h = absurd (true≢false (sym h))
     close_listed before (e ∷ es) known members laws i j h =
         let here : Close (first e) (second e) = close_entry before e known members.0 laws.0 in
-        let more : AreKnown (e ∷ before) = λ i j. ⊎_elim (at_hand here i j) (known i j) in
-        ⊎_elim (at_hand here i j) (close_listed (e ∷ before) es more members.1 laws.1 i j) h
+        let more : AreKnown (e ∷ before) = λ i j h. ⊎_elim (at_hand here i j) (known i j) (listed_split i j (first e, second e) (pairs_of before) h) in
+        ⊎_elim (at_hand here i j) (close_listed (e ∷ before) es more members.1 laws.1 i j) (listed_split i j (first e, second e) (pairs_of es) h)
       where
         at_hand : Close (first e) (second e) → (i j : ℕ) → (first e ≡ i) × (second e ≡ j) → Close i j
         at_hand here i j same = subst (λ i. Close i j) same.0 (subst (λ j. Close (first e) j) same.1 here)
 
-    pub all_close : (es : List (Entry K)) → AllByRecursion IsMember es → AreLawful K s o p basis leads [] es → AreAllListed leads es → (i j : ℕ) → i < n → j < n → (lead_at leads i).column ≡ (lead_at leads j).column → Close i j
+    pub all_close : (es : List (Entry K)) → AllByRecursion IsMember es → AreLawful K s o p basis leads [] es → AreAllListed leads (pairs_of es) → (i j : ℕ) → i < n → j < n → (lead_at leads i).column ≡ (lead_at leads j).column → Close i j
+    unfolding is_listed
     all_close es members laws all i j il jl columns = by (dec_lt i j) (dec_lt j i)
       where
         listed : AreKnown es
-        listed = close_listed [] es (λ i j h. absurd h) members laws
+        listed = close_listed [] es (λ i j h. absurd (true≢false (sym h))) members laws
 
         by : Dec (i < j) → Dec (j < i) → Close i j
-        by (yes l) d = listed i j (all i j l (subst (λ m. j < m) (sym many) jl) columns)
-        by (no a) (yes l) = turned j i (listed j i (all j i l (subst (λ m. i < m) (sym many) il) (sym columns)))
+        by (yes l) d = listed i j (all i j (pair_to leads i j l (subst (λ m. j < m) (sym many) jl) columns))
+        by (no a) (yes l) = turned j i (listed j i (all j i (pair_to leads j i l (subst (λ m. i < m) (sym many) il) (sym columns))))
         by (no a) (no b) = let e : i ≡ j = omega arith in subst (Close i) e (close_itself K s lawful o leads n N sub i)
 
     members : (es : List (Entry K)) → AllByRecursion N (syzygies K s n leads es) → AreEntriesOf K s es → AllByRecursion IsMember es
@@ -117,7 +122,7 @@ module _ (K : Domain) (s : Signature) (lawful : IsLawful s) (o : Order) (p : ℕ
 -- ---- what the list shows
 
 module _ (K : Domain) (s : Signature) (lawful : IsLawful s) (o : Order) (p : ℕ) (basis : List (Row K)) (leads : List Term) (long : AreLong K p basis) (of : AllByRecursion (RowOf K s) basis) (monic : AreLeads K o basis leads)
-    (es : List (Entry K)) (entries : AreEntriesOf K s es) (laws : AreLawful K s o p basis leads [] es) (all : AreAllListed leads es) where
+    (es : List (Entry K)) (entries : AreEntriesOf K s es) (laws : AreLawful K s o p basis leads [] es) (all : AreAllListed leads (pairs_of es)) where
   abbrev size : ℕ
   size = length basis
 

@@ -15,4 +15,8 @@ pub mod Exact
 pub mod Outside
 pub mod Examples
 pub mod PairRuleLaws
+pub mod SRows
+pub mod SomePair
+pub mod CompleteStates
+pub mod FewChoices
 pub mod StoredPairs

@@ -8,7 +8,7 @@ use Rattle.std.specs.declared.cmp.Ordering.{Ordering}
 use Rattle.std.specs.declared.cmp.Ordering.TheVariants.{Less, Equal, Greater}
 use Rattle.std.specs.Ordering.{is_gt, ordering_reverse}
 use Rattle.ore_algebra.specs.Domain.{Domain}
-use Rattle.ore_algebra.specs.Free.{none, single, coefficient}
+use Rattle.ore_algebra.specs.Free.{empty_sum, single, coefficient}
 use Rattle.ore_algebra.proofs.DomainLaws as Numbers
 use Rattle.ore_monomial.specs.Monomial.{Monomial, unit, plain_cmp}
 use Rattle.ore_monomial.specs.Term.{Term, term_cmp}
@@ -30,7 +30,7 @@ use Rattle.ore_pairs.specs.Steps.{row_at, lead_at, AreLeads}
 use Rattle.ore_pairs.proofs.RowSums.{row_assoc, row_comm, plus-zero_row, of_entry, scale-row_minus}
 use Rattle.ore_pairs.proofs.Places.{place, of_place, length-place, place_none, place-plus, scale-place, by_places}
 use Rattle.ore_pairs.proofs.Tails.{tail, term_and_tail, of_tail, tail_below}
-use Rattle.ore_pairs.proofs.Near.{weight, weight_cmp, IsBelow, IsAtMost, below-place, IsSubmodule, IsNear, near_below, near_zero, near-row_plus, near_number}
+use Rattle.ore_pairs.proofs.Near.{weight, weight_cmp, IsBelow, AreWeightsAtMost, below-place, IsSubmodule, IsNear, near_below, near_zero, near-row_plus, near_number}
 use Rattle.ore_pairs.proofs.Close.{difference, AreClose}
 use Rattle.ore_pairs.proofs.Products.{at, at-zero_row, at-row_plus, at-place, lead-product}
 
@@ -53,11 +53,11 @@ module _ (K : Domain) (s : Signature) (lawful : IsLawful s) (o : Order) (p : ℕ
   abbrev found : Term → Row K → K.Number
   found t z = at K s lawful o p basis leads long monic t z
 
-  minus_none : K.minus K.none ≡ K.none
-  minus_none = sym (Numbers.none_plus K _) ∙ K.plus_minus K.none
+  minus_zero : K.minus K.zero ≡ K.zero
+  minus_zero = sym (Numbers.zero_plus K _) ∙ K.plus_minus K.zero
 
   minus-plus : (x y : K.Number) → K.minus (K.plus x y) ≡ K.plus (K.minus x) (K.minus y)
-  minus-plus x y = Numbers.plus_cancel K (K.plus x y) _ _ (K.plus_minus (K.plus x y) ∙ sym (Numbers.plus_swap K x y (K.minus x) (K.minus y) ∙ (λ i. K.plus (K.plus_minus x i) (K.plus_minus y i)) ∙ K.plus_none K.none))
+  minus-plus x y = Numbers.plus_cancel K (K.plus x y) _ _ (K.plus_minus (K.plus x y) ∙ sym (Numbers.plus_swap K x y (K.minus x) (K.minus y) ∙ (λ i. K.plus (K.plus_minus x i) (K.plus_minus y i)) ∙ K.plus_zero K.zero))
 
   number-term : (q : Monomial) (x y : K.Number) → times K s (number x) (term q y) ≡ term q (K.times x y)
   number-term q x y = number-times K s lawful x _ ∙ Operators.scale-single K x y q
@@ -72,8 +72,8 @@ module _ (K : Domain) (s : Signature) (lawful : IsLawful s) (o : Order) (p : ℕ
     abbrev moved : Row K → Row K
     moved z = row_plus K z (place K s n k₀ (term q₀ (K.minus (found t z))))
 
-    pub moved_nothing : (z : Row K) → length z ≡ n → found t z ≡ K.none → moved z ≡ z
-    moved_nothing z l e = ap (λ c. row_plus K z (place K s n k₀ (term q₀ c))) (ap K.minus e ∙ minus_none) ∙ ap (λ f. row_plus K z (place K s n k₀ f)) (Operators.single_none K q₀) ∙ ap (row_plus K z) (place_none K s n k₀) ∙ plus-zero_row K n z l
+    pub moved_nothing : (z : Row K) → length z ≡ n → found t z ≡ K.zero → moved z ≡ z
+    moved_nothing z l e = ap (λ c. row_plus K z (place K s n k₀ (term q₀ c))) (ap K.minus e ∙ minus_zero) ∙ ap (λ f. row_plus K z (place K s n k₀ f)) (Operators.single_zero K q₀) ∙ ap (row_plus K z) (place_none K s n k₀) ∙ plus-zero_row K n z l
 
     moved-row_plus : (a b : Row K) → length a ≡ length b → moved (row_plus K a b) ≡ row_plus K (moved a) (moved b)
     moved-row_plus a b e =
@@ -123,23 +123,23 @@ module _ (K : Domain) (s : Signature) (lawful : IsLawful s) (o : Order) (p : ℕ
         low : IsBelow K o leads t (place K s n k rest)
         low = below-place K s lawful o leads t n k rest kl (λ q u. ap (term_cmp o (weight leads k q)) (sym e) ∙ weight_cmp o leads k q m ∙ tail_below K o f m j a q u)
 
-    near_unmoved : (z : Row K) → length z ≡ n → found t z ≡ K.none → Near z → Near (moved z)
+    near_unmoved : (z : Row K) → length z ≡ n → found t z ≡ K.zero → Near z → Near (moved z)
     near_unmoved z l e h = subst Near (sym (moved_nothing z l e)) h
 
     near_blank : Near (moved (zero_row K n))
     near_blank = near_unmoved _ (Rows.length-zero_row K s lawful n) (at-zero_row K s lawful o p basis leads long monic t) (near_zero K s lawful o leads n N sub t)
 
     abbrev IsUnder : ℕ → Operator K → Type 0
-    IsUnder k f = (q : Monomial) → coefficient K plain_cmp f q ≢ K.none → is_gt (term_cmp o (weight leads k q) t) ≡ false
+    IsUnder k f = (q : Monomial) → coefficient K plain_cmp f q ≢ K.zero → is_gt (term_cmp o (weight leads k q) t) ≡ false
 
     -- one entry, whose lead has a weight below t
     near_less : (k : ℕ) → k < n → (f : Operator K) (m : Monomial) → OperatorOf K s f → term_cmp o (weight leads k m) t ≡ Less → IsLead K o f m (coefficient K plain_cmp f m) → Near (moved (place K s n k f))
     near_less k kl f m of e a =
-        near_unmoved _ (length-place K s lawful n k f) (by (K.discrete (found t (place K s n k f)) K.none))
+        near_unmoved _ (length-place K s lawful n k f) (by (K.discrete (found t (place K s n k f)) K.zero))
         (near_below K s lawful o leads n N sub t _ (length-place K s lawful n k f) (of_place K s n k f of)
         (below-place K s lawful o leads t n k f kl (λ q u. upto_less (term_total o) (weight leads k q) (weight leads k m) t (ap is_gt (weight_cmp o leads k q m) ∙ a.greatest q u) e)))
       where
-        by : Dec (found t (place K s n k f) ≡ K.none) → found t (place K s n k f) ≡ K.none
+        by : Dec (found t (place K s n k f) ≡ K.zero) → found t (place K s n k f) ≡ K.zero
         by (yes z) = z
         by (no d) =
             let lead = lead-product K s lawful o p basis leads long monic k f m _ kl a in
@@ -154,12 +154,12 @@ module _ (K : Domain) (s : Signature) (lawful : IsLawful s) (o : Order) (p : ℕ
         compared m a Equal e = let same = term_apart o (weight leads k m) t e in near_lead k kl (close (ap (λ t. t.column) (same ∙ sym is))) f m of same a
         compared m a Greater e = absurd (true≢false (ap is_gt (sym e) ∙ h m a.apart))
 
-        by : (f ≡ none K plain_cmp) ⊎ ((m : Monomial) × IsLead K o f m (coefficient K plain_cmp f m)) → Near (moved (place K s n k f))
+        by : (f ≡ empty_sum K plain_cmp) ⊎ ((m : Monomial) × IsLead K o f m (coefficient K plain_cmp f m)) → Near (moved (place K s n k f))
         by (inl e) = subst (λ z. Near (moved z)) (sym (ap (place K s n k) e ∙ place_none K s n k)) near_blank
         by (inr (m, a)) = compared m a (term_cmp o (weight leads k m) t) refl
 
-    pub near-moved : (z : Row K) → length z ≡ n → RowOf K s z → IsAtMost K o leads t z → ((k : ℕ) → k < n → (lead_at leads k).column ≡ (lead_at leads k₀).column → IsCloseTo k) → Near (moved z)
+    pub near-moved : (z : Row K) → length z ≡ n → RowOf K s z → AreWeightsAtMost K o leads t z → ((k : ℕ) → k < n → (lead_at leads k).column ≡ (lead_at leads k₀).column → IsCloseTo k) → Near (moved z)
     near-moved z l oz h close = by_places K s lawful (λ z. Near (moved z)) n z l
         near_blank
         (λ a b la lb x y. subst Near (sym (moved-row_plus a b (la ∙ sym lb))) (near-row_plus K s lawful o leads n N sub t _ _ x y))
-        (λ k kl. near_place k kl (close k kl) (get_or z k (none K plain_cmp)) (of_entry K s z k oz) (h k))
+        (λ k kl. near_place k kl (close k kl) (get_or z k (empty_sum K plain_cmp)) (of_entry K s z k oz) (h k))

@@ -2,7 +2,7 @@
 -- product with the basis row at its place.
 --     weight                   the lead of a monomial times basis row k
 --     weight_cmp, shift-weight     weights of one row are ordered as their monomials; a monomial times a weight
---     IsBelow, IsAtMost        all weights of a row are below t; none is above t
+--     IsBelow, AreWeightsAtMost        all weights of a row are below t; none is above t
 --     below-zero_row, below-row_plus, below-place, below-row_scale, below-row_minus
 --     IsSubmodule              rows closed under sums and multiples by operators of the signature
 --     IsNear                   a row is a member of such a module and a row below t
@@ -12,7 +12,7 @@ use Rattle.std.specs.declared.cmp.Ordering.TheVariants.{Less}
 use Rattle.std.specs.Ordering.{is_gt}
 use native.Mathlib.Decide.{ℕ_discrete}
 use Rattle.ore_algebra.specs.Domain.{Domain}
-use Rattle.ore_algebra.specs.Free.{none, single, coefficient}
+use Rattle.ore_algebra.specs.Free.{empty_sum, single, coefficient}
 use Rattle.ore_monomial.specs.Monomial.{Monomial, unit, product, order_cmp, plain_cmp}
 use Rattle.ore_monomial.specs.Term.{Term, term_cmp, shift}
 use Rattle.ore_monomial.specs.declared.order.Order.{Order}
@@ -49,53 +49,53 @@ pub shift-weight : (leads : List Term) (w q : Monomial) (k : ℕ) → shift w (w
 shift-weight leads w q k = same_term _ _ (sym (product_assoc w q (lead_at leads k).monomial)) refl
 
 module _ (K : Domain) where
-  sum_apart : (x y : K.Number) → K.plus x y ≢ K.none → (x ≢ K.none) ⊎ (y ≢ K.none)
-  sum_apart x y h = by (K.discrete x K.none)
+  sum_apart : (x y : K.Number) → K.plus x y ≢ K.zero → (x ≢ K.zero) ⊎ (y ≢ K.zero)
+  sum_apart x y h = by (K.discrete x K.zero)
     where
-      by : Dec (x ≡ K.none) → (x ≢ K.none) ⊎ (y ≢ K.none)
-      by (yes e) = inr (λ f. h ((λ i. K.plus (e i) (f i)) ∙ K.plus_none K.none))
+      by : Dec (x ≡ K.zero) → (x ≢ K.zero) ⊎ (y ≢ K.zero)
+      by (yes e) = inr (λ f. h ((λ i. K.plus (e i) (f i)) ∙ K.plus_zero K.zero))
       by (no n) = inl n
 
   -- the coefficient of the entry at place k
   abbrev pub at_place : Row K → ℕ → Monomial → K.Number
-  at_place z k q = coefficient K plain_cmp (get_or z k (none K plain_cmp)) q
+  at_place z k q = coefficient K plain_cmp (get_or z k (empty_sum K plain_cmp)) q
 
 module _ (K : Domain) (o : Order) (leads : List Term) where
   abbrev pub IsBelow : Term → Row K → Type 0
-  IsBelow t z = (k : ℕ) (q : Monomial) → at_place K z k q ≢ K.none → term_cmp o (weight leads k q) t ≡ Less
+  IsBelow t z = (k : ℕ) (q : Monomial) → at_place K z k q ≢ K.zero → term_cmp o (weight leads k q) t ≡ Less
 
-  abbrev pub IsAtMost : Term → Row K → Type 0
-  IsAtMost t z = (k : ℕ) (q : Monomial) → at_place K z k q ≢ K.none → is_gt (term_cmp o (weight leads k q) t) ≡ false
+  abbrev pub AreWeightsAtMost : Term → Row K → Type 0
+  AreWeightsAtMost t z = (k : ℕ) (q : Monomial) → at_place K z k q ≢ K.zero → is_gt (term_cmp o (weight leads k q) t) ≡ false
 
 module _ (K : Domain) (s : Signature) (lawful : IsLawful s) (o : Order) (leads : List Term) where
   abbrev Below : Term → Row K → Type 0
   Below t z = IsBelow K o leads t z
 
   pub below-zero_row : (t : Term) (n : ℕ) → Below t (zero_row K n)
-  below-zero_row t n k q h = absurd (h (ap (λ f. coefficient K plain_cmp f q) (Rows.entry-zero_row K s n k) ∙ Operators.coefficient-none K q))
+  below-zero_row t n k q h = absurd (h (ap (λ f. coefficient K plain_cmp f q) (Rows.entry-zero_row K s n k) ∙ Operators.coefficient-empty_sum K q))
 
   pub below-row_plus : (t : Term) (a b : Row K) → length a ≡ length b → Below t a → Below t b → Below t (row_plus K a b)
   below-row_plus t a b e h g k q u = ⊎_elim (h k q) (g k q) (sum_apart K _ _ (λ z. u (ap (λ f. coefficient K plain_cmp f q) (Rows.entry-row_plus K s a b k e) ∙ Operators.coefficient-plus K _ _ q ∙ z)))
 
-  pub below-place : (t : Term) (n k : ℕ) (f : Operator K) → k < n → ((q : Monomial) → coefficient K plain_cmp f q ≢ K.none → term_cmp o (weight leads k q) t ≡ Less) → Below t (place K s n k f)
+  pub below-place : (t : Term) (n k : ℕ) (f : Operator K) → k < n → ((q : Monomial) → coefficient K plain_cmp f q ≢ K.zero → term_cmp o (weight leads k q) t ≡ Less) → Below t (place K s n k f)
   below-place t n k f l h j q u = by (ℕ_discrete j k)
     where
       by : Dec (j ≡ k) → term_cmp o (weight leads j q) t ≡ Less
-      by (yes e) = subst (λ j. at_place K (place K s n k f) j q ≢ K.none → term_cmp o (weight leads j q) t ≡ Less) (sym e) (λ v. h q (λ z. v (ap (λ f. coefficient K plain_cmp f q) (entry-place_same K s lawful n k f l) ∙ z))) u
-      by (no a) = absurd (u (ap (λ f. coefficient K plain_cmp f q) (entry-place_other K s lawful n k j f a) ∙ Operators.coefficient-none K q))
+      by (yes e) = subst (λ j. at_place K (place K s n k f) j q ≢ K.zero → term_cmp o (weight leads j q) t ≡ Less) (sym e) (λ v. h q (λ z. v (ap (λ f. coefficient K plain_cmp f q) (entry-place_same K s lawful n k f l) ∙ z))) u
+      by (no a) = absurd (u (ap (λ f. coefficient K plain_cmp f q) (entry-place_other K s lawful n k j f a) ∙ Operators.coefficient-empty_sum K q))
 
   -- a monomial of a term times an operator is at most a product with one of the operator
-  from_factor : (w : Monomial) (j : K.Number) (f : Operator K) (q : Monomial) → coefficient K plain_cmp (times K s (single K plain_cmp w j) f) q ≢ K.none → (p : Monomial) × (coefficient K plain_cmp f p ≢ K.none) × IsUpto o q (product w p)
-  from_factor w j f q h = by (K.discrete j K.none) (lead_of K o f)
+  from_factor : (w : Monomial) (j : K.Number) (f : Operator K) (q : Monomial) → coefficient K plain_cmp (times K s (single K plain_cmp w j) f) q ≢ K.zero → (p : Monomial) × (coefficient K plain_cmp f p ≢ K.zero) × IsUpto o q (product w p)
+  from_factor w j f q h = by (K.discrete j K.zero) (lead_of K o f)
     where
-      by : Dec (j ≡ K.none) → (f ≡ none K plain_cmp) ⊎ ((m : Monomial) × IsLead K o f m (coefficient K plain_cmp f m)) → (p : Monomial) × (coefficient K plain_cmp f p ≢ K.none) × IsUpto o q (product w p)
-      by (yes e) l = absurd (h (ap (λ g. coefficient K plain_cmp (times K s g f) q) (ap (single K plain_cmp w) e ∙ Operators.single_none K w) ∙ ap (λ g. coefficient K plain_cmp g q) (Operators.linear-none K (times-linear_left K s f)) ∙ Operators.coefficient-none K q))
-      by (no a) (inl e) = absurd (h (ap (λ g. coefficient K plain_cmp (times K s (single K plain_cmp w j) g) q) e ∙ ap (λ g. coefficient K plain_cmp g q) (Operators.linear-none K (times-linear_right K s (single K plain_cmp w j))) ∙ Operators.coefficient-none K q))
+      by : Dec (j ≡ K.zero) → (f ≡ empty_sum K plain_cmp) ⊎ ((m : Monomial) × IsLead K o f m (coefficient K plain_cmp f m)) → (p : Monomial) × (coefficient K plain_cmp f p ≢ K.zero) × IsUpto o q (product w p)
+      by (yes e) l = absurd (h (ap (λ g. coefficient K plain_cmp (times K s g f) q) (ap (single K plain_cmp w) e ∙ Operators.single_zero K w) ∙ ap (λ g. coefficient K plain_cmp g q) (Operators.linear-empty_sum K (times-linear_left K s f)) ∙ Operators.coefficient-empty_sum K q))
+      by (no a) (inl e) = absurd (h (ap (λ g. coefficient K plain_cmp (times K s (single K plain_cmp w j) g) q) e ∙ ap (λ g. coefficient K plain_cmp g q) (Operators.linear-empty_sum K (times-linear_right K s (single K plain_cmp w j))) ∙ Operators.coefficient-empty_sum K q))
       by (no a) (inr (p, b)) = (p, b.apart, (times-lead K s lawful o (lead-single K o w j a) b).greatest q h)
 
   pub below-row_scale : (t : Term) (w : Monomial) (j : K.Number) (z : Row K) → Below t z → Below (shift w t) (row_scale K s (single K plain_cmp w j) z)
   below-row_scale t w j z h k q u =
-      let c = from_factor w j (get_or z k (none K plain_cmp)) q (λ e. u (ap (λ f. coefficient K plain_cmp f q) (Rows.entry-row_scale K s (single K plain_cmp w j) z k) ∙ e)) in
+      let c = from_factor w j (get_or z k (empty_sum K plain_cmp)) q (λ e. u (ap (λ f. coefficient K plain_cmp f q) (Rows.entry-row_scale K s (single K plain_cmp w j) z k) ∙ e)) in
       upto_less (term_total o) (weight leads k q) (weight leads k (product w c.0)) (shift w t)
       (ap is_gt (weight_cmp o leads k q (product w c.0)) ∙ c.2)
       (ap (λ v. term_cmp o v (shift w t)) (sym (shift-weight leads w c.0 k)) ∙ term-shift o w (weight leads k c.0) t ∙ h k c.0 c.1)

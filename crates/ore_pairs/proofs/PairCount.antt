@@ -2,28 +2,30 @@
 --     all_listed               the first
 --     count-all                the second
 --     listed_most              no list has more
---     decide_listed            a pair is listed or not
+--     listed_member            a pair is listed where it is a member of the list
 --     pairs_from               all pairs of leads in one column, in order
-use Rattle.std.proofs.Common.{◌≡◌, inl, inr, ⊎_elim, ℕ, zero, suc, ◌+◌, ◌<◌, ◌≤◌, Bool, true, false, ◌&&◌, ◌||◌, cond, nat_eq, List, [], ◌∷◌, ◌++◌, length, map, refl, sym, ap, ◌∙◌, subst, true≢false, arith}
+use Rattle.std.proofs.Common.{◌≡◌, ℕ, zero, suc, ◌+◌, ◌<◌, ◌≤◌, Bool, true, false, ◌&&◌, ◌||◌, cond, nat_eq, List, [], ◌∷◌, ◌++◌, length, map, refl, sym, ap, ◌∙◌, subst, true≢false, arith}
 use Rattle.std.specs.Ordering.{on, eq_of_both}
 use Rattle.std.specs.Cmp.{IsEquivalence}
 use Rattle.std.specs.List.{AllByRecursion, IsDistinct, count_by}
 use Rattle.std.specs.Set.{is_member}
 use Rattle.std.proofs.lemmas.Cmp.{nat_eq_equiv, on_equiv, and_equiv}
 use Rattle.std.proofs.ByRecursion.{All-append, All-map}
+use Rattle.std.proofs.lemmas.Bool.{or_parts}
 use Rattle.std.proofs.lemmas.Bool.Decides.{nat_tests}
 use Rattle.std.proofs.lemmas.List.{length-append, length-map}
 use Rattle.std.proofs.lemmas.List.Folds.{list_any-append}
 use Rattle.std.proofs.lemmas.List.Sums.{sum_by-cons}
 use Rattle.std.proofs.lemmas.Map.Made.{length-le_from_is_member}
-use native.Mathlib.Decide.{ℕ_discrete}
 use Rattle.ore_algebra.specs.Domain.{Domain}
 use Rattle.ore_monomial.specs.Term.{Term}
 use Rattle.ore_monomial.specs.declared.order.Order.{Order}
 use Rattle.ore_monomial.specs.Signature.{Signature}
 use Rattle.ore_rows.specs.Rows.{Row}
 use Rattle.ore_pairs.specs.Steps.{lead_at}
-use Rattle.ore_pairs.specs.PairList.{Entry, Pair, Skip, first, second, IsListed, IsNewPair, IsLawfulEntry, AreLawful, pair_count, AreAllListed}
+use Rattle.ore_pairs.specs.PairList.{Entry, Pair, Skip, first, second, pairs_of, IsLawfulEntry, AreLawful, pair_count}
+use Rattle.ore_pairs.specs.PairRule.{is_listed, AreAllListed}
+use Rattle.ore_pairs.proofs.PairRuleLaws.{CanTreat, treat_from, pair_from, pair_to, listed_first, listed_later}
 
 abbrev Two : Type 0
 Two = ℕ × ℕ
@@ -128,38 +130,30 @@ has_pair k (t ∷ ts) (suc i) (suc j) l h e x y a b = member_right (x, y) (with 
 
 -- ---- the listed pairs
 
-module _ {K : Domain} where
-  abbrev keys : List (Entry K) → List Two
-  keys es = map (λ e. (first e, second e)) es
+listed_member : (i j : ℕ) (ps : List Two) → is_listed i j ps ≡ is_member same ps (i, j)
+unfolding is_listed
+listed_member i j [] = refl
+listed_member i j (p ∷ ps) = ap (λ b. (nat_eq i p.0 && nat_eq j p.1) || b) (listed_member i j ps)
 
-  pub listed_key : (i j : ℕ) (es : List (Entry K)) → ¬ IsListed i j es → AllByRecursion (λ y. same (i, j) y ≡ false) (keys es)
-  listed_key i j [] h = tt
-  listed_key i j (e ∷ es) h = (apart (i, j) (first e, second e) (λ q. h (inl (sym q.0, sym q.1))), listed_key i j es (λ q. h (inr q)))
-
-  pub decide_listed : (i j : ℕ) (es : List (Entry K)) → Dec (IsListed i j es)
-  decide_listed i j [] = no (λ h. h)
-  decide_listed i j (e ∷ es) = by (ℕ_discrete (first e) i) (ℕ_discrete (second e) j) (decide_listed i j es)
-    where
-      by : Dec (first e ≡ i) → Dec (second e ≡ j) → Dec (IsListed i j es) → Dec (IsListed i j (e ∷ es))
-      by a b (yes h) = yes (inr h)
-      by (yes a) (yes b) (no h) = yes (inl (a, b))
-      by (yes a) (no b) (no h) = no (λ q. ⊎_elim (λ p. b p.1) h q)
-      by (no a) b (no h) = no (λ q. ⊎_elim (λ p. a p.0) h q)
+unlisted_apart : (i j : ℕ) (ps : List Two) → is_listed i j ps ≡ false → AllByRecursion (λ y. same (i, j) y ≡ false) ps
+unfolding is_listed
+unlisted_apart i j [] h = tt
+unlisted_apart i j (p ∷ ps) h = let both = or_parts (nat_eq i p.0 && nat_eq j p.1) (is_listed i j ps) h in (both.0, unlisted_apart i j ps both.1)
 
 module _ (K : Domain) (s : Signature) (o : Order) (n : ℕ) (basis : List (Row K)) (leads : List Term) where
-  new_of : (before : List (Entry K)) (e : Entry K) → IsLawfulEntry K s o n basis leads before e → IsNewPair K leads before (first e) (second e)
-  new_of before (Pair i j steps) h = h.0
-  new_of before (Skip i j k) h = h.0
+  new_of : (before : List (Entry K)) (e : Entry K) → IsLawfulEntry K s o n basis leads before e → CanTreat leads (pairs_of before) (first e) (second e)
+  new_of before (Pair i j steps) h = treat_from leads (pairs_of before) i j h.0
+  new_of before (Skip i j k) h = treat_from leads (pairs_of before) i j h.0
 
-  later_apart : (i j : ℕ) (before es : List (Entry K)) → IsListed i j before → AreLawful K s o n basis leads before es → AllByRecursion (λ y. same (i, j) y ≡ false) (keys es)
+  later_apart : (i j : ℕ) (before es : List (Entry K)) → is_listed i j (pairs_of before) ≡ true → AreLawful K s o n basis leads before es → AllByRecursion (λ y. same (i, j) y ≡ false) (pairs_of es)
   later_apart i j before [] h laws = tt
   later_apart i j before (e ∷ es) h laws =
-      (apart (i, j) (first e, second e) (λ q. (new_of before e laws.0).unlisted (subst (λ i. IsListed i (second e) before) q.0 (subst (λ j. IsListed i j before) q.1 h))), later_apart i j (e ∷ before) es (inr h) laws.1)
+      (apart (i, j) (first e, second e) (λ q. true≢false ((λ n. sym h n) ∙ (λ n. is_listed (q.0 n) (q.1 n) (pairs_of before)) ∙ (new_of before e laws.0).unlisted)), later_apart i j (e ∷ before) es (listed_later i j (first e, second e) (pairs_of before) h) laws.1)
 
-  keys_distinct : (before es : List (Entry K)) → AreLawful K s o n basis leads before es → IsDistinct same (keys es)
+  pairs_distinct : (before es : List (Entry K)) → AreLawful K s o n basis leads before es → IsDistinct same (pairs_of es)
   unfolding IsDistinct
-  keys_distinct before [] laws = tt
-  keys_distinct before (e ∷ es) laws = (later_apart (first e) (second e) (e ∷ before) es (inl (refl, refl)) laws.1, keys_distinct (e ∷ before) es laws.1)
+  pairs_distinct before [] laws = tt
+  pairs_distinct before (e ∷ es) laws = (later_apart (first e) (second e) (e ∷ before) es (listed_first (first e) (second e) (first e, second e) (pairs_of before) refl refl) laws.1, pairs_distinct (e ∷ before) es laws.1)
 
   member_of : (i j : ℕ) → i < j → j < length leads → (lead_at leads i).column ≡ (lead_at leads j).column → (q : Two) → same q (i, j) ≡ true → is_member same (pairs_from 0 leads) q ≡ true
   member_of i j l h c q e =
@@ -177,22 +171,23 @@ module _ (K : Domain) (s : Signature) (o : Order) (n : ℕ) (basis : List (Row K
       by true e h = here e
       by false e h = there h
 
-  keys_members : (before es : List (Entry K)) → AreLawful K s o n basis leads before es → (q : Two) → is_member same (keys es) q ≡ true → is_member same (pairs_from 0 leads) q ≡ true
-  keys_members before [] laws q h = absurd (true≢false (sym h))
-  keys_members before (e ∷ es) laws q h =
+  pairs_members : (before es : List (Entry K)) → AreLawful K s o n basis leads before es → (q : Two) → is_member same (pairs_of es) q ≡ true → is_member same (pairs_from 0 leads) q ≡ true
+  pairs_members before [] laws q h = absurd (true≢false (sym h))
+  pairs_members before (e ∷ es) laws q h =
       let new = new_of before e laws.0 in
-      by_head q (first e, second e) (keys es) (member_of (first e) (second e) new.ordered new.within new.columns q) (keys_members (e ∷ before) es laws.1 q) h
+      by_head q (first e, second e) (pairs_of es) (member_of (first e) (second e) new.ordered new.within new.columns q) (pairs_members (e ∷ before) es laws.1 q) h
 
-  pub all_listed : (es : List (Entry K)) → AreLawful K s o n basis leads [] es → length es ≡ pair_count leads → AreAllListed leads es
+  pub all_listed : (es : List (Entry K)) → AreLawful K s o n basis leads [] es → length es ≡ pair_count leads → AreAllListed leads (pairs_of es)
   unfolding IsDistinct
-  all_listed es laws count i j l h c = by (decide_listed i j es)
+  all_listed es laws count i j pair = by (is_listed i j (pairs_of es)) refl
     where
-      by : Dec (IsListed i j es) → IsListed i j es
-      by (yes a) = a
-      by (no a) =
-          let most = length-le_from_is_member same_laws ((i, j) ∷ keys es) (pairs_from 0 leads) (listed_key i j es a, keys_distinct [] es laws)
-          (λ q. by_head q (i, j) (keys es) (member_of i j l h c q) (keys_members [] es laws q)) in
-          let many : length (keys es) ≡ length es = length-map es (λ e. (first e, second e)) in
+      by : (b : Bool) → is_listed i j (pairs_of es) ≡ b → b ≡ true
+      by true e = refl
+      by false e =
+          let parts = pair_from leads i j pair in
+          let most = length-le_from_is_member same_laws ((i, j) ∷ pairs_of es) (pairs_from 0 leads) (unlisted_apart i j (pairs_of es) e, pairs_distinct [] es laws)
+          (λ q. by_head q (i, j) (pairs_of es) (member_of i j parts.0 parts.1 parts.2 q) (pairs_members [] es laws q)) in
+          let many : length (pairs_of es) ≡ length es = length-map es (λ e. (first e, second e)) in
           let all = length-pairs 0 leads in
           absurd (omega arith)
 
@@ -251,30 +246,24 @@ members_from (x ∷ xs) ys h q m = by (same q x) refl (members_from xs ys h.1 q)
     by true e ih m = h.0 q e
     by false e ih m = ih m
 
-module _ {K : Domain} where
-  listed_member : (i j : ℕ) (es : List (Entry K)) → IsListed i j es → (q : Two) → same q (i, j) ≡ true → is_member same (keys es) q ≡ true
-  listed_member i j [] h q e = absurd h
-  listed_member i j (f ∷ es) (inl (a, b)) q e = or_left (same q (first f, second f)) (is_member same (keys es) q) (subst (λ p. same q p ≡ true) (λ z. (sym a z, sym b z)) e)
-  listed_member i j (f ∷ es) (inr h) q e = or_right (same q (first f, second f)) (is_member same (keys es) q) (listed_member i j es h q e)
-
 module _ (K : Domain) (s : Signature) (o : Order) (n : ℕ) (basis : List (Row K)) (leads : List Term) where
   -- a list of all pairs, none of them twice, has as many entries as there are pairs
-  pub count-all : (es : List (Entry K)) → AreLawful K s o n basis leads [] es → AreAllListed leads es → length es ≡ pair_count leads
+  pub count-all : (es : List (Entry K)) → AreLawful K s o n basis leads [] es → AreAllListed leads (pairs_of es) → length es ≡ pair_count leads
   count-all es laws all =
-      let most = length-le_from_is_member same_laws (keys es) (pairs_from 0 leads) (keys_distinct K s o n basis leads [] es laws) (keys_members K s o n basis leads [] es laws) in
-      let least = length-le_from_is_member same_laws (pairs_from 0 leads) (keys es) (distinct_pairs 0 leads)
-      (members_from (pairs_from 0 leads) (keys es) (all_pairs (λ y. (q : Two) → same q y ≡ true → is_member same (keys es) q ≡ true) 0 leads
-      (λ i j l m e x y a b q h. listed_member x y es (listed i j x y (omega arith) (omega arith) (all i j l m e)) q h))) in
-      let many : length (keys es) ≡ length es = length-map es (λ e. (first e, second e)) in
+      let most = length-le_from_is_member same_laws (pairs_of es) (pairs_from 0 leads) (pairs_distinct K s o n basis leads [] es laws) (pairs_members K s o n basis leads [] es laws) in
+      let least = length-le_from_is_member same_laws (pairs_from 0 leads) (pairs_of es) (distinct_pairs 0 leads)
+      (members_from (pairs_from 0 leads) (pairs_of es) (all_pairs (λ y. (q : Two) → same q y ≡ true → is_member same (pairs_of es) q ≡ true) 0 leads
+      (λ i j l m e x y a b q h. listed x y q h (all x y (pair_to leads x y (omega arith) (omega arith) (subst (λ k. (lead_at leads k).column ≡ (lead_at leads y).column) (let z : i ≡ x = omega arith in z) (subst (λ k. (lead_at leads i).column ≡ (lead_at leads k).column) (let z : j ≡ y = omega arith in z) e))))))) in
+      let many : length (pairs_of es) ≡ length es = length-map es (λ e. (first e, second e)) in
       let pairs = length-pairs 0 leads in
       omega arith
     where
-      listed : (i j x y : ℕ) → i ≡ x → j ≡ y → IsListed i j es → IsListed x y es
-      listed i j x y a b h = subst (λ i. IsListed i y es) a (subst (λ j. IsListed i j es) b h)
+      listed : (x y : ℕ) (q : Two) → same q (x, y) ≡ true → is_listed x y (pairs_of es) ≡ true → is_member same (pairs_of es) q ≡ true
+      listed x y q h k = let b = to_same q (x, y) h in (λ n. is_member same (pairs_of es) (b.0 n, b.1 n)) ∙ sym (listed_member x y (pairs_of es)) ∙ k
 
   pub listed_most : (es : List (Entry K)) → AreLawful K s o n basis leads [] es → length es ≤ pair_count leads
   listed_most es laws =
-      let most = length-le_from_is_member same_laws (keys es) (pairs_from 0 leads) (keys_distinct K s o n basis leads [] es laws) (keys_members K s o n basis leads [] es laws) in
-      let many : length (keys es) ≡ length es = length-map es (λ e. (first e, second e)) in
+      let most = length-le_from_is_member same_laws (pairs_of es) (pairs_from 0 leads) (pairs_distinct K s o n basis leads [] es laws) (pairs_members K s o n basis leads [] es laws) in
+      let many : length (pairs_of es) ≡ length es = length-map es (λ e. (first e, second e)) in
       let pairs = length-pairs 0 leads in
       omega arith

@@ -10,7 +10,7 @@ use Rattle.std.proofs.lemmas.Bool.Decides.{nat_tests}
 use native.Mathlib.Decide.{dec_lt}
 use Rattle.std.proofs.lemmas.List.{get_or_past}
 use Rattle.ore_algebra.specs.Domain.{Domain}
-use Rattle.ore_algebra.specs.Free.{none, single, plus}
+use Rattle.ore_algebra.specs.Free.{empty_sum, single, plus}
 use Rattle.ore_monomial.specs.Monomial.{unit, plain_cmp}
 use Rattle.ore_monomial.specs.Signature.{Signature, IsLawful}
 use Rattle.ore_monomial.specs.LetterRule.{Operator}
@@ -30,15 +30,15 @@ module _ (K : Domain) (s : Signature) where
   pub of_place : (n k : ℕ) (f : Operator K) → OperatorOf K s f → RowOf K s (place K s n k f)
   of_place n k f h = Rows.of_row_scale K s f _ h (of_unit_row K s n k)
 
-  pub place_none : (n k : ℕ) → place K s n k (none K plain_cmp) ≡ zero_row K n
-  place_none n k = Rows.none_scale_row K s n _ (length-unit_row K n k)
+  pub place_none : (n k : ℕ) → place K s n k (empty_sum K plain_cmp) ≡ zero_row K n
+  place_none n k = Rows.zero_scale_row K s n _ (length-unit_row K n k)
 
   pub place-plus : (n k : ℕ) (f g : Operator K) → place K s n k (plus K plain_cmp f g) ≡ row_plus K (place K s n k f) (place K s n k g)
   place-plus n k f g = Rows.scale_sum K s f g (unit_row K n k)
 
 module _ (K : Domain) (s : Signature) (lawful : IsLawful s) where
   abbrev entry : Row K → ℕ → Operator K
-  entry r j = get_or r j (none K plain_cmp)
+  entry r j = get_or r j (empty_sum K plain_cmp)
 
   pub length-place : (n k : ℕ) (f : Operator K) → length (place K s n k f) ≡ n
   length-place n k f = Rows.length-row_scale K s lawful f _ ∙ length-unit_row K n k
@@ -50,21 +50,21 @@ module _ (K : Domain) (s : Signature) (lawful : IsLawful s) where
   entry-place_same n k f h =
       let own : nat_eq k k ≡ true = grind (arith, nat_tests) in
       Rows.entry-row_scale K s f _ k
-      ∙ ap (times K s f) (entry-unit_row K n k k h ∙ ap (λ b. cond b (single K plain_cmp unit K.one) (none K plain_cmp)) own)
+      ∙ ap (times K s f) (entry-unit_row K n k k h ∙ ap (λ b. cond b (single K plain_cmp unit K.one) (empty_sum K plain_cmp)) own)
       ∙ times-one K s lawful f
 
-  pub entry-place_other : (n k j : ℕ) (f : Operator K) → j ≢ k → entry (place K s n k f) j ≡ none K plain_cmp
+  pub entry-place_other : (n k j : ℕ) (f : Operator K) → j ≢ k → entry (place K s n k f) j ≡ empty_sum K plain_cmp
   entry-place_other n k j f h = by (dec_lt j n)
     where
       apart : nat_eq j k ≡ false
       apart = grind (arith, nat_tests, h)
 
-      by : Dec (j < n) → entry (place K s n k f) j ≡ none K plain_cmp
+      by : Dec (j < n) → entry (place K s n k f) j ≡ empty_sum K plain_cmp
       by (yes l) =
           Rows.entry-row_scale K s f _ j
-          ∙ ap (times K s f) (entry-unit_row K n k j l ∙ ap (λ b. cond b (single K plain_cmp unit K.one) (none K plain_cmp)) apart)
-          ∙ Operators.linear-none K (times-linear_right K s f)
-      by (no a) = get_or_past (place K s n k f) j (none K plain_cmp) (let e = length-place n k f in omega arith)
+          ∙ ap (times K s f) (entry-unit_row K n k j l ∙ ap (λ b. cond b (single K plain_cmp unit K.one) (empty_sum K plain_cmp)) apart)
+          ∙ Operators.linear-empty_sum K (times-linear_right K s f)
+      by (no a) = get_or_past (place K s n k f) j (empty_sum K plain_cmp) (let e = length-place n k f in omega arith)
 
   pub combine-place : (p k : ℕ) (f : Operator K) (rows : List (Row K)) → k < length rows → AreLong K p rows → combine K s p (place K s (length rows) k f) rows ≡ row_scale K s f (row_at rows k)
   combine-place p k f rows h long = sym (Rows.scale-combine K s lawful f p _ rows) ∙ ap (row_scale K s f) (combine-unit_row K s lawful p k rows h long)

@@ -8,7 +8,7 @@
 --     of_entry                 the entries of a row of a signature are of it
 use Rattle.std.proofs.Common.{◌≡◌, ℕ, zero, suc, [], ◌∷◌, length, map, get_or, refl, sym, ap, ◌∙◌}
 use Rattle.ore_algebra.specs.Domain.{Domain}
-use Rattle.ore_algebra.specs.Free.{none, single, scale}
+use Rattle.ore_algebra.specs.Free.{empty_sum, single, scale}
 use Rattle.ore_algebra.proofs.DomainLaws as Numbers
 use Rattle.ore_monomial.specs.Monomial.{unit, plain_cmp}
 use Rattle.ore_monomial.specs.Signature.{Signature, IsLawful}
@@ -41,7 +41,7 @@ module _ (K : Domain) where
   plus-zero_row n r e = row_comm r (zero_row K n) ∙ zero_row_plus K n r e
 
 module _ (K : Domain) (s : Signature) where
-  pub of_entry : (r : Row K) (j : ℕ) → RowOf K s r → OperatorOf K s (get_or r j (none K plain_cmp))
+  pub of_entry : (r : Row K) (j : ℕ) → RowOf K s r → OperatorOf K s (get_or r j (empty_sum K plain_cmp))
   of_entry [] j h = of_none K s
   of_entry (f ∷ r) zero h = h.0
   of_entry (f ∷ r) (suc j) h = of_entry r j h.1

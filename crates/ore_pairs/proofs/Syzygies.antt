@@ -1,6 +1,6 @@
 -- Steps and pairs at one matrix, times another: what is said of unit rows holds of any matrix.
 --     row-matrix_times         row k of a product
---     length-after             steps within a matrix keep the length
+--     length-after, length-s_row     steps within a matrix keep the length; so do the pairs
 --     combine-after, combine-s_row     steps and pairs at m, times b, are those at m times b
 --     combine-syzygy           a syzygy times b is what the steps leave of the pair's row at b
 --     IsWithin, within_lawful  the rows that an entry names are there; so it is with lawful entries
@@ -20,7 +20,8 @@ use Rattle.ore_rows.proofs.Differences.{length-row_minus, combine-row_minus}
 use Rattle.ore_rows.proofs.RowLaws as Rows
 use Rattle.ore_rows.proofs.UnitRows.{length-identity_rows, long_identity, identity_rows-matrix_times}
 use Rattle.ore_pairs.specs.Steps.{Step, row_at, lead_at, pair_term, after, s_row, syzygy}
-use Rattle.ore_pairs.specs.PairList.{Entry, Pair, Skip, IsBelowStep, AreLawful, syzygies}
+use Rattle.ore_pairs.specs.PairList.{Entry, Pair, Skip, pairs_of, IsBelowStep, AreLawful, syzygies}
+use Rattle.ore_pairs.proofs.PairRuleLaws.{treat_from}
 
 -- the rows that steps name are among n
 abbrev pub AreStepsWithin : (K : Domain) → ℕ → List (Step K) → Type 0
@@ -39,7 +40,7 @@ module _ (K : Domain) (s : Signature) (lawful : IsLawful s) where
   length-after q m long [] z l h = l
   length-after q m long (t ∷ steps) z l h = length-after q m long steps _ (length-row_minus K s lawful q z _ l (length-scaled q m long t.index h.0 t.monomial t.number)) h.1
 
-  length-s_row : (q : ℕ) (m : List (Row K)) → AreLong K q m → (leads : List Term) (i j : ℕ) → i < length m → j < length m → length (s_row K s leads m i j) ≡ q
+  pub length-s_row : (q : ℕ) (m : List (Row K)) → AreLong K q m → (leads : List Term) (i j : ℕ) → i < length m → j < length m → length (s_row K s leads m i j) ≡ q
   unfolding s_row
   length-s_row q m long leads i j il jl = length-row_minus K s lawful q _ _ (length-scaled q m long i il _ K.one) (length-scaled q m long j jl _ K.one)
 
@@ -99,7 +100,7 @@ module _ (K : Domain) (s : Signature) (o : Order) (p : ℕ) (basis : List (Row K
   pub within_lawful : (before es : List (Entry K)) → AreLawful K s o p basis leads before es → AllByRecursion (IsWithin K (length leads)) es
   within_lawful before [] laws = tt
   within_lawful before (Pair i j steps ∷ es) laws =
-      let new = laws.0.0 in
+      let new = treat_from leads (pairs_of before) i j laws.0.0 in
       let il : i < length leads = let a = new.ordered in let b = new.within in omega arith in
       ((il, new.within, steps_below _ steps laws.0.1.low), within_lawful (Pair i j steps ∷ before) es laws.1)
   within_lawful before (Skip i j via ∷ es) laws = (tt, within_lawful (Skip i j via ∷ before) es laws.1)

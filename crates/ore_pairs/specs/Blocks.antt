@@ -6,7 +6,7 @@
 --         inside             rows that times l are what is left of a's rows by way of the basis, then the syzygies of a
 --         steps, rest        a reduction of the row by the basis, and what it leaves
 --     IsBasis            the conditions on basis, from and entries, which both kinds share
---     AreInside          for each treated pair in order, the combination of the rows of `to` is an inside row times l
+--     AreInside          for each treated pair in order, what its steps leave of the S-row at `to` is an inside row times l
 --     IsValidExact, IsValidOutside         all conditions of a block
 --     IsExactBlockOf, IsOutsideBlockOf     each matrix of a block, and each step, is of a signature
 use Rattle.std.specs.Prelude.{◌≡◌, ℕ, ◌+◌, ◌<◌, List, [], ◌∷◌, length, drop}

@@ -5,4 +5,6 @@ pub mod Laws
 pub mod Listed
 pub mod PairRule
 pub mod Run
+pub mod Runner
 pub mod Reached
+pub mod RunBlocks

@@ -1,26 +1,23 @@
 -- A list of the pairs of basis rows: each was treated, or skipped by way of a third row.
 --     Entry                    a pair of rows i < j, treated with steps or skipped via a row
 --     first, second            the rows of an entry's pair
---     IsListed, IsListedFor    a pair stands in a list, in this order or in one of both
---     IsNewPair                rows i < j with leads in one column, not listed before
+--     pairs_of                 the pairs of some entries
 --     IsBelowStep, IsTreated   steps below the pair's common multiple, which leave nothing of the pair's row
---     IsSkipped                the lead of the third row divides the common multiple, and its pairs are listed before
 --     IsLawfulEntry, AreLawful     an entry is right by those before it; each entry of a list is
---     AreAllListed             each pair of rows with leads in one column is listed
---     pair_count               how many such pairs there are
+--     pair_count               how many pairs of rows with leads in one column there are
 --     treated_count            how many entries are treated pairs
 --     syzygies                 the syzygies of the treated pairs, in order
 --     AreEntriesOf             the steps of all entries are of a signature
 -- (Skipping by a third row: Buchberger 1979; Gebauer and Möller 1988.)
-use Rattle.std.specs.Prelude.{◌≡◌, ◌≢◌, ◌⊎◌, ℕ, suc, ◌+◌, ◌<◌, List, [], ◌∷◌, length, nat_eq}
+use Rattle.std.specs.Prelude.{◌≡◌, ℕ, suc, ◌+◌, ◌<◌, true, List, [], ◌∷◌, length, map, nat_eq}
 use Rattle.std.specs.declared.cmp.Ordering.TheVariants.{Less}
 use Rattle.std.specs.List.{AllByRecursion, count_by}
 use Rattle.ore_algebra.specs.Domain.{Domain}
-use Rattle.ore_monomial.specs.Monomial.{Divides}
 use Rattle.ore_monomial.specs.Term.{Term, term_cmp, shift}
 use Rattle.ore_monomial.specs.declared.order.Order.{Order}
 use Rattle.ore_monomial.specs.Signature.{Signature}
 use Rattle.ore_rows.specs.Rows.{Row, zero_row}
+use Rattle.ore_pairs.specs.PairRule.{may_treat, may_skip}
 use Rattle.ore_pairs.specs.Steps.{Step, lead_at, pair_term, after, s_row, syzygy, AreStepsOf}
 
 pub data Entry (K : Domain) : Type 0 where
@@ -35,21 +32,9 @@ abbrev pub second : {K : Domain} → Entry K → ℕ
 second (Pair i j steps) = j
 second (Skip i j via) = j
 
--- the pair i, j is that of some entry
-abbrev pub IsListed : {K : Domain} → ℕ → ℕ → List (Entry K) → Type 0
-IsListed i j [] = ⊥
-IsListed i j (e ∷ es) = ((first e ≡ i) × (second e ≡ j)) ⊎ IsListed i j es
-
--- the pair is listed, whichever row is named first
-abbrev pub IsListedFor : {K : Domain} → ℕ → ℕ → List (Entry K) → Type 0
-IsListedFor i j es = IsListed i j es ⊎ IsListed j i es
-
--- two basis rows in order, with leads in one column, whose pair isn't listed before
-pub record IsNewPair (K : Domain) (leads : List Term) (before : List (Entry K)) (i j : ℕ) : Type 0 where
-  pub ordered : i < j
-  pub within : j < length leads
-  pub columns : (lead_at leads i).column ≡ (lead_at leads j).column
-  pub unlisted : ¬ IsListed i j before
+-- the pairs of some entries, in order
+abbrev pub pairs_of : {K : Domain} → List (Entry K) → List (ℕ × ℕ)
+pairs_of es = map (λ e. (first e, second e)) es
 
 -- the lead of a step's term times its basis row is below t
 pub record IsBelowStep (K : Domain) (o : Order) (leads : List Term) (t : Term) (step : Step K) : Type 0 where
@@ -61,28 +46,16 @@ pub record IsTreated (K : Domain) (s : Signature) (o : Order) (n : ℕ) (basis :
   pub low : AllByRecursion (IsBelowStep K o leads (pair_term leads i j)) steps
   pub nothing : after K s basis steps (s_row K s leads basis i j) ≡ zero_row K n
 
--- a third row of the column has a lead that divides the pair's common multiple, and its pairs with both are listed
-pub record IsSkipped (K : Domain) (leads : List Term) (before : List (Entry K)) (i j via : ℕ) : Type 0 where
-  pub within : via < length leads
-  pub other : (via ≢ i) × (via ≢ j)
-  pub column : (lead_at leads via).column ≡ (lead_at leads i).column
-  pub divides : Divides (lead_at leads via).monomial (pair_term leads i j).monomial
-  pub listed : IsListedFor i via before × IsListedFor j via before
-
 module _ (K : Domain) (s : Signature) (o : Order) (n : ℕ) (basis : List (Row K)) (leads : List Term) where
-  -- the pair is new, and it was treated or skipped, by the entries before
+  -- the pair may be treated, and it was, or it may be skipped, by the entries before
   abbrev pub IsLawfulEntry : List (Entry K) → Entry K → Type 0
-  IsLawfulEntry before (Pair i j steps) = IsNewPair K leads before i j × IsTreated K s o n basis leads i j steps
-  IsLawfulEntry before (Skip i j via) = IsNewPair K leads before i j × IsSkipped K leads before i j via
+  IsLawfulEntry before (Pair i j steps) = (may_treat leads (pairs_of before) i j ≡ true) × IsTreated K s o n basis leads i j steps
+  IsLawfulEntry before (Skip i j via) = (may_treat leads (pairs_of before) i j ≡ true) × (may_skip leads (pairs_of before) i j via ≡ true)
 
   -- each entry is lawful by those before it, of which the latest stands first
   abbrev pub AreLawful : List (Entry K) → List (Entry K) → Type 0
   AreLawful before [] = Unit {0}
   AreLawful before (e ∷ es) = IsLawfulEntry before e × AreLawful (e ∷ before) es
-
--- each pair of rows in order, with leads in one column, is listed
-abbrev pub AreAllListed : {K : Domain} → List Term → List (Entry K) → Type 0
-AreAllListed leads es = (i j : ℕ) → i < j → j < length leads → (lead_at leads i).column ≡ (lead_at leads j).column → IsListed i j es
 
 -- for each lead, how many later ones stand in its column
 unfoldable pub pair_count : List Term → ℕ

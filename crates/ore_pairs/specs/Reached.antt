@@ -1,20 +1,22 @@
 -- What choices lead to; and of runs over the fractions, at the limits of the program, where they stop and which
 -- choices a rule allows.
 --     LeadsTo, IsReachable    these choices, and some choices, lead to a state
---     shown_in, pairs_in      what is shown of a state; its listed pairs, in order
+--     shown_in                what is shown of a state
 --     IsAllowedAt             a rule allows something at a state
---     starts, leads           the state before the first choice; what choices make of a state
+--     rule_of                     a rule of choosers as one of courses
+--     first_state, state_after    the state before the first choice; what choices make of a state
 --     IsReached               these choices lead to a state, at the limits of the program
 --     IsStopped               the last of some choices treats a pair, which stops
 --     AreAllowed              a rule allows each choice at its place
 --     MayBeSpent              a rule allows that the budget is spent
-use Rattle.std.specs.Prelude.{◌≡◌, ℕ, Bool, true, List, [], ◌∷◌, ◌++◌, map, take}
+use Rattle.std.specs.Prelude.{◌≡◌, ℕ, Bool, true, List, [], ◌∷◌, ◌++◌, take}
 use Rattle.std.specs.List.{slice_get}
 use Rattle.std.specs.declared.option.Option.TheVariants.{None, Some}
 use Rattle.std.specs.declared.result.Result.{Result}
 use Rattle.std.specs.declared.result.Result.TheVariants.{Ok, Err}
 use Rattle.ore_algebra.specs.Domain.{Domain, HasInverses}
 use Rattle.ore_algebra.specs.Limits.{Cause, program}
+use Rattle.ore_course.specs.Leading.{Rule}
 use Rattle.ore_rational.proofs.FractionLaws.{rationals, rational_inverses}
 use Rattle.ore_monomial.specs.Signature.{Signature}
 use Rattle.ore_monomial.specs.declared.order.Order.{Order}
@@ -25,9 +27,10 @@ use Rattle.ore_rows.specs.Shown.{Shown}
 use Rattle.ore_rows.specs.Stored.{OperatorMatrix, rows_of}
 use Rattle.ore_rows.specs.declared.choices.Choice.{Choice}
 use Rattle.ore_rows.specs.declared.choices.Choice.TheVariants as choice
-use Rattle.ore_pairs.specs.PairList.{first, second}
+use Rattle.ore_pairs.specs.PairList.{pairs_of}
 use Rattle.ore_pairs.specs.Run.{State, Refusal, Stopped}
 use Rattle.ore_pairs.specs.Run as run
+use Rattle.ore_pairs.specs.Runner as runner
 
 -- ---- over any field
 
@@ -36,7 +39,7 @@ module _ (K : Domain) (inverses : HasInverses K) (o : Order) (A : Arithmetic K) 
   pub record LeadsTo (choices : List Choice) (last : State K) : Type 0 where
     pub start : State K
     pub begun : run.begin K inverses o A a ≡ Ok start
-    pub led : run.run K inverses o A start choices ≡ Ok last
+    pub led : runner.run K inverses o A start choices ≡ Ok last
 
   abbrev pub IsReachable : State K → Type 0
   IsReachable last = (choices : List Choice) × LeadsTo choices last
@@ -47,20 +50,20 @@ module _ (K : Domain) (inverses : HasInverses K) (o : Order) (A : Arithmetic K) 
 abbrev pub shown_in : Signature → State rationals → Shown
 shown_in s st = record { order = elim st.basis [ [] ↦ None | b ∷ bs ↦ Some s.order ]; leads = leads_of st.basis }
 
--- in the order in which they were listed
-abbrev pub pairs_in : State rationals → List (ℕ × ℕ)
-pairs_in st = map (λ e. (first e, second e)) st.listed
-
 -- the rule answers true to what is shown of the state and to its listed pairs
 abbrev pub IsAllowedAt : Signature → (Shown → List (ℕ × ℕ) → Bool) → State rationals → Type 0
-IsAllowedAt s allowed st = allowed (shown_in s st) (pairs_in st) ≡ true
+IsAllowedAt s allowed st = allowed (shown_in s st) (pairs_of st.listed) ≡ true
+
+-- the same of choices and of a spent budget, as a rule of courses
+abbrev pub rule_of : Signature → (Shown → List (ℕ × ℕ) → Choice → Bool) → (Shown → List (ℕ × ℕ) → Bool) → Rule (State rationals) Choice
+rule_of s allows allows_spent = record { allows = λ st c. allows (shown_in s st) (pairs_of st.listed) c; allows_spent = λ st. allows_spent (shown_in s st) (pairs_of st.listed) }
 
 module _ (s : Signature) (a : OperatorMatrix) where
-  abbrev pub starts : Result (State rationals) Cause
-  starts = run.begin rationals rational_inverses s.order (within program s) (rows_of a)
+  abbrev pub first_state : Result (State rationals) Cause
+  first_state = run.begin rationals rational_inverses s.order (within program s) (rows_of a)
 
-  abbrev pub leads : State rationals → List Choice → Result (State rationals) Refusal
-  leads st cs = run.run rationals rational_inverses s.order (within program s) st cs
+  abbrev pub state_after : State rationals → List Choice → Result (State rationals) Refusal
+  state_after st cs = runner.run rationals rational_inverses s.order (within program s) st cs
 
   abbrev pub IsReached : List Choice → State rationals → Type 0
   IsReached choices last = LeadsTo rationals rational_inverses s.order (within program s) (rows_of a) choices last

@@ -1,7 +1,7 @@
 //! The pairs that a run has dealt with.
 
-ghost use Rattle.std.specs.Prelude.{◌≡◌, ◌<◌, ◌&&◌, ◌||◌, ℕ, [], nat_eq, IfOk, IfErr};
-ghost use Rattle.ore_pairs.specs.Listed.{is_in};
+ghost use Rattle.std.specs.Prelude.{◌≡◌, ◌<◌, [], ◌∷◌, IfOk, IfErr};
+ghost use Rattle.ore_pairs.specs.PairRule.{is_listed, HaveSamePairs};
 
 use ore_monomial::NoMemory;
 use std::alloc::Global;
@@ -37,7 +37,7 @@ impl Listed {
 
     /// Whether the pair is listed.
     pub fn has(&self, i: usize, j: usize) -> bool
-        ensures { result ≡ is_in i j self.now }
+        ensures { result ≡ is_listed i j self.now }
     {
         self.pairs.contains(&(i, j))
     }
@@ -48,7 +48,7 @@ impl Listed {
     /// Want of memory. Then nothing has changed.
     pub fn add(&mut self, i: usize, j: usize) -> Result<(), NoMemory>
         requires { i < j }
-        ensures added { IfOk result (λ _. (x y : ℕ) → is_in x y self.new ≡ ((nat_eq x i && nat_eq y j) || is_in x y self.old)) }
+        ensures added { IfOk result (λ _. HaveSamePairs self.new ((i, j) ∷ self.old)) }
         ensures kept { IfErr result (λ _. self.new ≡ self.old) }
     {
         self.pairs.insert((i, j))?;

@@ -1,14 +1,29 @@
-//! The rule that lets a pair be skipped, by leads and listed pairs.
+//! Which pair may be treated, and which skipped, by leads and listed pairs.
 
 ghost use Rattle.std.specs.Prelude.{◌≡◌, ◌<◌, ◌↔◌, length, IsTrue};
 ghost use Rattle.ore_monomial.specs.Monomial.{Divides, lcm};
 ghost use Rattle.ore_leads.specs.FirstDivisor.{divides_term};
-ghost use Rattle.ore_pairs.specs.PairRule.{either_listed, may_skip};
+ghost use Rattle.ore_pairs.specs.PairRule.{either_listed, may_skip, may_treat};
 ghost use Rattle.ore_pairs.specs.Steps.{lead_at, pair_term};
 
 use crate::listed::Listed;
 use ore_leads::Leads;
 use ore_monomial::Exps;
+
+/// Whether the pair at `i` and `j` may be treated: `i` stands before `j`, both have a lead, the leads stand in one column,
+/// and the pair isn't listed.
+#[tactic(auto, unfolding(crate::specs::PairRule::may_treat))]
+pub fn may_treat(leads: &Leads, listed: &Listed, i: usize, j: usize) -> bool
+    ensures { result ≡ may_treat leads.now listed.now i j }
+{
+    if i >= j {
+        return false;
+    }
+    if j >= leads.len() {
+        return false;
+    }
+    leads.get(i).0 == leads.get(j).0 && !listed.has(i, j)
+}
 
 /// Whether the pair at `i` and `j` may be skipped by way of the lead at `via`: that is a third one and divides the
 /// common multiple of theirs, and its pairs with both are listed.
