@@ -1,22 +1,23 @@
 -- A choice leaves less to be done.
---     rows_left                  the rows of the basis and the pairs that may still be treated: no more rows come
---     lawful_open                a lawful choice is of an open pair
+--     rows_left                  the rows of the basis and the pairs that the budget still allows to treat: no more rows come
 --     adds_keeps, adds_it        what is listed when a pair is added
 --     rows_fewer, rows_longer    no more rows are left after a choice, and it makes at most one
 --     left_smaller               a choice that is followed leaves fewer pairs that aren't listed
-use Rattle.std.proofs.Common.{◌≡◌, ◌≢◌, ℕ, ◌+◌, ◌-◌, ◌<◌, ◌≤◌, Bool, true, false, List, [], ◌∷◌, length, refl, ap, ◌∙◌, arith}
-use Rattle.std.specs.Prelude.{◌&&◌, ◌||◌, nat_eq}
-use Rattle.std.proofs.lemmas.Bool.Decides.{nat_tests}
+use Rattle.std.proofs.Common.{◌≡◌, ◌≢◌, ℕ, ◌+◌, ◌-◌, ◌<◌, ◌≤◌, true, List, [], ◌∷◌, length, refl, ap, ◌∙◌, subst, arith}
 use Rattle.std.proofs.lemmas.List.{length-map, length-append}
 use Rattle.ore_monomial.specs.Signature.{Signature}
 use Rattle.ore_rows.specs.StoredBasis.{StoredBasis, monic_of, monics}
 use Rattle.ore_rows.specs.declared.choices.Choice.{Choice}
 use Rattle.ore_rows.specs.declared.choices.Choice.TheVariants.{Treat, Skip}
-use Rattle.ore_pairs.specs.Listed.{is_in}
-use Rattle.ore_groebner.specs.Choosing.{first_of, second_of, treats, treats_in, with_choice, IsOpen, IsLawful, IsAfforded}
+use Rattle.ore_rows.specs.Reduction.{leads_of}
+use Rattle.ore_pairs.specs.PairRule.{is_listed, HaveSamePairs, is_lawful}
+use Rattle.ore_course.specs.Choices as course
+use Rattle.ore_groebner.specs.Choosing.{first_of, second_of, treats, treats_in, with_choice, IsAfforded}
 use Rattle.ore_groebner.specs.Following.{IsFollowed}
-use Rattle.ore_groebner.specs.Progressing.{state_of, Adds}
+use Rattle.ore_groebner.specs.RunProgress.{state_of}
 use Rattle.ore_groebner.specs.declared.progress.Progress.{Progress}
+use Rattle.ore_pairs.proofs.PairRuleLaws.{listed_first, listed_later}
+use Rattle.ore_groebner.proofs.LawfulSteps.{lawful_treat}
 use Rattle.ore_groebner.proofs.Given.{treats_in-with_choice}
 use Rattle.ore_groebner.proofs.Stepping.{step_longer}
 use Rattle.ore_groebner.proofs.Unlisted.{Keeps, unlisted, unlisted-smaller}
@@ -24,25 +25,14 @@ use Rattle.ore_groebner.proofs.Unlisted.{Keeps, unlisted, unlisted-smaller}
 abbrev pub rows_left : StoredBasis → List (List Choice) → ℕ → ℕ
 rows_left basis given budget = length basis.items + (budget - treats_in given)
 
-lawful_open : (basis : StoredBasis) (ps : List (ℕ × ℕ)) (c : Choice) → IsLawful basis ps c → IsOpen basis ps (first_of c) (second_of c)
-lawful_open basis ps (Treat i j) h = h
-lawful_open basis ps (Skip i j via) h = h.0
+adds_keeps : (i j : ℕ) (ps qs : List (ℕ × ℕ)) → HaveSamePairs qs ((i, j) ∷ ps) → Keeps ps qs
+adds_keeps i j ps qs adds x y e = adds x y ∙ listed_later x y (i, j) ps e
 
-same_true : (i : ℕ) → nat_eq i i ≡ true
-same_true i = grind (arith, nat_tests)
-
-or_right : (a b : Bool) → b ≡ true → (a || b) ≡ true
-or_right true b e = refl
-or_right false b e = e
-
-adds_keeps : (i j : ℕ) (ps qs : List (ℕ × ℕ)) → Adds i j ps qs → Keeps ps qs
-adds_keeps i j ps qs adds x y e = adds x y ∙ or_right (nat_eq x i && nat_eq y j) (is_in x y ps) e
-
-adds_it : (i j : ℕ) (ps qs : List (ℕ × ℕ)) → Adds i j ps qs → is_in i j qs ≡ true
-adds_it i j ps qs adds = adds i j ∙ ap (λ b. (b && nat_eq j j) || is_in i j ps) (same_true i) ∙ ap (λ b. b || is_in i j ps) (same_true j)
+adds_it : (i j : ℕ) (ps qs : List (ℕ × ℕ)) → HaveSamePairs qs ((i, j) ∷ ps) → is_listed i j qs ≡ true
+adds_it i j ps qs adds = adds i j ∙ listed_first i j (i, j) ps refl refl
 
 rows_fewer : (c : Choice) (given : List (List Choice)) (budget m n t : ℕ) → IsAfforded given budget c → m ≤ n + treats (c ∷ []) → t ≡ treats_in given + treats (c ∷ []) → m + (budget - t) ≤ n + (budget - treats_in given)
-unfolding treats
+unfolding course.treats course.cost
 rows_fewer (Treat i j) given budget m n t h k e = omega arith
 rows_fewer (Skip i j via) given budget m n t h k e = omega arith
 
@@ -54,10 +44,10 @@ rows_longer s p q c f =
     counts : (a b x y r t : ℕ) → x ≡ a → y ≡ b → x ≡ y + r → r ≤ t → a ≤ b + t
     counts a b x y r t e f g h = omega arith
 
-pub left_smaller : (s : Signature) (p q : Progress) (c : Choice) (given : List (List Choice)) (budget : ℕ) → given ≢ [] → IsLawful p.basis p.listed c → IsAfforded given budget c → IsFollowed s p c q → unlisted q.listed (rows_left q.basis (with_choice given c) budget) < unlisted p.listed (rows_left p.basis given budget)
+pub left_smaller : (s : Signature) (p q : Progress) (c : Choice) (given : List (List Choice)) (budget : ℕ) → given ≢ [] → is_lawful (leads_of p.basis.items) p.listed c ≡ true → IsAfforded given budget c → IsFollowed s p c q → unlisted q.listed (rows_left q.basis (with_choice given c) budget) < unlisted p.listed (rows_left p.basis given budget)
 left_smaller s p q c given budget begun lawful afforded f =
-    let o = lawful_open p.basis p.listed c lawful in
-    unlisted-smaller p.listed q.listed (first_of c) (second_of c) _ _ (adds_keeps (first_of c) (second_of c) p.listed q.listed f.listed) o.unlisted (adds_it (first_of c) (second_of c) p.listed q.listed f.listed) o.ordered (inside (second_of c) _ _ o.inside)
+    let o = lawful_treat (leads_of p.basis.items) p.listed c lawful in
+    unlisted-smaller p.listed q.listed (first_of c) (second_of c) _ _ (adds_keeps (first_of c) (second_of c) p.listed q.listed f.listed) o.unlisted (adds_it (first_of c) (second_of c) p.listed q.listed f.listed) o.ordered (inside (second_of c) _ _ (subst (λ n. second_of c < n) (length-map p.basis.items (λ b. b.lead)) o.within))
     (rows_fewer c given budget (length q.basis.items) (length p.basis.items) (treats_in (with_choice given c)) afforded (rows_longer s p q c f) (treats_in-with_choice given c begun))
   where
     inside : (j n m : ℕ) → j < n → j < n + m

@@ -1,8 +1,7 @@
 -- A complete run is exact.
---     complete_lists           each pair of a complete state is listed
 --     shown_inside             times the cofactor rows, the syzygies of the treated pairs go into the module of those of the state
 --     complete_exact           a row of the signature takes a to zeros exactly where it is a combination of the syzygies
-use Rattle.std.proofs.Common.{◌≡◌, ℕ, suc, ◌<◌, List, [], ◌∷◌, length, sym, ap, ◌∙◌, subst, arith}
+use Rattle.std.proofs.Common.{◌≡◌, ℕ, suc, ◌<◌, List, [], ◌∷◌, length, sym, ap, ◌∙◌, subst}
 use Rattle.std.specs.List.{AllByRecursion}
 use Rattle.std.proofs.lemmas.List.{length-map}
 use Rattle.ore_algebra.specs.Domain.{Domain}
@@ -10,37 +9,23 @@ use Rattle.ore_monomial.specs.Signature.{Signature, IsLawful}
 use Rattle.ore_monomial.specs.Term.{Term}
 use Rattle.ore_monomial.specs.declared.order.Order.{Order}
 use Rattle.ore_rows.specs.Rows.{Row, RowOf, AreLong, zero_row, unit_row, row_minus, combine, InRowModule, IsExact}
-use Rattle.ore_rows.specs.Reduction.{Monic, rows_of, cofactors_of, leads_of, origin, row_at}
+use Rattle.ore_rows.specs.Reduction.{Monic, basis_rows, cofactors_of, leads_of, row_at}
 use Rattle.ore_pairs.specs.Run.{State, IsComplete, from_rows}
 use Rattle.ore_rows.specs.declared.choices.Origin.{Origin}
 use Rattle.ore_rows.specs.declared.choices.Origin.TheVariants.{ZeroRow, Event}
 use Rattle.ore_rows.proofs.Differences.{row_minus_back}
 use Rattle.ore_rows.proofs.RowLaws as Rows
-use Rattle.ore_pairs.specs.PairList.{Entry, Pair, Skip, AreAllListed, syzygies}
+use Rattle.ore_pairs.specs.PairList.{Entry, Pair, Skip, syzygies}
 use Rattle.ore_pairs.proofs.Exact.{left_over, left_inside}
 use Rattle.ore_pairs.proofs.Generate.{combination_vanishes, combination_inside, syzygies_generate}
 use Rattle.ore_pairs.proofs.Syzygies.{IsWithin, within_lawful, combine-syzygy, long_syzygies}
-use Rattle.ore_groebner.specs.RunLaws.{AreShown}
-use Rattle.ore_groebner.proofs.Growing.{map_inside}
+use Rattle.ore_groebner.specs.RunLaws.{HaveTheirSyzygies}
 use Rattle.ore_groebner.proofs.Holding.{Holds, leads_are, long_rows, wide_cofactors, of_rows, wide_syzygies, vanishing}
-use Rattle.ore_groebner.proofs.Listing.{is_listed_to}
-use Rattle.ore_groebner.proofs.Opening.{at_slice, slice_there}
 use Rattle.ore_groebner.proofs.Returning.{length-from_rows, long_from_rows, of_from_rows, keeps}
 use Rattle.ore_groebner.proofs.Sources.{from_inside}
 
-module _ (K : Domain) (st : State K) where
-  complete_lists : IsComplete K st → AreAllListed (leads_of st.basis) st.listed
-  unfolding IsComplete
-  complete_lists complete i j l h e =
-      let jl : j < length st.basis = map_inside (λ (b : Monic (Row K)). b.lead) st.basis j h in
-      let x = slice_there st.basis i (omega arith) in
-      let y = slice_there st.basis j jl in
-      let ex = (at_slice (λ (b : Monic (Row K)). b.lead) origin st.basis i x.0 x.1).1 in
-      let ey = (at_slice (λ (b : Monic (Row K)). b.lead) origin st.basis j y.0 y.1).1 in
-      is_listed_to K i j st.listed (complete i j x.0 y.0 x.1 y.1 l (ap (λ (t : Term). t.column) (sym ex) ∙ e ∙ ap (λ (t : Term). t.column) ey))
-
 module _ (K : Domain) (s : Signature) (lawful : IsLawful s) where
-  shown_inside : (q : ℕ) (leads : List Term) (cofactors : List (Row K)) (os : List Origin) (l : List (Row K)) → AreLong K q cofactors → AreLong K q l → (k : ℕ) (es : List (Entry K)) → AllByRecursion (IsWithin K (length cofactors)) es → AreShown K s q leads cofactors os l k es
+  shown_inside : (q : ℕ) (leads : List Term) (cofactors : List (Row K)) (os : List Origin) (l : List (Row K)) → AreLong K q cofactors → AreLong K q l → (k : ℕ) (es : List (Entry K)) → AllByRecursion (IsWithin K (length cofactors)) es → HaveTheirSyzygies K s q leads cofactors os l k es
       → AllByRecursion (λ r. InRowModule K s q l (combine K s q r cofactors)) (syzygies K s (length cofactors) leads es)
   unfolding syzygies
   shown_inside q leads cofactors os l long ll k [] w h = tt
@@ -69,7 +54,7 @@ module _ (K : Domain) (s : Signature) (lawful : IsLawful s) where
     wide : AreLong K q (cofactors_of st.basis)
     wide = wide_cofactors K s o n a st.basis h.basis
 
-    long_basis : AreLong K n (rows_of st.basis)
+    long_basis : AreLong K n (basis_rows st.basis)
     long_basis = long_rows K s o n a st.basis h.basis
 
     long_kernel : AreLong K q st.syzygies
@@ -79,7 +64,7 @@ module _ (K : Domain) (s : Signature) (lawful : IsLawful s) where
     long_from = long_from_rows K s lawful o size 0 a
 
     within : AllByRecursion (IsWithin K (length (leads_of st.basis))) st.listed
-    within = within_lawful K s o n (rows_of st.basis) leads [] es h.lines.lawful
+    within = within_lawful K s o n (basis_rows st.basis) leads [] es h.entries.lawful
 
     within_size : AllByRecursion (IsWithin K (length st.basis)) st.listed
     within_size = subst (λ m. AllByRecursion (IsWithin K m) es) (length-map st.basis (λ b. b.lead)) within
@@ -90,16 +75,16 @@ module _ (K : Domain) (s : Signature) (lawful : IsLawful s) where
 
     generated : (c : Row K) → RowOf K s c → combine K s n c a ≡ zero_row K n → InRowModule K s size (syzygies K s size leads es) (through c)
     generated c oc e = subst (λ m. InRowModule K s m (syzygies K s m leads es) (through c)) (length-map st.basis (λ b. b.row))
-        (syzygies_generate K s lawful o n (rows_of st.basis) leads long_basis (of_rows K s o n a st.basis h.basis of) (leads_are K s o n a st.basis h.basis) es (h.lines.entries of) h.lines.lawful (complete_lists K st complete) (through c)
+        (syzygies_generate K s lawful o n (basis_rows st.basis) leads long_basis (of_rows K s o n a st.basis h.basis of) (leads_are K s o n a st.basis h.basis) es (h.entries.entries of) h.entries.lawful complete (through c)
         (Rows.length-combine K s lawful size c from long_from ∙ sym (length-map st.basis (λ b. b.row)))
         (Rows.of_combine K s size c from oc (of_from_rows K s lawful o size 0 a))
-        (Rows.combine-combine K s lawful size n c from (rows_of st.basis) long_from long_basis ∙ ap (combine K s n c) (keeps K s lawful o n a long st h).from_is ∙ e))
+        (Rows.combine-combine K s lawful size n c from (basis_rows st.basis) long_from long_basis ∙ ap (combine K s n c) (keeps K s lawful o n a long st h).from_is ∙ e))
 
     all_inside : AllByRecursion (λ r. InRowModule K s q st.syzygies (combine K s q r (cofactors_of st.basis))) (syzygies K s size leads es)
     all_inside =
         let e = length-map st.basis (λ (b : Monic (Row K)). b.cofactor) in
         subst (λ m. AllByRecursion (λ r. InRowModule K s q st.syzygies (combine K s q r (cofactors_of st.basis))) (syzygies K s m leads es)) e
-        (shown_inside q leads (cofactors_of st.basis) st.origins st.syzygies wide long_kernel 0 es (subst (λ m. AllByRecursion (IsWithin K m) es) (sym e) within_size) h.lines.shown)
+        (shown_inside q leads (cofactors_of st.basis) st.origins st.syzygies wide long_kernel 0 es (subst (λ m. AllByRecursion (IsWithin K m) es) (sym e) within_size) h.entries.syzygies)
 
     returned : (c : Row K) → InRowModule K s size (syzygies K s size leads es) (through c) → InRowModule K s q st.syzygies (combine K s q (through c) (cofactors_of st.basis))
     unfolding InRowModule
@@ -112,7 +97,7 @@ module _ (K : Domain) (s : Signature) (lawful : IsLawful s) where
         subst (λ m. InRowModule K s m st.syzygies (left_over K s lawful size m from (cofactors_of st.basis) c)) e
         (left_inside K s lawful size from (cofactors_of st.basis) long_from (subst (λ m. AreLong K m (cofactors_of st.basis)) (sym e) wide) st.syzygies (subst (λ m. AreLong K m st.syzygies) (sym e) long_kernel)
         (λ k kn. subst (λ m. InRowModule K s m st.syzygies (row_minus K (unit_row K m k) (combine K s m (row_at from k) (cofactors_of st.basis)))) (sym e)
-        (from_inside K s lawful q st.origins st.syzygies long_kernel (ZeroRow k) _ ((keeps K s lawful o n a long st h).left k (subst (λ m. k < m) e kn))))
+        (from_inside K s lawful q st.origins st.syzygies long_kernel (ZeroRow k) _ ((keeps K s lawful o n a long st h).remainders k (subst (λ m. k < m) e kn))))
         c (lc ∙ sym e) oc)
 
     kernel_inside : (c : Row K) → length c ≡ q → RowOf K s c → combine K s n c a ≡ zero_row K n → InRowModule K s q st.syzygies c

@@ -7,25 +7,27 @@
 --     all_complete       each pair is listed, so the state is complete
 --     IsEnded            the parts of a complete run, made of the progress
 --     led_honest         the parts of a complete run
-use Rattle.std.proofs.Common.{◌≡◌, ℕ, Bool, List, [], ◌∷◌, ◌++◌, length, refl, sym, ap, ◌∙◌, subst, arith}
+use Rattle.std.proofs.Common.{◌≡◌, ℕ, ◌+◌, Bool, List, [], ◌∷◌, ◌++◌, length, sym, ap, ◌∙◌, subst}
 use Rattle.std.proofs.Common.{inr}
 use Rattle.std.specs.List.{All}
 use Rattle.std.specs.declared.result.Result.TheVariants.{Ok, Err}
 use Rattle.std.proofs.lemmas.List.{length-map}
-use Rattle.std.proofs.lemmas.Option.{slice_get_within}
 use Rattle.ore_algebra.specs.Limits.{Cause}
 use Rattle.ore_rational.proofs.FractionLaws.{rationals}
 use Rattle.ore_monomial.specs.Signature.{Signature}
-use Rattle.ore_monomial.specs.Term.{Term}
 use Rattle.ore_ring.specs.Belongs.{Belongs}
+use Rattle.ore_rows.specs.Reduction.{leads_of}
+use Rattle.ore_rows.proofs.BasisParts.{leads_monics}
+use Rattle.ore_pairs.specs.PairList.{pairs_of}
+use Rattle.ore_pairs.specs.PairRule.{AreAllListed}
 use Rattle.ore_pairs.specs.Run.{State, Stopped, IsComplete, from_rows}
 use Rattle.ore_rows.specs.Stored.{OperatorMatrix, rows_of}
-use Rattle.ore_rows.specs.StoredBasis.{StoredBasis, AllBelong, monic_of, monics}
+use Rattle.ore_rows.specs.StoredBasis.{StoredBasis, AllBelong, HaveLeads, monic_of, monics}
 use Rattle.ore_rows.specs.declared.choices.Choice.{Choice}
-use Rattle.ore_groebner.specs.Choosing.{present, pairs_of, AreAllListed, IsAnswer}
+use Rattle.ore_groebner.specs.Choosing.{present, chosen_pairs, Settings, IsAnswer}
 use Rattle.ore_groebner.specs.Following.{step_of, IsRefusal, IsRefusalAllowed, IsStopIn, IsStopOf, IsLed}
-use Rattle.ore_groebner.specs.Honest.{starts, pairs_in, IsHonest, IsStoppedAt, IsHalted, MayBeSpent, HasOneMoreRun, HasRunsAfter}
-use Rattle.ore_groebner.specs.Progressing.{state_of, entries_from, choices_of, IsKept}
+use Rattle.ore_groebner.specs.Honest.{first_state, IsHonest, IsStoppedAt, IsHalted, MayBeSpent, HasOneMoreRun, HasRunsAfter}
+use Rattle.ore_groebner.specs.RunProgress.{state_of, entries_from, new_rows, choices_of, IsProgressOf}
 use Rattle.ore_groebner.specs.Shown.{Shown, shown_of}
 use Rattle.ore_groebner.specs.declared.chooser.Next.{Next}
 use Rattle.ore_groebner.specs.declared.chooser.Next.TheVariants as next
@@ -35,22 +37,22 @@ use Rattle.ore_groebner.specs.declared.outcome.Halt.TheVariants as halt
 use Rattle.ore_groebner.specs.declared.outcome.StopAt.{StopAt}
 use Rattle.ore_groebner.specs.declared.outcome.StopAt.TheVariants as at
 use Rattle.ore_groebner.specs.declared.progress.Progress.{Progress}
-use Rattle.ore_groebner.proofs.Leading.{led_reached, led_pairs, spent_here}
-use Rattle.ore_groebner.proofs.Limited.{refused}
-use Rattle.ore_groebner.proofs.Opened.{lead_there}
-use Rattle.ore_groebner.proofs.SamePairs.{listed_pairs, answer_same}
+use Rattle.ore_groebner.proofs.Leading.{led_reached, spent_here}
+use Rattle.ore_algebra.proofs.ResultLaws.{no_ok}
+use Rattle.ore_groebner.proofs.SamePairs.{answer_same}
 
 pub stop_not_spent : (s : Signature) (st : State rationals) (c : Choice) (h : Halt) → IsStopOf s st c h → h ≡ halt.Spent → ⊥
 stop_not_spent s st c h stops e = subst (IsStopOf s st c) e stops
 
 module _ (s : Signature) (a : OperatorMatrix) (allows : Shown → List (ℕ × ℕ) → Choice → Bool) (p : Progress) where
-  module _ (runs : List (List Choice)) (budget : ℕ) (replays : Bool) (kept : List (List Choice)) where
-    answered_in : IsLed s a allows (present runs) p → (x : Next) → IsAnswer p.basis p.listed runs budget replays kept x → IsAnswer p.basis (pairs_in (state_of p)) runs budget replays kept x
-    answered_in led x h = subst (λ ps. IsAnswer p.basis ps runs budget replays kept x) (sym (led_pairs s a allows (present runs) p led)) (answer_same p.listed (pairs_of (present runs)) (listed_pairs p.listed (present runs) led.lists) p.basis runs budget replays kept x h)
+  module _ (runs : List (List Choice)) (settings : Settings) where
+    answered_in : IsLed s a allows (present runs) p → (x : Next) → IsAnswer (leads_of p.basis.items) p.listed runs settings x → IsAnswer (leads_of (state_of p).basis) (pairs_of (state_of p).listed) runs settings x
+    answered_in led x h = subst (λ leads. IsAnswer leads (pairs_of (state_of p).listed) runs settings x) (sym (leads_monics p.basis.items))
+        (answer_same (leads_of p.basis.items) p.listed (pairs_of (state_of p).listed) led.kept.listed runs settings x h)
 
-    pub refusal_halts : IsLed s a allows (present runs) p → (h : Halt) → IsRefusal p.basis p.listed runs budget replays kept h → IsHalted s a runs budget replays kept h
-    refusal_halts led halt.Spent r = record { last = state_of p; reached = led_reached s a allows (present runs) p led; basis = p.basis; basis_is = refl; answered = answered_in led next.Spent r }
-    refusal_halts led halt.NoLawful r = record { last = state_of p; reached = led_reached s a allows (present runs) p led; basis = p.basis; basis_is = refl; answered = answered_in led next.NoLawful r }
+    pub refusal_halts : IsLed s a allows (present runs) p → (h : Halt) → IsRefusal (leads_of p.basis.items) p.listed runs settings h → IsHalted s a runs settings h
+    refusal_halts led halt.Spent r = record { last = state_of p; reached = led_reached s a allows (present runs) p led; answered = answered_in led next.Spent r }
+    refusal_halts led halt.NoLawful r = record { last = state_of p; reached = led_reached s a allows (present runs) p led; answered = answered_in led next.NoLawful r }
     refusal_halts led halt.Memory r = tt
     refusal_halts led (halt.Overflow place) r = absurd r
     refusal_halts led (halt.Degree place) r = absurd r
@@ -59,7 +61,7 @@ module _ (s : Signature) (a : OperatorMatrix) (allows : Shown → List (ℕ × �
     stop_in cs c led e k at.Forced h = absurd h
     stop_in cs c led e k (at.Treat i j) h = record { before = cs; choices_are = e ∙ ap (λ c. cs ++ c ∷ []) h.0; state = state_of p; reached = led_reached s a allows cs p led; stopped = subst (λ c. step_of s (state_of p) c ≡ Err (Stopped k)) h.0 h.1 }
 
-    pub stop_halts : (cs : List Choice) (c : Choice) → IsLed s a allows cs p → present runs ≡ cs ++ c ∷ [] → (h : Halt) → IsStopOf s (state_of p) c h → IsHalted s a runs budget replays kept h
+    pub stop_halts : (cs : List Choice) (c : Choice) → IsLed s a allows cs p → present runs ≡ cs ++ c ∷ [] → (h : Halt) → IsStopOf s (state_of p) c h → IsHalted s a runs settings h
     stop_halts cs c led e (halt.Overflow place) h = stop_in cs c led e _ place h
     stop_halts cs c led e (halt.Degree place) h = stop_in cs c led e _ place h
     stop_halts cs c led e halt.Spent h = absurd h
@@ -67,24 +69,20 @@ module _ (s : Signature) (a : OperatorMatrix) (allows : Shown → List (ℕ × �
     stop_halts cs c led e halt.Memory h = tt
 
   -- where the first basis was made and one more run is given
-  pub runs_after : (before given : List (List Choice)) (start : State rationals) → starts s a ≡ Ok start → HasOneMoreRun before given → (budget : ℕ) (replays : Bool) (kept : List (List Choice)) (h : Halt) → IsHalted s a given budget replays kept h → HasRunsAfter before given h
-  runs_after before given start begun more budget replays kept (halt.Overflow at.Forced) h = absurd (refused (sym h ∙ begun))
-  runs_after before given start begun more budget replays kept (halt.Overflow (at.Treat i j)) h = more
-  runs_after before given start begun more budget replays kept (halt.Degree at.Forced) h = absurd (refused (sym h ∙ begun))
-  runs_after before given start begun more budget replays kept (halt.Degree (at.Treat i j)) h = more
-  runs_after before given start begun more budget replays kept halt.Spent h = more
-  runs_after before given start begun more budget replays kept halt.NoLawful h = more
-  runs_after before given start begun more budget replays kept halt.Memory h = inr more
+  pub runs_after : (before given : List (List Choice)) (start : State rationals) → first_state s a ≡ Ok start → HasOneMoreRun before given → (settings : Settings) (h : Halt) → IsHalted s a given settings h → HasRunsAfter before given h
+  runs_after before given start begun more settings (halt.Overflow at.Forced) h = absurd (no_ok (sym h ∙ begun))
+  runs_after before given start begun more settings (halt.Overflow (at.Treat i j)) h = more
+  runs_after before given start begun more settings (halt.Degree at.Forced) h = absurd (no_ok (sym h ∙ begun))
+  runs_after before given start begun more settings (halt.Degree (at.Treat i j)) h = more
+  runs_after before given start begun more settings halt.Spent h = more
+  runs_after before given start begun more settings halt.NoLawful h = more
+  runs_after before given start begun more settings halt.Memory h = inr more
 
-  pub refusal_spent : (cs : List Choice) → IsLed s a allows cs p → (allows_spent : Shown → List (ℕ × ℕ) → Bool) (h : Halt) → IsRefusalAllowed allows_spent (shown_of p.basis) (pairs_of cs) h → h ≡ halt.Spent → MayBeSpent s a allows_spent cs
-  refusal_spent cs led allows_spent h r e = spent_here s a allows cs p led allows_spent (subst (IsRefusalAllowed allows_spent (shown_of p.basis) (pairs_of cs)) e r)
+  pub refusal_spent : (cs : List Choice) → IsLed s a allows cs p → HaveLeads p.basis.items → (allows_spent : Shown → List (ℕ × ℕ) → Bool) (h : Halt) → IsRefusalAllowed allows_spent (shown_of p.basis) (chosen_pairs cs) h → h ≡ halt.Spent → MayBeSpent s a allows_spent cs
+  refusal_spent cs led have allows_spent h r e = spent_here s a allows cs p led have allows_spent (subst (IsRefusalAllowed allows_spent (shown_of p.basis) (chosen_pairs cs)) e r)
 
-  all_complete : IsKept s p → AreAllListed p.basis p.listed → IsComplete rationals (state_of p)
-  unfolding IsComplete
-  all_complete kept all i j x y e f less columns =
-      let long : length (monics p.basis) ≡ length p.basis.items = length-map p.basis.items monic_of in
-      let inside = slice_get_within (monics p.basis) j y f in
-      sym (kept.listed i j) ∙ all i j less (omega arith) (ap (λ (t : Term). t.column) (lead_there p.basis i x e) ∙ columns ∙ ap (λ (t : Term). t.column) (sym (lead_there p.basis j y f)))
+  pub all_complete : IsProgressOf s p → AreAllListed (leads_of p.basis.items) p.listed → IsComplete rationals (state_of p)
+  all_complete kept all = subst (λ leads. AreAllListed leads (pairs_of (state_of p).listed)) (sym (leads_monics p.basis.items)) (λ i j pair. sym (kept.listed i j) ∙ all i j pair)
 
   -- where the rows of the matrix are multiples of the n rows of the basis
   pub record IsEnded (n : ℕ) (f : Finished) : Type 0 where
@@ -96,7 +94,7 @@ module _ (s : Signature) (a : OperatorMatrix) (allows : Shown → List (ℕ × �
     pub from_cols : f.from.cols ≡ n
     pub from_of : All (All (Belongs s)) f.from.rows
 
-  pub led_honest : (cs : List Choice) → IsLed s a allows cs p → AreAllListed p.basis p.listed → (n : ℕ) → n ≡ length p.basis.items → (f : Finished) → IsEnded n f → IsHonest s a cs f
+  pub led_honest : (cs : List Choice) → IsLed s a allows cs p → AreAllListed (leads_of p.basis.items) p.listed → (n : ℕ) → n ≡ length p.basis.items → (f : Finished) → IsEnded n f → IsHonest s a cs f
   led_honest cs led all n size f e = record {
     start = led.start;
     last = state_of p;
@@ -108,6 +106,7 @@ module _ (s : Signature) (a : OperatorMatrix) (allows : Shown → List (ℕ × �
     syzygies = ap rows_of (sym e.syzygies);
     origins = sym e.origins;
     events = ap choices_of e.events ∙ led.events;
+    counted = length-map p.basis.items monic_of ∙ led.kept.counted ∙ (λ k. led.first k + new_rows (sym e.events k));
     from = e.from ∙ ap (λ m. from_rows rationals s.order m 0 (rows_of a)) (size ∙ sym (length-map p.basis.items monic_of));
     from_cols = e.from_cols ∙ size ∙ sym (length-map p.basis.items monic_of);
     syzygy_cols = ap (λ (m : OperatorMatrix). m.cols) e.syzygies ∙ led.width;

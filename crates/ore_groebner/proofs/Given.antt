@@ -7,15 +7,20 @@
 --     afforded_start, afforded_next      a run that begins, and a choice that the budget allows, stay within the budget
 --     runs_are                           the runs are the others and the last
 --     one_more                           the runs of which the others are those that were there before
---     is_chosen-push, lists_next         the pairs of some choices, and of one more
-use Rattle.std.proofs.Common.{◌≡◌, ◌≢◌, ℕ, ◌+◌, ◌≤◌, Bool, true, false, List, [], ◌∷◌, ◌++◌, refl, sym, ap, ◌∙◌, arith}
+--     chosen_pairs-push, lists_next      the pairs of some choices, and of one more
+use Rattle.std.proofs.Common.{◌≡◌, ◌≢◌, ℕ, ◌+◌, ◌≤◌, List, [], ◌∷◌, ◌++◌, refl, sym, ap, ◌∙◌, arith}
 use Rattle.std.specs.Prelude.{◌&&◌, ◌||◌, nat_eq}
+use Rattle.std.proofs.lemmas.List.{map-append}
 use Rattle.ore_rows.specs.declared.choices.Choice.{Choice}
 use Rattle.ore_rows.specs.declared.choices.Choice.TheVariants.{Treat, Skip}
-use Rattle.ore_groebner.specs.Choosing.{first_of, second_of, is_chosen, treats, treats_in, present, with_choice, ListsChoices, IsAfforded, AreAfforded}
+use Rattle.ore_pairs.specs.PairRule.{is_listed, HaveSamePairs}
+use Rattle.ore_pairs.proofs.PairRuleLaws.{is_listed-push}
+use Rattle.ore_course.specs.Choices as course
+use Rattle.ore_course.proofs.GivenRuns as given
+use Rattle.ore_pairs.specs.Runner.{treats_pair}
+use Rattle.ore_groebner.specs.Choosing.{first_of, second_of, chosen_pairs, treats, treats_in, present, with_choice, IsAfforded, AreAfforded}
 use Rattle.ore_groebner.specs.Following.{earlier}
 use Rattle.ore_groebner.specs.Honest.{HasOneMoreRun}
-use Rattle.ore_groebner.specs.Progressing.{Adds}
 
 cons_not_nil : {X : Type 0} (x : X) (xs : List X) → x ∷ xs ≢ []
 cons_not_nil x xs e = cc
@@ -52,20 +57,9 @@ earlier-with_choice [] c = refl
 earlier-with_choice (cs ∷ []) c = refl
 earlier-with_choice (cs ∷ ds ∷ runs) c = earlier-cons cs (with_choice (ds ∷ runs) c) (with_choice-begun (ds ∷ runs) c (cons_not_nil _ _)) ∙ ap (λ rs. cs ∷ rs) (earlier-with_choice (ds ∷ runs) c)
 
-treats-push : (cs : List Choice) (c : Choice) → treats (cs ++ c ∷ []) ≡ treats cs + treats (c ∷ [])
-unfolding treats
-treats-push [] c = omega arith
-treats-push (Treat i j ∷ cs) c = let e = treats-push cs c in omega (arith, e)
-treats-push (Skip i j via ∷ cs) c = treats-push cs c
-
 pub treats_in-with_choice : (runs : List (List Choice)) (c : Choice) → runs ≢ [] → treats_in (with_choice runs c) ≡ treats_in runs + treats (c ∷ [])
-unfolding treats_in with_choice
-treats_in-with_choice [] c h = absurd (h refl)
-treats_in-with_choice (cs ∷ []) c h = let e = treats-push cs c in omega (arith, e)
-treats_in-with_choice (cs ∷ ds ∷ runs) c h = let e = treats_in-with_choice (ds ∷ runs) c (cons_not_nil _ _) in shift (treats cs) _ (treats_in (ds ∷ runs)) (treats (c ∷ [])) e
-  where
-    shift : (a b d k : ℕ) → b ≡ d + k → a + b ≡ a + d + k
-    shift a b d k e = omega arith
+unfolding course.treats
+treats_in-with_choice runs c h = let e = given.treats_in-with_choice treats_pair runs c h in omega (arith, e)
 
 pub present-start : (runs : List (List Choice)) → present (runs ++ [] ∷ []) ≡ []
 unfolding present
@@ -77,16 +71,11 @@ unfolding earlier
 earlier-start [] = refl
 earlier-start (cs ∷ runs) = earlier-cons cs (runs ++ [] ∷ []) (start-begun runs []) ∙ ap (λ rs. cs ∷ rs) (earlier-start runs)
 
-treats_in-start : (runs : List (List Choice)) → treats_in (runs ++ [] ∷ []) ≡ treats_in runs
-unfolding treats_in treats
-treats_in-start [] = refl
-treats_in-start (cs ∷ runs) = ap (λ n. treats cs + n) (treats_in-start runs)
-
 pub afforded_start : (runs now : List (List Choice)) (budget new : ℕ) → now ≡ runs ++ [] ∷ [] → new ≡ budget → AreAfforded runs budget → AreAfforded now new
-afforded_start runs now budget new e f h = rw (e, f, treats_in-start runs) h
+afforded_start runs now budget new e f h = rw (e, f, given.treats_in-start treats_pair runs) h
 
 treats_allowed : (runs : List (List Choice)) (budget : ℕ) (c : Choice) → AreAfforded runs budget → IsAfforded runs budget c → treats_in runs + treats (c ∷ []) ≤ budget
-unfolding treats
+unfolding course.treats course.cost
 treats_allowed runs budget (Treat i j) h k = omega arith
 treats_allowed runs budget (Skip i j via) h k = omega arith
 
@@ -104,19 +93,9 @@ one_more before runs h e = runs_are runs h ∙ ap (λ rs. rs ++ present runs ∷
 
 -- ---- the pairs of choices
 
-pub is_chosen-push : (i j : ℕ) (cs : List Choice) (c : Choice) → is_chosen i j (cs ++ c ∷ []) ≡ ((nat_eq i (first_of c) && nat_eq j (second_of c)) || is_chosen i j cs)
-unfolding is_chosen
-is_chosen-push i j [] c = refl
-is_chosen-push i j (d ∷ cs) c = ap (λ b. (nat_eq i (first_of d) && nat_eq j (second_of d)) || b) (is_chosen-push i j cs c) ∙ or_turned (nat_eq i (first_of d) && nat_eq j (second_of d)) (nat_eq i (first_of c) && nat_eq j (second_of c)) _
-  where
-    or_turned : (a b c : Bool) → (a || (b || c)) ≡ (b || (a || c))
-    or_turned true true c = refl
-    or_turned true false c = refl
-    or_turned false b c = refl
+pub chosen_pairs-push : (i j : ℕ) (cs : List Choice) (c : Choice) → is_listed i j (chosen_pairs (cs ++ c ∷ [])) ≡ ((nat_eq i (first_of c) && nat_eq j (second_of c)) || is_listed i j (chosen_pairs cs))
+chosen_pairs-push i j cs c = ap (is_listed i j) (map-append (λ (d : Choice). (first_of d, second_of d)) cs (c ∷ [])) ∙ is_listed-push i j (chosen_pairs cs) (first_of c, second_of c)
 
-none_chosen : (i j : ℕ) → is_chosen i j [] ≡ false
-unfolding is_chosen
-none_chosen i j = refl
-
-pub lists_next : (ps qs : List (ℕ × ℕ)) (cs : List Choice) (c : Choice) → ListsChoices ps cs → Adds (first_of c) (second_of c) ps qs → ListsChoices qs (cs ++ c ∷ [])
-lists_next ps qs cs c lists adds i j = adds i j ∙ ap (λ b. (nat_eq i (first_of c) && nat_eq j (second_of c)) || b) (lists i j) ∙ sym (is_chosen-push i j cs c)
+pub lists_next : (ps qs : List (ℕ × ℕ)) (cs : List Choice) (c : Choice) → HaveSamePairs ps (chosen_pairs cs) → HaveSamePairs qs ((first_of c, second_of c) ∷ ps) → HaveSamePairs qs (chosen_pairs (cs ++ c ∷ []))
+unfolding is_listed
+lists_next ps qs cs c lists adds i j = adds i j ∙ ap (λ b. (nat_eq i (first_of c) && nat_eq j (second_of c)) || b) (lists i j) ∙ sym (chosen_pairs-push i j cs c)

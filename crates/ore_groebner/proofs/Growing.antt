@@ -1,9 +1,8 @@
 -- What is said of the first rows of a basis is said of a longer one.
---     SameRows, SameLeads      the first of some rows, and of their leads, are those of others
+--     SameRows                 the first of some rows are those of others
 --     within_steps             steps below a term are by rows that are there
---     combined, s_row_is       the combination of two rows with their leads is the row of a pair
 --     after_same, s_row_same, left_same    steps, pairs, and what steps leave of a pair, by the first rows
---     pair_same, new_same, below_same, skipped_same, treated_same    pairs of the first rows
+--     pair_same, below_same, treated_same    pairs of the first rows
 --     lawful_same, shown_same, shown_push    lists of pairs, and what they show of cofactor rows
 --     inside_map, map_inside, map_longer, map_grow, map_last    places in what is made of each item of a list
 use Rattle.std.proofs.Common.{◌≡◌, ℕ, zero, suc, ◌+◌, ◌<◌, ◌≤◌, List, [], ◌∷◌, ◌++◌, length, map, get_or, refl, sym, ap, ◌∙◌, subst, arith}
@@ -11,7 +10,7 @@ use Rattle.std.specs.List.{AllByRecursion}
 use Rattle.std.proofs.lemmas.List.{length-append, length-map}
 use Rattle.ore_algebra.specs.Domain.{Domain}
 use Rattle.ore_algebra.specs.Free.{single}
-use Rattle.ore_monomial.specs.Monomial.{Divides, lcm, quotient, plain_cmp}
+use Rattle.ore_monomial.specs.Monomial.{lcm, quotient, plain_cmp}
 use Rattle.ore_monomial.specs.Signature.{Signature}
 use Rattle.ore_monomial.specs.Term.{Term, term_cmp, shift}
 use Rattle.ore_monomial.specs.declared.order.Order.{Order}
@@ -19,17 +18,15 @@ use Rattle.ore_rows.specs.Rows.{Row, row_minus, row_scale}
 use Rattle.ore_rows.specs.Reduction.{Step, row_at, step_operator, after}
 use Rattle.ore_rows.specs.declared.choices.Origin.{Origin}
 use Rattle.ore_rows.specs.declared.choices.Origin.TheVariants.{Event}
-use Rattle.ore_pairs.specs.Steps.{lead_at, pair_term, s_row}
-use Rattle.ore_pairs.specs.PairList.{Entry, Pair, Skip, IsNewPair, IsBelowStep, IsTreated, IsSkipped, AreLawful}
+use Rattle.ore_pairs.specs.Steps.{pair_term, s_row}
+use Rattle.ore_pairs.specs.PairList.{Entry, Pair, Skip, pairs_of, IsBelowStep, IsTreated, AreLawful}
+use Rattle.ore_pairs.proofs.PairRuleLaws.{SameLeads, treat_from, treat_longer, skip_longer}
 use Rattle.ore_pairs.proofs.Syzygies.{AreStepsWithin, IsWithin}
-use Rattle.ore_groebner.specs.RunLaws.{IsFrom, IsShown, AreShown}
+use Rattle.ore_groebner.specs.RunLaws.{IsFrom, HasItsSyzygy, HaveTheirSyzygies}
 use Rattle.ore_groebner.proofs.Sources.{Grown, grown_event, grown_no_event}
 
 abbrev pub SameRows : {K : Domain} → ℕ → List (Row K) → List (Row K) → Type 0
 SameRows n rows more = (i : ℕ) → i < n → row_at more i ≡ row_at rows i
-
-abbrev pub SameLeads : ℕ → List Term → List Term → Type 0
-SameLeads n leads more = (i : ℕ) → i < n → lead_at more i ≡ lead_at leads i
 
 pub within_steps : (K : Domain) (o : Order) (leads : List Term) (t : Term) (steps : List (Step K)) → AllByRecursion (IsBelowStep K o leads t) steps → AreStepsWithin K (length leads) steps
 within_steps K o leads t [] h = tt
@@ -41,17 +38,12 @@ module _ (K : Domain) (s : Signature) where
   after_same n rows more same [] z h = refl
   after_same n rows more same (t ∷ ts) z h = ap (λ r. after K s more ts (row_minus K z (row_scale K s (step_operator K t) r))) (same t.index h.0) ∙ after_same n rows more same ts _ h.1
 
-  -- the combination of two rows with these leads
-  abbrev pub combined : Term → Term → Row K → Row K → Row K
-  combined t u r q = row_minus K (row_scale K s (single K plain_cmp (quotient (lcm t.monomial u.monomial) t.monomial) K.one) r) (row_scale K s (single K plain_cmp (quotient (lcm t.monomial u.monomial) u.monomial) K.one) q)
-
-  pub s_row_is : (rows : List (Row K)) (leads : List Term) (i j : ℕ) → s_row K s leads rows i j ≡ combined (lead_at leads i) (lead_at leads j) (row_at rows i) (row_at rows j)
-  unfolding s_row
-  s_row_is rows leads i j = refl
-
   pub s_row_same : (n : ℕ) (rows more : List (Row K)) (leads longer : List Term) → SameRows n rows more → SameLeads n leads longer → (i j : ℕ) → i < n → j < n → s_row K s longer more i j ≡ s_row K s leads rows i j
   unfolding s_row
-  s_row_same n rows more leads longer same_rows same_leads i j il jl = λ k. combined (same_leads i il k) (same_leads j jl k) (same_rows i il k) (same_rows j jl k)
+  s_row_same n rows more leads longer same_rows same_leads i j il jl = λ k. combination (same_leads i il k) (same_leads j jl k) (same_rows i il k) (same_rows j jl k)
+    where
+      combination : Term → Term → Row K → Row K → Row K
+      combination t u r q = row_minus K (row_scale K s (single K plain_cmp (quotient (lcm t.monomial u.monomial) t.monomial) K.one) r) (row_scale K s (single K plain_cmp (quotient (lcm t.monomial u.monomial) u.monomial) K.one) q)
 
   -- steps and a pair together
   pub left_same : (n : ℕ) (rows more : List (Row K)) (leads longer : List Term) → SameRows n rows more → SameLeads n leads longer → (i j : ℕ) (steps : List (Step K)) → i < n → j < n → AreStepsWithin K n steps
@@ -62,25 +54,6 @@ module _ (K : Domain) (s : Signature) where
   module _ (leads longer : List Term) (same_leads : SameLeads (length leads) leads longer) (long : length leads ≤ length longer) where
     pub pair_same : (i j : ℕ) → i < length leads → j < length leads → pair_term longer i j ≡ pair_term leads i j
     pair_same i j il jl = λ k. record { monomial = lcm (same_leads i il k).monomial (same_leads j jl k).monomial; column = (same_leads i il k).column }
-
-    pub new_same : (before : List (Entry K)) (i j : ℕ) → IsNewPair K leads before i j → IsNewPair K longer before i j
-    new_same before i j new =
-        let il : i < length leads = let a = new.ordered in let b = new.within in omega arith in
-        record {
-          ordered = new.ordered;
-          within = let b = new.within in omega arith;
-          columns = ap (λ (t : Term). t.column) (same_leads i il) ∙ new.columns ∙ ap (λ (t : Term). t.column) (sym (same_leads j new.within));
-          unlisted = new.unlisted;
-        }
-
-    skipped_same : (before : List (Entry K)) (i j via : ℕ) → i < length leads → j < length leads → IsSkipped K leads before i j via → IsSkipped K longer before i j via
-    skipped_same before i j via il jl h = record {
-      within = let b = h.within in omega arith;
-      other = h.other;
-      column = ap (λ (t : Term). t.column) (same_leads via h.within) ∙ h.column ∙ ap (λ (t : Term). t.column) (sym (same_leads i il));
-      divides = subst (λ (t : Term). Divides t.monomial (pair_term longer i j).monomial) (sym (same_leads via h.within)) (subst (λ (t : Term). Divides (lead_at leads via).monomial t.monomial) (sym (pair_same i j il jl)) h.divides);
-      listed = h.listed;
-    }
 
     module _ (o : Order) where
       pub below_same : (t : Term) (steps : List (Step K)) → AllByRecursion (IsBelowStep K o leads t) steps → AllByRecursion (IsBelowStep K o longer t) steps
@@ -100,16 +73,16 @@ module _ (K : Domain) (s : Signature) where
         pub lawful_same : (before es : List (Entry K)) → AreLawful K s o n rows leads before es → AreLawful K s o n more longer before es
         lawful_same before [] h = tt
         lawful_same before (Pair i j steps ∷ es) h =
-            let new = h.0.0 in
+            let new = treat_from leads (pairs_of before) i j h.0.0 in
             let il : i < length leads = let a = new.ordered in let b = new.within in omega arith in
-            ((new_same before i j new, treated_same i j steps il new.within h.0.1), lawful_same (Pair i j steps ∷ before) es h.1)
+            ((treat_longer leads longer same_leads long (pairs_of before) i j h.0.0, treated_same i j steps il new.within h.0.1), lawful_same (Pair i j steps ∷ before) es h.1)
         lawful_same before (Skip i j via ∷ es) h =
-            let new = h.0.0 in
+            let new = treat_from leads (pairs_of before) i j h.0.0 in
             let il : i < length leads = let a = new.ordered in let b = new.within in omega arith in
-            ((new_same before i j new, skipped_same before i j via il new.within h.0.1), lawful_same (Skip i j via ∷ before) es h.1)
+            ((treat_longer leads longer same_leads long (pairs_of before) i j h.0.0, skip_longer leads longer same_leads long (pairs_of before) i j il new.within via h.0.1), lawful_same (Skip i j via ∷ before) es h.1)
 
     module _ (q n : ℕ) (os : List Origin) (rs : List (Row K)) (now : List Origin) (syzygies : List (Row K)) (g : Grown K n os rs now syzygies) (cofactors more : List (Row K)) (same : SameRows (length leads) cofactors more) where
-      pub shown_same : (k : ℕ) (es : List (Entry K)) → k + length es ≤ n → AllByRecursion (IsWithin K (length leads)) es → AreShown K s q leads cofactors os rs k es → AreShown K s q longer more now syzygies k es
+      pub shown_same : (k : ℕ) (es : List (Entry K)) → k + length es ≤ n → AllByRecursion (IsWithin K (length leads)) es → HaveTheirSyzygies K s q leads cofactors os rs k es → HaveTheirSyzygies K s q longer more now syzygies k es
       shown_same k [] l w h = tt
       shown_same k (Pair i j steps ∷ es) l w h = (
         subst (IsFrom K q now syzygies (Event k)) (sym (left_same (length leads) cofactors more leads longer same same_leads i j steps w.0.0 w.0.1 w.0.2)) (grown_event K q n os rs now syzygies g k (omega arith) _ h.0),
@@ -118,9 +91,9 @@ module _ (K : Domain) (s : Signature) where
       shown_same k (Skip i j via ∷ es) l w h = (grown_no_event K q n os rs now syzygies g k (omega arith) h.0, shown_same (suc k) es (omega arith) w.1 h.1)
 
 -- one more entry
-pub shown_push : (K : Domain) (s : Signature) (q : ℕ) (leads : List Term) (cofactors : List (Row K)) (origins : List Origin) (syzygies : List (Row K)) (k : ℕ) (es : List (Entry K)) (e : Entry K) → AreShown K s q leads cofactors origins syzygies k es → IsShown K s q leads cofactors origins syzygies (k + length es) e → AreShown K s q leads cofactors origins syzygies k (es ++ e ∷ [])
-shown_push K s q leads cofactors origins syzygies k [] e h x = let z : k + 0 ≡ k = omega arith in (subst (λ k. IsShown K s q leads cofactors origins syzygies k e) z x, tt)
-shown_push K s q leads cofactors origins syzygies k (y ∷ es) e h x = let z : k + suc (length es) ≡ suc k + length es = omega arith in (h.0, shown_push K s q leads cofactors origins syzygies (suc k) es e h.1 (subst (λ k. IsShown K s q leads cofactors origins syzygies k e) z x))
+pub shown_push : (K : Domain) (s : Signature) (q : ℕ) (leads : List Term) (cofactors : List (Row K)) (origins : List Origin) (syzygies : List (Row K)) (k : ℕ) (es : List (Entry K)) (e : Entry K) → HaveTheirSyzygies K s q leads cofactors origins syzygies k es → HasItsSyzygy K s q leads cofactors origins syzygies (k + length es) e → HaveTheirSyzygies K s q leads cofactors origins syzygies k (es ++ e ∷ [])
+shown_push K s q leads cofactors origins syzygies k [] e h x = let z : k + 0 ≡ k = omega arith in (subst (λ k. HasItsSyzygy K s q leads cofactors origins syzygies k e) z x, tt)
+shown_push K s q leads cofactors origins syzygies k (y ∷ es) e h x = let z : k + suc (length es) ≡ suc k + length es = omega arith in (h.0, shown_push K s q leads cofactors origins syzygies (suc k) es e h.1 (subst (λ k. HasItsSyzygy K s q leads cofactors origins syzygies k e) z x))
 
 -- ---- a list with more behind it
 

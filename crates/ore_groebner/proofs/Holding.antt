@@ -1,5 +1,5 @@
 -- What each state of a run holds, and the basis that it has.
---     Holds                    the rows and syzygies are of a, the lines are lawful and show syzygies, and a comes back;
+--     Holds                    the rows and syzygies are of a, the entries are lawful, each with its syzygy, and a comes back;
 --                              each syzygy has an origin
 --     IsRowBack                a row and its unit row are multiples of a basis row and of its cofactor row
 --     AreBack                  some rows of a are so, the next of which that isn't zeros stands at place i of the basis;
@@ -20,12 +20,12 @@ use Rattle.ore_monomial.specs.Term.{Term}
 use Rattle.ore_monomial.specs.declared.order.Order.{Order}
 use Rattle.ore_rows.specs.Rows.{Row, RowOf, AreLong, zero_row, unit_row, row_scale, combine, matrix_times}
 use Rattle.ore_rows.specs.RowLead.{coefficient_at, IsRowLead, row_lead}
-use Rattle.ore_rows.specs.Reduction.{Monic, AreMonic, rows_of, cofactors_of, leads_of, origin, row_at}
+use Rattle.ore_rows.specs.Reduction.{Monic, AreMonic, basis_rows, cofactors_of, leads_of, origin, row_at}
 use Rattle.ore_pairs.specs.Run.{State, constant}
 use Rattle.ore_rows.specs.declared.choices.Origin.{Origin}
 use Rattle.ore_rows.specs.declared.choices.Origin.TheVariants.{ZeroRow}
 use Rattle.ore_pairs.specs.Steps.{AreLeads, lead_at}
-use Rattle.ore_groebner.specs.RunLaws.{IsBasisRow, IsSyzygy, IsNone, IsFrom, IsPlaceIn, LinesHold}
+use Rattle.ore_groebner.specs.RunLaws.{IsBasisRow, IsSyzygy, IsNone, IsFrom, IsPlaceIn, EntriesHold}
 use Rattle.ore_groebner.proofs.Growing.{map_grow}
 use Rattle.ore_groebner.proofs.Sources.{Grown, grown_row, grown_no_row}
 
@@ -35,7 +35,7 @@ grown_inside xs more i h = let e = length-append xs more in omega arith
 module _ (K : Domain) (s : Signature) (o : Order) (q : ℕ) where
   -- the row and its unit row, at place k of q, from the basis row at place i
   abbrev pub IsRowBack : Term → ℕ → ℕ → Row K → List (Monic (Row K)) → Type 0
-  IsRowBack t i k r basis = (i < length basis) × (row_scale K s (constant K (coefficient_at K r t)) (row_at (rows_of basis) i) ≡ r) × (row_scale K s (constant K (coefficient_at K r t)) (row_at (cofactors_of basis) i) ≡ unit_row K q k)
+  IsRowBack t i k r basis = (i < length basis) × (row_scale K s (constant K (coefficient_at K r t)) (row_at (basis_rows basis) i) ≡ r) × (row_scale K s (constant K (coefficient_at K r t)) (row_at (cofactors_of basis) i) ≡ unit_row K q k)
 
   abbrev pub AreBack : ℕ → ℕ → List (Row K) → List (Monic (Row K)) → List Origin → List (Row K) → Type 0
   AreBack i k [] basis origins syzygies = Unit {0}
@@ -58,7 +58,7 @@ module _ (K : Domain) (s : Signature) (o : Order) (n : ℕ) (a : List (Row K)) w
   pub record Holds (st : State K) : Type 0 where
     pub basis : AllByRecursion (IsBasisRow K s o n a) st.basis
     pub syzygies : AllByRecursion (IsSyzygy K s o n a) st.syzygies
-    pub lines : LinesHold K s o n a st
+    pub entries : EntriesHold K s o n a st
     pub back : AreBack K s o (length a) 0 0 a st.basis st.origins st.syzygies
     pub many : length st.origins ≡ length st.syzygies
     pub places : AllByRecursion (IsPlaceIn (length a) (length st.listed)) st.origins
@@ -73,10 +73,10 @@ module _ (K : Domain) (s : Signature) (o : Order) (n : ℕ) (a : List (Row K)) w
     pub are_wide : All (λ b. length b.row ≡ n) basis
     are_wide i d h = (All-get_or (IsBasisRow K s o n a) basis i d h good).long
 
-    pub long_at : (i : ℕ) → i < length basis → length (row_at (rows_of basis) i) ≡ n
+    pub long_at : (i : ℕ) → i < length basis → length (row_at (basis_rows basis) i) ≡ n
     long_at i h = ap length (get_or-map (λ b. b.row) basis i blank [] h) ∙ are_wide i blank h
 
-    pub leads_are : AreLeads K o (rows_of basis) (leads_of basis)
+    pub leads_are : AreLeads K o (basis_rows basis) (leads_of basis)
     leads_are = record {
       long = length-map basis (λ b. b.lead) ∙ sym (length-map basis (λ b. b.row));
       monic = λ i h.
@@ -91,7 +91,7 @@ module _ (K : Domain) (s : Signature) (o : Order) (n : ℕ) (a : List (Row K)) w
         lead_there : (i : ℕ) → i < length basis → IsRowLeadOf (get_or basis i blank).row i
         lead_there i h = subst (λ u. IsRowLead K o (get_or basis i blank).row u K.one) (sym (get_or-map (λ b. b.lead) basis i blank origin h)) (are_monic i blank h)
 
-  pub long_rows : (basis : List (Monic (Row K))) → AllByRecursion (IsBasisRow K s o n a) basis → AreLong K n (rows_of basis)
+  pub long_rows : (basis : List (Monic (Row K))) → AllByRecursion (IsBasisRow K s o n a) basis → AreLong K n (basis_rows basis)
   long_rows [] h = tt
   long_rows (b ∷ basis) h = (h.0.long, long_rows basis h.1)
 
@@ -99,7 +99,7 @@ module _ (K : Domain) (s : Signature) (o : Order) (n : ℕ) (a : List (Row K)) w
   wide_cofactors [] h = tt
   wide_cofactors (b ∷ basis) h = (h.0.wide, wide_cofactors basis h.1)
 
-  pub of_rows : (basis : List (Monic (Row K))) → AllByRecursion (IsBasisRow K s o n a) basis → AllByRecursion (RowOf K s) a → AllByRecursion (RowOf K s) (rows_of basis)
+  pub of_rows : (basis : List (Monic (Row K))) → AllByRecursion (IsBasisRow K s o n a) basis → AllByRecursion (RowOf K s) a → AllByRecursion (RowOf K s) (basis_rows basis)
   of_rows [] h d = tt
   of_rows (b ∷ basis) h d = (h.0.of_row d, of_rows basis h.1 d)
 
@@ -115,7 +115,7 @@ module _ (K : Domain) (s : Signature) (o : Order) (n : ℕ) (a : List (Row K)) w
   vanishing [] h = tt
   vanishing (r ∷ rows) h = (h.0.vanishes, vanishing rows h.1)
 
-  pub to_right : (basis : List (Monic (Row K))) → AllByRecursion (IsBasisRow K s o n a) basis → matrix_times K s n (cofactors_of basis) a ≡ rows_of basis
+  pub to_right : (basis : List (Monic (Row K))) → AllByRecursion (IsBasisRow K s o n a) basis → matrix_times K s n (cofactors_of basis) a ≡ basis_rows basis
   unfolding matrix_times
   to_right [] h = refl
   to_right (b ∷ basis) h = λ i. h.0.made i ∷ to_right basis h.1 i

@@ -1,7 +1,7 @@
 -- Choices that lead to the progress of a run.
 --     IsOldOrNew, slice_get-push, take_front    the items of a list with one more
 --     determined                 some choices lead to one state
---     leads_push, reached_push   one more choice leads on from there
+--     state_after-push, reached_push   one more choice leads on from there
 --     led_pairs                  the listed pairs are those of the choices, in order
 --     led_reached                the state of the progress is reached
 --     allowed_here               a rule allows something at the state of the progress
@@ -22,20 +22,21 @@ use Rattle.std.proofs.Math.Seq.{take-append_seam}
 use Rattle.ore_rational.proofs.FractionLaws.{rationals}
 use Rattle.ore_monomial.specs.Signature.{Signature}
 use Rattle.ore_pairs.specs.Run.{State, Refusal}
-use Rattle.ore_pairs.specs.Run as run
+use Rattle.ore_course.specs.Leading as course
 use Rattle.ore_rows.specs.Stored.{OperatorMatrix}
-use Rattle.ore_rows.specs.StoredBasis.{monic_of}
+use Rattle.ore_rows.specs.StoredBasis.{HaveLeads, monic_of}
 use Rattle.ore_rows.specs.declared.choices.Choice.{Choice}
-use Rattle.ore_pairs.specs.Listed.{is_in}
-use Rattle.ore_groebner.specs.Choosing.{is_chosen, pairs_of}
+use Rattle.ore_pairs.specs.PairList.{pairs_of}
+use Rattle.ore_pairs.specs.PairRule.{is_listed}
+use Rattle.ore_groebner.specs.Choosing.{chosen_pairs}
 use Rattle.ore_groebner.specs.Following.{step_of, IsFollowed, IsLed}
-use Rattle.ore_groebner.specs.Honest.{starts, leads, IsReached, pairs_in, IsAllowedAt, AreAllowed, MayBeSpent}
-use Rattle.ore_groebner.specs.Progressing.{state_of, choices_of, IsKept, IsBegun}
+use Rattle.ore_groebner.specs.Honest.{first_state, state_after, IsReached, IsAllowedAt, AreAllowed, MayBeSpent}
+use Rattle.ore_groebner.specs.RunProgress.{state_of, choices_of, IsProgressOf, IsBegun}
 use Rattle.ore_groebner.specs.Shown.{Shown, shown_of}
 use Rattle.ore_groebner.specs.declared.progress.Progress.{Progress}
 use Rattle.ore_groebner.proofs.Given.{lists_next}
-use Rattle.ore_groebner.proofs.Limited.{refused, given}
-use Rattle.ore_groebner.proofs.Progresses.{lines_pairs}
+use Rattle.ore_algebra.proofs.ResultLaws.{no_ok, same_ok}
+use Rattle.ore_groebner.proofs.ProgressParts.{pairs_of-entries_from}
 use Rattle.ore_groebner.proofs.Showing.{shown_in-state}
 
 -- ---- lists
@@ -65,21 +66,21 @@ take_front xs x k h = take-append-le k xs (x ∷ []) h
 
 module _ (s : Signature) (a : OperatorMatrix) where
   determined : (cs : List Choice) (x y : State rationals) → IsReached s a cs x → IsReached s a cs y → x ≡ y
-  determined cs x y h k = given x y (sym h.led ∙ ap (λ st. leads s a st cs) (given h.start k.start (sym h.begun ∙ k.begun)) ∙ k.led)
+  determined cs x y h k = same_ok x y (sym h.led ∙ ap (λ st. state_after s a st cs) (same_ok h.start k.start (sym h.begun ∙ k.begun)) ∙ k.led)
 
-  leads_push : (st mid next : State rationals) (cs : List Choice) (c : Choice) → leads s a st cs ≡ Ok mid → step_of s mid c ≡ Ok next → leads s a st (cs ++ c ∷ []) ≡ Ok next
-  unfolding run.run
-  leads_push st mid next [] c e f = ap (λ (r : Result (State rationals) Refusal). elim r [ Ok next ↦ leads s a next [] | Err refusal ↦ Err refusal ]) (ap (λ st. step_of s st c) (given st mid e) ∙ f)
-  leads_push st mid next (d ∷ cs) c e f = by (step_of s st d) (λ between. λ g. leads_push between mid next cs c g f) e
+  state_after-push : (st mid next : State rationals) (cs : List Choice) (c : Choice) → state_after s a st cs ≡ Ok mid → step_of s mid c ≡ Ok next → state_after s a st (cs ++ c ∷ []) ≡ Ok next
+  unfolding course.run
+  state_after-push st mid next [] c e f = ap (λ (r : Result (State rationals) Refusal). elim r [ Ok next ↦ state_after s a next [] | Err refusal ↦ Err refusal ]) (ap (λ st. step_of s st c) (same_ok st mid e) ∙ f)
+  state_after-push st mid next (d ∷ cs) c e f = by (step_of s st d) (λ between. λ g. state_after-push between mid next cs c g f) e
     where
-      by : (r : Result (State rationals) Refusal) → ((between : State rationals) → leads s a between cs ≡ Ok mid → leads s a between (cs ++ c ∷ []) ≡ Ok next)
-          → ◌≡◌ {A = Result (State rationals) Refusal} (elim r [ Ok next ↦ leads s a next cs | Err refusal ↦ Err refusal ]) (Ok mid)
-          → ◌≡◌ {A = Result (State rationals) Refusal} (elim r [ Ok next ↦ leads s a next (cs ++ c ∷ []) | Err refusal ↦ Err refusal ]) (Ok next)
+      by : (r : Result (State rationals) Refusal) → ((between : State rationals) → state_after s a between cs ≡ Ok mid → state_after s a between (cs ++ c ∷ []) ≡ Ok next)
+          → ◌≡◌ {A = Result (State rationals) Refusal} (elim r [ Ok next ↦ state_after s a next cs | Err refusal ↦ Err refusal ]) (Ok mid)
+          → ◌≡◌ {A = Result (State rationals) Refusal} (elim r [ Ok next ↦ state_after s a next (cs ++ c ∷ []) | Err refusal ↦ Err refusal ]) (Ok next)
       by (Ok between) more e = more between e
-      by (Err refusal) more e = absurd (refused e)
+      by (Err refusal) more e = absurd (no_ok e)
 
   pub reached_push : (mid next : State rationals) (cs : List Choice) (c : Choice) → IsReached s a cs mid → step_of s mid c ≡ Ok next → IsReached s a (cs ++ c ∷ []) next
-  reached_push mid next cs c h e = record { start = h.start; begun = h.begun; led = leads_push h.start mid next cs c h.led e }
+  reached_push mid next cs c h e = record { start = h.start; begun = h.begun; led = state_after-push h.start mid next cs c h.led e }
 
   -- ---- rules
 
@@ -87,46 +88,46 @@ module _ (s : Signature) (a : OperatorMatrix) where
     pub led_reached : (cs : List Choice) (p : Progress) → IsLed s a allows cs p → IsReached s a cs (state_of p)
     led_reached cs p led = record { start = led.start; begun = led.begun; led = led.led }
 
-    pub led_pairs : (cs : List Choice) (p : Progress) → IsLed s a allows cs p → pairs_in (state_of p) ≡ pairs_of cs
-    led_pairs cs p led = lines_pairs p.first p.events.items ∙ ap pairs_of led.events
+    pub led_pairs : (cs : List Choice) (p : Progress) → IsLed s a allows cs p → pairs_of (state_of p).listed ≡ chosen_pairs cs
+    led_pairs cs p led = pairs_of-entries_from p.first p.events.items ∙ ap chosen_pairs led.events
 
-    allowed_here : (cs : List Choice) (p : Progress) → IsLed s a allows cs p → (allowed : Shown → List (ℕ × ℕ) → Bool) → allowed (shown_of p.basis) (pairs_of cs) ≡ true → IsAllowedAt s allowed (state_of p)
-    allowed_here cs p led allowed h = (λ k. allowed (shown_in-state s a p led.kept k) (led_pairs cs p led k)) ∙ h
+    allowed_here : (cs : List Choice) (p : Progress) → IsLed s a allows cs p → HaveLeads p.basis.items → (allowed : Shown → List (ℕ × ℕ) → Bool) → allowed (shown_of p.basis) (chosen_pairs cs) ≡ true → IsAllowedAt s allowed (state_of p)
+    allowed_here cs p led have allowed h = (λ k. allowed (shown_in-state s a p led.kept have k) (led_pairs cs p led k)) ∙ h
 
-    pub allowed_push : (cs : List Choice) (c : Choice) (p : Progress) → IsLed s a allows cs p → allows (shown_of p.basis) (pairs_of cs) c ≡ true → AreAllowed s a allows (cs ++ c ∷ [])
-    allowed_push cs c p led here k d st e reached = by (slice_get-push cs c k d e)
+    pub allowed_push : (cs : List Choice) (c : Choice) (p : Progress) → IsLed s a allows cs p → HaveLeads p.basis.items → allows (shown_of p.basis) (chosen_pairs cs) c ≡ true → AreAllowed s a allows (cs ++ c ∷ [])
+    allowed_push cs c p led have here k d st e reached = by (slice_get-push cs c k d e)
       where
         by : IsOldOrNew cs c k d → IsAllowedAt s (λ shown ps. allows shown ps d) st
         by (inl h) = led.allowed k d st h.0 (subst (λ ds. IsReached s a ds st) (take_front cs c k (let l = h.1 in omega arith)) reached)
         by (inr h) =
             let there : IsReached s a cs st = subst (λ ds. IsReached s a ds st) (ap (λ n. take n (cs ++ c ∷ [])) h.0 ∙ take-append_seam cs (c ∷ [])) reached in
-            subst (λ d. IsAllowedAt s (λ shown ps. allows shown ps d) st) h.1 (subst (λ st. IsAllowedAt s (λ shown ps. allows shown ps c) st) (determined cs (state_of p) st (led_reached cs p led) there) (allowed_here cs p led (λ shown ps. allows shown ps c) here))
+            subst (λ d. IsAllowedAt s (λ shown ps. allows shown ps d) st) h.1 (subst (λ st. IsAllowedAt s (λ shown ps. allows shown ps c) st) (determined cs (state_of p) st (led_reached cs p led) there) (allowed_here cs p led have (λ shown ps. allows shown ps c) here))
 
-    pub spent_here : (cs : List Choice) (p : Progress) → IsLed s a allows cs p → (allows_spent : Shown → List (ℕ × ℕ) → Bool) → allows_spent (shown_of p.basis) (pairs_of cs) ≡ true → MayBeSpent s a allows_spent cs
-    spent_here cs p led allows_spent h st reached = subst (IsAllowedAt s allows_spent) (determined cs (state_of p) st (led_reached cs p led) reached) (allowed_here cs p led allows_spent h)
+    pub spent_here : (cs : List Choice) (p : Progress) → IsLed s a allows cs p → HaveLeads p.basis.items → (allows_spent : Shown → List (ℕ × ℕ) → Bool) → allows_spent (shown_of p.basis) (chosen_pairs cs) ≡ true → MayBeSpent s a allows_spent cs
+    spent_here cs p led have allows_spent h st reached = subst (IsAllowedAt s allows_spent) (determined cs (state_of p) st (led_reached cs p led) reached) (allowed_here cs p led have allows_spent h)
 
-    pub led_next : (cs : List Choice) (c : Choice) (p q : Progress) → IsLed s a allows cs p → allows (shown_of p.basis) (pairs_of cs) c ≡ true → IsFollowed s p c q → IsLed s a allows (cs ++ c ∷ []) q
-    led_next cs c p q led here f = record {
+    pub led_next : (cs : List Choice) (c : Choice) (p q : Progress) → IsLed s a allows cs p → HaveLeads p.basis.items → allows (shown_of p.basis) (chosen_pairs cs) c ≡ true → IsFollowed s p c q → IsLed s a allows (cs ++ c ∷ []) q
+    led_next cs c p q led have here f = record {
       start = led.start;
       begun = led.begun;
-      led = leads_push led.start (state_of p) (state_of q) cs c led.led f.made;
+      led = state_after-push led.start (state_of p) (state_of q) cs c led.led f.made;
       kept = f.kept;
       lists = lists_next p.listed q.listed cs c led.lists f.listed;
       events = f.shape.events ∙ ap (λ ds. ds ++ c ∷ []) led.events;
       first = f.shape.first ∙ led.first;
       cols = f.shape.cols ∙ led.cols;
       width = f.shape.width ∙ led.width;
-      allowed = allowed_push cs c p led here;
+      allowed = allowed_push cs c p led have here;
     }
 
-    pub led_start : (p : Progress) → starts s a ≡ Ok (state_of p) → IsKept s p → IsBegun p → p.first ≡ length p.basis.items → p.basis.cols ≡ a.cols → p.basis.width ≡ length a.rows → IsLed s a allows [] p
-    unfolding run.run is_in is_chosen
+    pub led_start : (p : Progress) → first_state s a ≡ Ok (state_of p) → IsProgressOf s p → IsBegun p → p.first ≡ length p.basis.items → p.basis.cols ≡ a.cols → p.basis.width ≡ length a.rows → IsLed s a allows [] p
+    unfolding course.run is_listed
     led_start p starts kept begun first cols width = record {
       start = state_of p;
       begun = starts;
       led = refl;
       kept = kept;
-      lists = λ i j. ap (is_in i j) begun.listed;
+      lists = λ i j. ap (is_listed i j) begun.listed;
       events = ap choices_of begun.events;
       first = first ∙ sym (length-map p.basis.items monic_of);
       cols = cols;

@@ -34,22 +34,22 @@ pub shift-unit : (t : Term) → shift unit t ≡ t
 shift-unit t = same_term (shift unit t) t (product-unit t.monomial) refl
 
 module _ (K : Domain) (inverses : HasInverses K) where
-  pub times_inverse : (k : K.Number) → k ≢ K.none → K.times k (inverse_of K inverses k) ≡ K.one
+  pub times_inverse : (k : K.Number) → k ≢ K.zero → K.times k (inverse_of K inverses k) ≡ K.one
   unfolding inverse_of
-  times_inverse k h = by (K.discrete k K.none)
+  times_inverse k h = by (K.discrete k K.zero)
     where
-      by : (d : Dec (k ≡ K.none)) → K.times k (elim d [ yes e ↦ K.none | no n ↦ inverses.inverse k n ]) ≡ K.one
+      by : (d : Dec (k ≡ K.zero)) → K.times k (elim d [ yes e ↦ K.zero | no n ↦ inverses.inverse k n ]) ≡ K.one
       by (yes e) = absurd (h e)
       by (no n) = inverses.times_inverse k n
 
-  inverse_apart : (k : K.Number) → k ≢ K.none → inverse_of K inverses k ≢ K.none
-  inverse_apart k h e = K.one_apart (sym (times_inverse k h) ∙ ap (K.times k) e ∙ Numbers.times_none K k)
+  inverse_apart : (k : K.Number) → k ≢ K.zero → inverse_of K inverses k ≢ K.zero
+  inverse_apart k h e = K.one_apart (sym (times_inverse k h) ∙ ap (K.times k) e ∙ Numbers.times_zero K k)
 
   module _ (s : Signature) (lawful : IsLawful s) where
-    scale_back : (k : K.Number) → k ≢ K.none → (f : Operator K) → scale K plain_cmp k (scale K plain_cmp (inverse_of K inverses k) f) ≡ f
+    scale_back : (k : K.Number) → k ≢ K.zero → (f : Operator K) → scale K plain_cmp k (scale K plain_cmp (inverse_of K inverses k) f) ≡ f
     scale_back k h f = Operators.scale-scale K k (inverse_of K inverses k) f ∙ ap (λ j. scale K plain_cmp j f) (times_inverse k h) ∙ Operators.scale_one K f
 
-    pub scaled_back : (k : K.Number) → k ≢ K.none → (r : Row K) → row_scale K s (constant K k) (row_scale K s (constant K (inverse_of K inverses k)) r) ≡ r
+    pub scaled_back : (k : K.Number) → k ≢ K.zero → (r : Row K) → row_scale K s (constant K k) (row_scale K s (constant K (inverse_of K inverses k)) r) ≡ r
     unfolding row_scale
     scaled_back k h [] = refl
     scaled_back k h (f ∷ r) = λ i. (number-times K s lawful k _ ∙ ap (scale K plain_cmp k) (number-times K s lawful (inverse_of K inverses k) f) ∙ scale_back k h f) i ∷ scaled_back k h r i

@@ -8,18 +8,18 @@ use Rattle.std.specs.List.{slice_get, range_with_len}
 use Rattle.std.specs.declared.option.Option.{Option}
 use Rattle.std.specs.declared.option.Option.TheVariants.{None, Some}
 use Rattle.std.proofs.lemmas.List.FromFn.{length-range_with_len}
-use Rattle.ore_algebra.specs.Free.{none}
+use Rattle.ore_algebra.specs.Free.{empty_sum}
 use Rattle.ore_rational.proofs.FractionLaws.{rationals}
 use Rattle.ore_monomial.specs.LetterRule.{Operator}
 use Rattle.ore_monomial.specs.Monomial.{unit, plain_cmp}
 use Rattle.ore_monomial.specs.Term.{Term}
 use Rattle.ore_monomial.specs.declared.order.Order.{Order}
-use Rattle.ore_monomial.proofs.Operators.{single_none}
+use Rattle.ore_monomial.proofs.Operators.{single_zero}
 use Rattle.ore_rows.specs.RowLead.{IsRowLead, coefficient_at, row_lead}
 use Rattle.ore_rows.specs.Rows.{Row, zero_row}
 use Rattle.ore_pairs.specs.Run.{constant, entry_row, from_rows}
 use Rattle.ore_rows.proofs.GreatestTerms.{row_lead_from}
-use Rattle.ore_groebner.proofs.Begins.{drop_at, drop_end}
+use Rattle.ore_groebner.proofs.FirstBasis.{drop_at, drop_end}
 
 all_same : (f z : Operator rationals) (at : ℕ → Bool) (places : List ℕ) → f ≡ z → map (λ j. cond (at j) f z) places ≡ replicate (length places) z
 all_same f z at [] e = refl
@@ -29,12 +29,12 @@ all_same f z at (j ∷ places) e = λ n. same (at j) n ∷ all_same f z at place
     same true = e
     same false = refl
 
-pub zero_entry : (n i : ℕ) → entry_row rationals n i (constant rationals rationals.none) ≡ zero_row rationals n
+pub zero_entry : (n i : ℕ) → entry_row rationals n i (constant rationals rationals.zero) ≡ zero_row rationals n
 unfolding entry_row zero_row
-zero_entry n i = all_same (constant rationals rationals.none) (none rationals plain_cmp) (λ j. nat_eq j i) (range_with_len 0 n) (single_none rationals unit) ∙ ap (λ m. replicate m (none rationals plain_cmp)) (length-range_with_len 0 n)
+zero_entry n i = all_same (constant rationals rationals.zero) (empty_sum rationals plain_cmp) (λ j. nat_eq j i) (range_with_len 0 n) (single_zero rationals unit) ∙ ap (λ m. replicate m (empty_sum rationals plain_cmp)) (length-range_with_len 0 n)
 
 module _ (o : Order) (n : ℕ) where
-  pub from_zero : (i : ℕ) (r made : Row rationals) (rs : List (Row rationals)) → row_lead rationals o r ≡ None → made ≡ entry_row rationals n n (constant rationals rationals.none) → from_rows rationals o n i (r ∷ rs) ≡ made ∷ from_rows rationals o n i rs
+  pub from_zero : (i : ℕ) (r made : Row rationals) (rs : List (Row rationals)) → row_lead rationals o r ≡ None → made ≡ entry_row rationals n n (constant rationals rationals.zero) → from_rows rationals o n i (r ∷ rs) ≡ made ∷ from_rows rationals o n i rs
   unfolding from_rows
   from_zero i r made rs e m =
       ap (λ (x : Option Term). elim x [ None ↦ zero_row rationals n ∷ from_rows rationals o n i rs | Some t ↦ entry_row rationals n i (constant rationals (coefficient_at rationals r t)) ∷ from_rows rationals o n (suc i) rs ]) e

@@ -20,7 +20,7 @@ use Rattle.ore_ring.proofs.Belonging.{of_single}
 use Rattle.ore_rows.specs.Rows.{Row, RowOf, row_minus}
 use Rattle.ore_rows.specs.RowLead.{coefficient_at, IsRowLead, IsRowBelow}
 use Rattle.ore_rows.specs.Arithmetic.{exact}
-use Rattle.ore_rows.specs.Reduction.{Monic, AreMonic, Step, Work, rows_of, cofactors_of, leads_of, row_at, step_operator, after, reduce}
+use Rattle.ore_rows.specs.Reduction.{Monic, AreMonic, Step, Work, basis_rows, cofactors_of, leads_of, row_at, step_operator, after, reduce}
 use Rattle.ore_rows.proofs.Differences.{of_row_minus}
 use Rattle.ore_rows.proofs.GreatestTerms.{row_lead-Some}
 use Rattle.ore_rows.proofs.RowLaws.{of_row_scale, length-row_scale}
@@ -37,9 +37,9 @@ pub lead_of_signature : (K : Domain) (s : Signature) (o : Order) (r : Row K) (t 
 lead_of_signature K s o r t k of a = of_entry K s r t.column of t.monomial (λ e. a.apart (sym a.stands ∙ e))
 
 module _ (K : Domain) (s : Signature) (lawful : IsLawful s) (o : Order) (n : ℕ) (basis : List (Monic (Row K))) (monic : AreMonic K o basis) (wide : All (λ b. length b.row ≡ n) basis)
-    (long : (i : ℕ) → i < length basis → length (row_at (rows_of basis) i) ≡ n) (D : Type 0) (of_rows : D → AllByRecursion (RowOf K s) (rows_of basis)) (of_cofactors : D → AllByRecursion (RowOf K s) (cofactors_of basis)) (z y : Row K) (m : Term) where
+    (long : (i : ℕ) → i < length basis → length (row_at (basis_rows basis) i) ≡ n) (D : Type 0) (of_rows : D → AllByRecursion (RowOf K s) (basis_rows basis)) (of_cofactors : D → AllByRecursion (RowOf K s) (cofactors_of basis)) (z y : Row K) (m : Term) where
   pub record IsPart (w : Work K) : Type 0 where
-    pub row : after K s (rows_of basis) w.steps z ≡ w.row
+    pub row : after K s (basis_rows basis) w.steps z ≡ w.row
     pub cofactor : after K s (cofactors_of basis) w.steps y ≡ w.cofactor
     pub of_row : D → RowOf K s w.row
     pub of_cofactor : D → RowOf K s w.cofactor
@@ -52,13 +52,13 @@ module _ (K : Domain) (s : Signature) (lawful : IsLawful s) (o : Order) (n : ℕ
 
   part_more : (w : Work K) (t : Step K) → length w.row ≡ n → IsPart w → IsStep K o basis w.row t → IsPart (taken K s basis t w)
   part_more w t l j a = record {
-    row = after-push K s (rows_of basis) w.steps t z ∙ ap (λ r. row_minus K r (step_multiple K s (rows_of basis) t)) j.row;
+    row = after-push K s (basis_rows basis) w.steps t z ∙ ap (λ r. row_minus K r (step_multiple K s (basis_rows basis) t)) j.row;
     cofactor = after-push K s (cofactors_of basis) w.steps t y ∙ ap (λ r. row_minus K r (step_multiple K s (cofactors_of basis) t)) j.cofactor;
-    of_row = λ d. of_row_minus K s w.row _ (j.of_row d) (of_multiple (rows_of basis) (of_rows d) t (inside_map (λ b. b.row) basis t.index inside) (declared d));
+    of_row = λ d. of_row_minus K s w.row _ (j.of_row d) (of_multiple (basis_rows basis) (of_rows d) t (inside_map (λ b. b.row) basis t.index inside) (declared d));
     of_cofactor = λ d. of_row_minus K s w.cofactor _ (j.of_cofactor d) (of_multiple (cofactors_of basis) (of_cofactors d) t (inside_map (λ b. b.cofactor) basis t.index inside) (declared d));
     steps_of = λ d. All-push (λ (t : Step K). MonomialOf s t.monomial) w.steps t (j.steps_of d) (declared d);
     low = All-push (IsBelowStep K o (leads_of basis) m) w.steps t j.low (record { within = inside_map (λ b. b.lead) basis t.index inside; low = ap (λ (u : Term). term_cmp o u m) (step_back K s lawful o basis monic w.row t a) ∙ lead_low });
-    below = λ x h. upto_less (term_total o) x a.lead m (ap is_gt (step_below K s lawful o basis monic w.row t a (l ∙ sym (length-row_scale K s lawful (step_operator K t) (row_at (rows_of basis) t.index) ∙ long t.index inside)) x h)) lead_low;
+    below = λ x h. upto_less (term_total o) x a.lead m (ap is_gt (step_below K s lawful o basis monic w.row t a (l ∙ sym (length-row_scale K s lawful (step_operator K t) (row_at (basis_rows basis) t.index) ∙ long t.index inside)) x h)) lead_low;
   }
     where
       inside : t.index < length basis

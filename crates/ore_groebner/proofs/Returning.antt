@@ -12,7 +12,7 @@ use Rattle.std.specs.declared.option.Option.{Option}
 use Rattle.std.specs.declared.option.Option.TheVariants.{None, Some}
 use Rattle.std.proofs.lemmas.List.{length-map}
 use Rattle.ore_algebra.specs.Domain.{Domain}
-use Rattle.ore_algebra.specs.Free.{none, single, plus}
+use Rattle.ore_algebra.specs.Free.{empty_sum, single, plus}
 use Rattle.ore_monomial.specs.Monomial.{unit, plain_cmp}
 use Rattle.ore_monomial.specs.Signature.{Signature, IsLawful}
 use Rattle.ore_monomial.specs.Term.{Term}
@@ -25,7 +25,7 @@ use Rattle.ore_ring.proofs.Belonging.{of_single}
 use Rattle.ore_ring.proofs.Product.{times-linear_right, times-one}
 use Rattle.ore_rows.specs.Rows.{Row, RowOf, AreLong, zero_row, unit_entry, unit_row, row_plus, row_minus, row_scale, combine, matrix_times}
 use Rattle.ore_rows.specs.RowLead.{coefficient_at, row_lead}
-use Rattle.ore_rows.specs.Reduction.{Monic, rows_of, cofactors_of, row_at}
+use Rattle.ore_rows.specs.Reduction.{Monic, basis_rows, cofactors_of, row_at}
 use Rattle.ore_pairs.specs.Run.{State, constant, entry_row, from_rows}
 use Rattle.ore_rows.specs.declared.choices.Origin.{Origin}
 use Rattle.ore_rows.specs.declared.choices.Origin.TheVariants.{ZeroRow}
@@ -34,7 +34,7 @@ use Rattle.ore_rows.proofs.GreatestTerms.{zero_from}
 use Rattle.ore_rows.proofs.RowLaws as Rows
 use Rattle.ore_rows.proofs.UnitRows.{length-unit_row}
 use Rattle.ore_pairs.proofs.Places.{place, length-place, of_place, combine-place}
-use Rattle.ore_groebner.specs.RunLaws.{IsBasisRow, IsFrom, IsKept}
+use Rattle.ore_groebner.specs.RunLaws.{IsBasisRow, IsFrom, IsStateOf}
 use Rattle.ore_groebner.proofs.Holding.{AreBack, Holds, long_rows, wide_cofactors, to_right}
 use Rattle.ore_groebner.proofs.Listing.{is_once}
 use Rattle.ore_groebner.proofs.Sources.{from_zeros}
@@ -44,18 +44,18 @@ unfolding row_minus row_plus zero_row
 row_minus_none K zero [] e = refl
 row_minus_none K zero (f ∷ r) e = absurd (omega arith)
 row_minus_none K (suc n) [] e = absurd (omega arith)
-row_minus_none K (suc n) (f ∷ r) e = λ i. (ap (plus K plain_cmp f) (Operators.scale_none K (K.minus K.one)) ∙ Operators.plus_none K f) i ∷ row_minus_none K n r (omega arith) i
+row_minus_none K (suc n) (f ∷ r) e = λ i. (ap (plus K plain_cmp f) (Operators.scale-empty_sum K (K.minus K.one)) ∙ Operators.plus_zero K f) i ∷ row_minus_none K n r (omega arith) i
 
 module _ (K : Domain) (s : Signature) (lawful : IsLawful s) where
   entry_row-place : (n i : ℕ) (f : Operator K) → entry_row K n i f ≡ place K s n i f
   unfolding entry_row row_scale unit_row
   entry_row-place n i f = over (range_with_len 0 n)
     where
-      one : (b : Bool) → cond b f (none K plain_cmp) ≡ times K s f (cond b (single K plain_cmp unit K.one) (none K plain_cmp))
+      one : (b : Bool) → cond b f (empty_sum K plain_cmp) ≡ times K s f (cond b (single K plain_cmp unit K.one) (empty_sum K plain_cmp))
       one true = sym (times-one K s lawful f)
-      one false = sym (Operators.linear-none K (times-linear_right K s f))
+      one false = sym (Operators.linear-empty_sum K (times-linear_right K s f))
 
-      over : (js : List ℕ) → map (λ j. cond (nat_eq j i) f (none K plain_cmp)) js ≡ map (times K s f) (map (unit_entry K i) js)
+      over : (js : List ℕ) → map (λ j. cond (nat_eq j i) f (empty_sum K plain_cmp)) js ≡ map (times K s f) (map (unit_entry K i) js)
       over [] = refl
       over (j ∷ js) = λ k. one (nat_eq j i) k ∷ over js k
 
@@ -103,14 +103,14 @@ module _ (K : Domain) (s : Signature) (lawful : IsLawful s) where
 
   module _ (o : Order) (n : ℕ) (a : List (Row K)) where
     from_right : (basis : List (Monic (Row K))) → AllByRecursion (IsBasisRow K s o n a) basis → (origins : List Origin) (syzygies : List (Row K)) (i k : ℕ) (rs : List (Row K)) → AreLong K n rs → AreBack K s o (length a) i k rs basis origins syzygies
-        → matrix_times K s n (from_rows K o (length basis) i rs) (rows_of basis) ≡ rs
+        → matrix_times K s n (from_rows K o (length basis) i rs) (basis_rows basis) ≡ rs
     unfolding matrix_times from_rows
     from_right basis good origins syzygies i k [] long h = refl
     from_right basis good origins syzygies i k (r ∷ rs) long (inl (e, m, h)) =
-        ap (λ rows. matrix_times K s n rows (rows_of basis)) (from_rows-none o (length basis) i r rs e)
-        ∙ (λ j. (Rows.combine-zero K s (length basis) n (rows_of basis) (long_rows K s o n a basis good) ∙ ap (zero_row K) (sym long.0) ∙ sym (zero_from K o r e)) j ∷ from_right basis good origins syzygies i (suc k) rs long.1 h j)
+        ap (λ rows. matrix_times K s n rows (basis_rows basis)) (from_rows-none o (length basis) i r rs e)
+        ∙ (λ j. (Rows.combine-zero K s (length basis) n (basis_rows basis) (long_rows K s o n a basis good) ∙ ap (zero_row K) (sym long.0) ∙ sym (zero_from K o r e)) j ∷ from_right basis good origins syzygies i (suc k) rs long.1 h j)
     from_right basis good origins syzygies i k (r ∷ rs) long (inr (t, e, b, m, h)) =
-        ap (λ rows. matrix_times K s n rows (rows_of basis)) (from_rows-some o (length basis) i r rs t e)
+        ap (λ rows. matrix_times K s n rows (basis_rows basis)) (from_rows-some o (length basis) i r rs t e)
         ∙ (λ j. (combine-from (λ b. b.row) n basis (long_rows K s o n a basis good) i (constant K (coefficient_at K r t)) b.0 ∙ b.1) j ∷ from_right basis good origins syzygies (suc i) (suc k) rs long.1 h j)
 
     module _ (basis : List (Monic (Row K))) (good : AllByRecursion (IsBasisRow K s o n a) basis) (origins : List Origin) (syzygies : List (Row K)) where
@@ -129,28 +129,28 @@ module _ (K : Domain) (s : Signature) (lawful : IsLawful s) where
 
       pub left_from : (i k : ℕ) (rs : List (Row K)) → AreBack K s o (length a) i k rs basis origins syzygies → (j m : ℕ) → m ≡ k + j → j < length rs → Left m (row_at (from_rows K o (length basis) i rs) j)
       left_from i k [] h j m e lt = absurd (omega arith)
-      left_from i k (r ∷ rs) (inl (none, from, h)) zero m e lt =
+      left_from i k (r ∷ rs) (inl (empty_sum, from, h)) zero m e lt =
           let same : k ≡ m = omega arith in
-          subst (λ m. Left m (row_at (from_rows K o (length basis) i (r ∷ rs)) 0)) same (subst (λ rows. Left k (row_at rows 0)) (sym (from_rows-none o (length basis) i r rs none))
+          subst (λ m. Left m (row_at (from_rows K o (length basis) i (r ∷ rs)) 0)) same (subst (λ rows. Left k (row_at rows 0)) (sym (from_rows-none o (length basis) i r rs empty_sum))
           (subst (IsFrom K wide origins syzygies (ZeroRow k)) (sym (zero_less k)) from))
-      left_from i k (r ∷ rs) (inl (none, from, h)) (suc j) m e lt =
-          subst (λ rows. Left m (row_at rows (suc j))) (sym (from_rows-none o (length basis) i r rs none)) (left_from i (suc k) rs h j m (omega arith) (omega arith))
-      left_from i k (r ∷ rs) (inr (t, some, b, none, h)) zero m e lt =
+      left_from i k (r ∷ rs) (inl (empty_sum, from, h)) (suc j) m e lt =
+          subst (λ rows. Left m (row_at rows (suc j))) (sym (from_rows-none o (length basis) i r rs empty_sum)) (left_from i (suc k) rs h j m (omega arith) (omega arith))
+      left_from i k (r ∷ rs) (inr (t, some, b, empty_sum, h)) zero m e lt =
           let same : k ≡ m = omega arith in
           subst (λ m. Left m (row_at (from_rows K o (length basis) i (r ∷ rs)) 0)) same (subst (λ rows. Left k (row_at rows 0)) (sym (from_rows-some o (length basis) i r rs t some))
-          (from_zeros K wide (ZeroRow k) origins syzygies _ none
+          (from_zeros K wide (ZeroRow k) origins syzygies _ empty_sum
           (ap (row_minus K (unit_row K wide k)) (combine-from (λ b. b.cofactor) wide basis (wide_cofactors K s o n a basis good) i (constant K (coefficient_at K r t)) b.0 ∙ b.2) ∙ row_minus_self K (unit_row K wide k) ∙ ap (zero_row K) (length-unit_row K wide k))))
-      left_from i k (r ∷ rs) (inr (t, some, b, none, h)) (suc j) m e lt =
+      left_from i k (r ∷ rs) (inr (t, some, b, empty_sum, h)) (suc j) m e lt =
           subst (λ rows. Left m (row_at rows (suc j))) (sym (from_rows-some o (length basis) i r rs t some)) (left_from (suc i) (suc k) rs h j m (omega arith) (omega arith))
 
-    pub keeps : AreLong K n a → (st : State K) → Holds K s o n a st → IsKept K s o n a st
+    pub keeps : AreLong K n a → (st : State K) → Holds K s o n a st → IsStateOf K s o n a st
     keeps long st h = record {
       basis = h.basis;
       syzygies = h.syzygies;
       to_is = to_right K s o n a st.basis h.basis;
       from_is = from_right st.basis h.basis st.origins st.syzygies 0 0 a long h.back;
-      left = λ k l. left_from st.basis h.basis st.origins st.syzygies 0 0 a h.back k k (let z : k ≡ 0 + k = omega arith in z) l;
+      remainders = λ k l. left_from st.basis h.basis st.origins st.syzygies 0 0 a h.back k k (let z : k ≡ 0 + k = omega arith in z) l;
       many = h.many;
       places = h.places;
-      once = is_once K s o n (rows_of st.basis) (map (λ b. b.lead) st.basis) [] st.listed h.lines.lawful;
+      once = is_once K s o n (basis_rows st.basis) (map (λ b. b.lead) st.basis) [] st.listed h.entries.lawful;
     }

@@ -9,7 +9,7 @@ use Rattle.std.specs.declared.option.Option.TheVariants.{None, Some}
 use Rattle.std.specs.List.{All}
 use Rattle.std.proofs.lemmas.List.{map-append}
 use Rattle.std.proofs.lemmas.List.Elements.{All-nil, All-head}
-use Rattle.ore_algebra.specs.Free.{none}
+use Rattle.ore_algebra.specs.Free.{empty_sum}
 use Rattle.ore_rational.proofs.FractionLaws.{rationals}
 use Rattle.ore_monomial.specs.Monomial.{plain_cmp}
 use Rattle.ore_monomial.specs.Signature.{Signature}
@@ -20,11 +20,11 @@ use Rattle.ore_rows.specs.Reduction.{Monic, IsMonic, AreMonic, leads_of}
 use Rattle.ore_rows.specs.RowLead.{IsRowLead}
 use Rattle.ore_rows.specs.Rows.{Row}
 use Rattle.ore_rows.specs.Stored.{OperatorMatrix, sums_of}
-use Rattle.ore_rows.specs.StoredBasis.{AllBelong, monic_of, monics}
+use Rattle.ore_rows.specs.StoredBasis.{AllBelong, HaveLeads, monic_of, monics}
 use Rattle.ore_rows.proofs.BasisParts.{leads_monics}
-use Rattle.ore_rows.proofs.StoredBases.{no_lead_of_zeros}
+use Rattle.ore_rows.proofs.StoredBases.{are_monic, no_lead_of_zeros}
 use Rattle.ore_groebner.specs.Honest.{shown_in}
-use Rattle.ore_groebner.specs.Progressing.{state_of, IsKept}
+use Rattle.ore_groebner.specs.RunProgress.{state_of, IsProgressOf}
 use Rattle.ore_groebner.specs.Shown.{order_in, shown_of, IsGrownFrom}
 use Rattle.ore_groebner.specs.declared.progress.Progress.{Progress}
 
@@ -34,7 +34,7 @@ module _ (s : Signature) where
   order_in-kept (b ∷ items) belongs monic h = by b.row refl
     where
       by : (row : List Ordered) → b.row ≡ row → ◌≡◌ {A = Option Order} (elim row [ [] ↦ None | f ∷ fs ↦ Some f.by ]) (Some s.order)
-      by [] e = absurd (no_lead_of_zeros s.order [] b.lead rationals.one (All-nil (λ (f : Ordered). f.sum ≡ none rationals plain_cmp)) (subst (λ (r : List Ordered). IsRowLead rationals s.order (sums_of r) b.lead rationals.one) e (All-head (IsMonic rationals s.order) (monic_of b) (map monic_of items) monic)))
+      by [] e = absurd (no_lead_of_zeros s.order [] b.lead rationals.one (All-nil (λ (f : Ordered). f.sum ≡ empty_sum rationals plain_cmp)) (subst (λ (r : List Ordered). IsRowLead rationals s.order (sums_of r) b.lead rationals.one) e (All-head (IsMonic rationals s.order) (monic_of b) (map monic_of items) monic)))
       by (f ∷ fs) e = ap Some (All-head (Belongs s) f fs (subst (All (Belongs s)) e (All-head (λ (b : Monic (List Ordered)). All (Belongs s) b.row × All (Belongs s) b.cofactor) b items belongs).0)).order
 
   nil_front : {X : Type 0} (xs ys : List X) → xs ++ ys ≡ [] → xs ≡ []
@@ -44,8 +44,8 @@ module _ (s : Signature) where
       cons_nil : {X : Type 0} {x : X} {xs : List X} → x ∷ xs ≡ [] → ⊥
       cons_nil e = cc
 
-  pub grown_shown : (p q : Progress) (rest : List (Monic (Row rationals))) → IsKept s p → IsKept s q → monics q.basis ≡ monics p.basis ++ rest → IsGrownFrom (shown_of p.basis) q.basis
-  grown_shown p q rest before after e = ((leads_of rest, leads), λ n. order_in-kept q.basis.items after.belongs after.monic (λ z. n (nil_front _ _ (sym leads ∙ z))) ∙ sym (order_in-kept p.basis.items before.belongs before.monic n))
+  pub grown_shown : (p q : Progress) (rest : List (Monic (Row rationals))) → IsProgressOf s p → IsProgressOf s q → HaveLeads p.basis.items → HaveLeads q.basis.items → monics q.basis ≡ monics p.basis ++ rest → IsGrownFrom (shown_of p.basis) q.basis
+  grown_shown p q rest before after leads_before leads_after e = ((leads_of rest, leads), λ n. order_in-kept q.basis.items after.belongs (are_monic s q.basis after.belongs leads_after) (λ z. n (nil_front _ _ (sym leads ∙ z))) ∙ sym (order_in-kept p.basis.items before.belongs (are_monic s p.basis before.belongs leads_before) n))
     where
       leads : leads_of q.basis.items ≡ leads_of p.basis.items ++ leads_of rest
       leads =
@@ -61,5 +61,5 @@ module _ (s : Signature) where
       cons_nil : {X : Type 0} {x : X} {xs : List X} → x ∷ xs ≡ [] → ⊥
       cons_nil e = cc
 
-  pub shown_in-state : (a : OperatorMatrix) (p : Progress) → IsKept s p → shown_in s (state_of p) ≡ shown_of p.basis
-  shown_in-state a p kept = λ n. record { order = order_of_state p.basis.items kept.belongs kept.monic n; leads = leads_monics p.basis.items n }
+  pub shown_in-state : (a : OperatorMatrix) (p : Progress) → IsProgressOf s p → HaveLeads p.basis.items → shown_in s (state_of p) ≡ shown_of p.basis
+  shown_in-state a p kept have = λ n. record { order = order_of_state p.basis.items kept.belongs (are_monic s p.basis kept.belongs have) n; leads = leads_monics p.basis.items n }

@@ -2,8 +2,8 @@
 --     IsLonger        a state has basis rows behind those of another, no more than so many
 --     bound           the two parts of what goes on with a value
 --     with_row_longer, settle_longer, treat_longer    treating a pair makes such a state
---     step_longer     so does a choice
-use Rattle.std.proofs.Common.{◌≡◌, ℕ, ◌≤◌, Bool, true, false, cond, List, [], ◌∷◌, ◌++◌, length, refl, sym, ap, ◌∙◌, arith}
+--     follow_longer, step_longer     so does a choice
+use Rattle.std.proofs.Common.{◌≡◌, ℕ, ◌≤◌, List, [], ◌∷◌, ◌++◌, length, refl, sym, ap, ◌∙◌, arith}
 use Rattle.std.specs.declared.option.Option.{Option}
 use Rattle.std.specs.declared.option.Option.TheVariants.{None, Some}
 use Rattle.std.specs.declared.result.Result.{Result}
@@ -18,25 +18,18 @@ use Rattle.ore_rows.specs.Arithmetic.{Arithmetic, within}
 use Rattle.ore_rows.specs.Reduction.{Monic, Work, reduce}
 use Rattle.ore_rows.specs.RowLead.{coefficient_at, row_lead}
 use Rattle.ore_rows.specs.Rows.{Row}
-use Rattle.ore_pairs.specs.Run.{State, Refusal, Unlawful, open_pair, may_skip, listing, stopping, s_row, made_monic, with_syzygy, with_row, settle, treat, step}
+use Rattle.ore_pairs.specs.Run.{State, entries_with, s_rows, monic_multiple, with_syzygy, with_row, settle, treat, follow}
 use Rattle.ore_rows.specs.declared.choices.Choice.{Choice}
 use Rattle.ore_pairs.specs.PairList as pair
 use Rattle.ore_rows.specs.declared.choices.Choice.TheVariants.{Treat, Skip}
+use Rattle.ore_course.specs.Choices as course
 use Rattle.ore_groebner.specs.Choosing.{treats}
 use Rattle.ore_groebner.specs.Following.{step_of}
-use Rattle.ore_groebner.proofs.Limited.{refused, given}
+use Rattle.ore_groebner.proofs.Limited.{step_given}
+use Rattle.ore_algebra.proofs.ResultLaws.{no_ok, same_ok, bound}
 
 abbrev pub IsLonger : State rationals → State rationals → ℕ → Type 0
 IsLonger st next n = (rest : List (Monic (Row rationals))) × (next.basis ≡ st.basis ++ rest) × (length rest ≤ n)
-
-bound : {X Y : Type 0} (r : Result X Cause) (f : X → Result Y Cause) (y : Y) → (r >>= f) ≡ Ok y → (x : X) × (r ≡ Ok x) × (f x ≡ Ok y)
-bound (Ok x) f y e = (x, refl, e)
-bound (Err c) f y e = absurd (refused e)
-
-stopping_ok : {X : Type 0} (r : Result X Cause) (x : X) → stopping r ≡ Ok x → r ≡ Ok x
-unfolding stopping
-stopping_ok (Ok y) x e = ap Ok (given y x e)
-stopping_ok (Err c) x e = absurd (refused e)
 
 module _ (s : Signature) (st next : State rationals) where
   abbrev arithmetic : Arithmetic rationals
@@ -48,37 +41,28 @@ module _ (s : Signature) (st next : State rationals) where
   with_row_longer : (i j : ℕ) (w : Work rationals) (t : Term) → with_row rationals rational_inverses arithmetic st i j w t ≡ Ok next → IsLonger st next 1
   unfolding with_row
   with_row_longer i j w t e =
-      let x = bound (made_monic rationals rational_inverses arithmetic w.row w.cofactor t) (λ b. Ok (record { basis = st.basis ++ b ∷ []; listed = listing rationals st (pair.Pair i j (w.steps ++ record { index = length st.basis; monomial = unit; number = coefficient_at rationals w.row t } ∷ [])); syzygies = st.syzygies; origins = st.origins })) next e in
-      (x.0 ∷ [], ap (λ (q : State rationals). q.basis) (sym (given _ next x.2)), omega arith)
+      let x = bound (monic_multiple rationals rational_inverses arithmetic w.row w.cofactor t) (λ b. Ok (record { basis = st.basis ++ b ∷ []; listed = entries_with rationals st (pair.Pair i j (w.steps ++ record { index = length st.basis; monomial = unit; number = coefficient_at rationals w.row t } ∷ [])); syzygies = st.syzygies; origins = st.origins })) next e in
+      (x.0 ∷ [], ap (λ (q : State rationals). q.basis) (sym (same_ok _ next x.2)), omega arith)
 
   settle_longer : (i j : ℕ) (w : Work rationals) → settle rationals rational_inverses s.order arithmetic st i j w ≡ Ok next → IsLonger st next 1
   unfolding settle with_syzygy
   settle_longer i j w e = by (row_lead rationals s.order w.row) e
     where
       by : (x : Option Term) → ◌≡◌ {A = Result (State rationals) Cause} (elim x [ None ↦ Ok (with_syzygy rationals s.order st i j w) | Some t ↦ with_row rationals rational_inverses arithmetic st i j w t ]) (Ok next) → IsLonger st next 1
-      by None e = no_longer 1 (ap (λ (q : State rationals). q.basis) (sym (given (with_syzygy rationals s.order st i j w) next e)))
+      by None e = no_longer 1 (ap (λ (q : State rationals). q.basis) (sym (same_ok (with_syzygy rationals s.order st i j w) next e)))
       by (Some t) e = with_row_longer i j w t e
 
-  treat_longer : (i j : ℕ) (a b : Monic (Row rationals)) → treat rationals rational_inverses s.order arithmetic st i j a b ≡ Ok next → IsLonger st next 1
+  treat_longer : (i j : ℕ) → treat rationals rational_inverses s.order arithmetic st i j ≡ Ok next → IsLonger st next 1
   unfolding treat
-  treat_longer i j a b e =
-      let x = bound (s_row rationals arithmetic a b) (λ start. reduce rationals s.order arithmetic st.basis start >>= λ rest. settle rationals rational_inverses s.order arithmetic st i j rest) next e in
+  treat_longer i j e =
+      let x = bound (s_rows rationals arithmetic st.basis i j) (λ start. reduce rationals s.order arithmetic st.basis start >>= λ rest. settle rationals rational_inverses s.order arithmetic st i j rest) next e in
       let y = bound (reduce rationals s.order arithmetic st.basis x.0) (λ rest. settle rationals rational_inverses s.order arithmetic st i j rest) next x.2 in
       settle_longer i j y.0 y.2
 
-  pub step_longer : (c : Choice) → step_of s st c ≡ Ok next → IsLonger st next (treats (c ∷ []))
-  unfolding step treats
-  step_longer (Treat i j) e = by (open_pair rationals st i j) e
-    where
-      by : (x : Option (Monic (Row rationals) × Monic (Row rationals))) → ◌≡◌ {A = Result (State rationals) Refusal} (elim x [ None ↦ Err Unlawful | Some p ↦ stopping (treat rationals rational_inverses s.order arithmetic st i j p.0 p.1) ]) (Ok next) → IsLonger st next 1
-      by None e = absurd (refused e)
-      by (Some p) e = treat_longer i j p.0 p.1 (stopping_ok _ next e)
-  step_longer (Skip i j via) e = by (open_pair rationals st i j) e
-    where
-      chosen : (c : Bool) → ◌≡◌ {A = Result (State rationals) Refusal} (cond c (Ok (record st { listed = listing rationals st (pair.Skip i j via) })) (Err Unlawful)) (Ok next) → IsLonger st next 0
-      chosen false e = absurd (refused e)
-      chosen true e = no_longer 0 (ap (λ (q : State rationals). q.basis) (sym (given _ next e)))
+  follow_longer : (c : Choice) → follow rationals rational_inverses s.order arithmetic st c ≡ Ok next → IsLonger st next (treats (c ∷ []))
+  unfolding follow course.treats course.cost
+  follow_longer (Treat i j) e = treat_longer i j e
+  follow_longer (Skip i j via) e = no_longer 0 (ap (λ (q : State rationals). q.basis) (sym (same_ok _ next e)))
 
-      by : (x : Option (Monic (Row rationals) × Monic (Row rationals))) → ◌≡◌ {A = Result (State rationals) Refusal} (elim x [ None ↦ Err Unlawful | Some p ↦ cond (may_skip rationals st i j p.0 p.1 via) (Ok (record st { listed = listing rationals st (pair.Skip i j via) })) (Err Unlawful) ]) (Ok next) → IsLonger st next 0
-      by None e = absurd (refused e)
-      by (Some p) e = chosen (may_skip rationals st i j p.0 p.1 via) e
+  pub step_longer : (c : Choice) → step_of s st c ≡ Ok next → IsLonger st next (treats (c ∷ []))
+  step_longer c e = follow_longer c (step_given rationals rational_inverses s.order arithmetic st next c e).1

@@ -1,18 +1,17 @@
 -- Rows that are made monic.
 --     fits_inverse          the inverse of a fraction in the range is in the range
 --     inverse_is            the inverse that the definition of a run takes
---     made_first, made_second, made_gives      what making a row monic gives
+--     made_first, made_second, made_gives      where making a row monic stops, and what it gives
 --     lead_is_one           the lead coefficient of what is made is 1
---     map_push              a function of each item, with one more
---     basis_pushed, same_lead     one more basis row
-use Rattle.std.proofs.Common.{◌≡◌, ◌≢◌, ℕ, ◌<◌, ◌^◌, true, List, [], ◌∷◌, ◌++◌, map, ℤ, pos, negsuc, ◌<ℤ◌, ◌≤ℤ◌, nat_abs, refl, sym, ap, ◌∙◌, subst, arith}
+--     same_lead             a row has one lead
+--     monics_pushed, pushed_gives     one more basis row
+use Rattle.std.proofs.Common.{◌≡◌, ◌≢◌, ℕ, ◌<◌, ◌^◌, true, List, [], ◌∷◌, ◌++◌, ℤ, pos, negsuc, ◌<ℤ◌, ◌≤ℤ◌, nat_abs, refl, sym, ap, ◌∙◌, subst, arith}
 use Rattle.std.specs.Prelude.{◌&&◌, nat_le, IsTrue}
-use Rattle.std.specs.List.{All}
 use Rattle.std.specs.declared.result.Result.{Result}
 use Rattle.std.specs.declared.result.Result.TheVariants.{Ok, Err}
 use Rattle.std.proofs.lemmas.Bool.Decides.{nat_tests}
 use Rattle.std.proofs.lemmas.Int.{ints}
-use Rattle.std.proofs.lemmas.List.Elements.{All-push}
+use Rattle.std.proofs.lemmas.List.{map-append}
 use Rattle.ore_algebra.specs.Free.{single}
 use Rattle.ore_algebra.specs.Limits.{Cause, program, ◌>>=◌}
 use Rattle.ore_algebra.proofs.DomainLaws
@@ -27,18 +26,16 @@ use Rattle.ore_monomial.specs.Signature.{Signature}
 use Rattle.ore_monomial.specs.Term.{Term, shift}
 use Rattle.ore_monomial.proofs.Monomials.{product-unit}
 use Rattle.ore_monomial.proofs.Signatures.{lawful}
-use Rattle.ore_ring.specs.Belongs.{Belongs}
 use Rattle.ore_ring.specs.Ordered.{Ordered}
 use Rattle.ore_rows.specs.Arithmetic.{within, scaled}
-use Rattle.ore_rows.specs.Reduction.{Monic, IsMonic, AreMonic}
+use Rattle.ore_rows.specs.Reduction.{Monic}
 use Rattle.ore_rows.specs.RowLead.{IsRowLead, coefficient_at}
 use Rattle.ore_rows.specs.Rows.{Row, row_scale}
-use Rattle.ore_pairs.specs.Run.{constant, inverse_of, made_monic}
-use Rattle.ore_rows.specs.Stored.{sums_of}
-use Rattle.ore_rows.specs.StoredBasis.{StoredBasis, AllBelong, monic_of, monics}
+use Rattle.ore_pairs.specs.Run.{constant, inverse_of, monic_multiple}
+use Rattle.ore_rows.specs.StoredBasis.{StoredBasis, monic_of, monics}
 use Rattle.ore_rows.proofs.RowLeads.{one_row_lead, lead-row_scale_term}
 use Rattle.ore_rows.proofs.WithinValues.{scale_value}
-use Rattle.ore_groebner.specs.Progressing.{monic_with, pushed}
+use Rattle.ore_groebner.specs.RunProgress.{monic_with, basis_with}
 
 -- ---- the inverse
 
@@ -74,9 +71,9 @@ fits_inverse p n h k = subst (λ q. fits program q ≡ true) (sym (DomainLaws.on
 
 pub inverse_is : (k : Fraction) → k ≢ whole (pos 0) → inverse_of rationals rational_inverses k ≡ inverse k
 unfolding inverse_of
-inverse_is k n = by (rationals.discrete k rationals.none)
+inverse_is k n = by (rationals.discrete k rationals.zero)
   where
-    by : (d : Dec (k ≡ rationals.none)) → elim d [ yes e ↦ rationals.none | no m ↦ inverse k ] ≡ inverse k
+    by : (d : Dec (k ≡ rationals.zero)) → elim d [ yes e ↦ rationals.zero | no m ↦ inverse k ] ≡ inverse k
     by (yes e) = absurd (n e)
     by (no m) = refl
 
@@ -86,17 +83,17 @@ module _ (s : Signature) (row cofactor : Row rationals) (t : Term) (k : Fraction
   same : f ≡ constant rationals (inverse_of rationals rational_inverses (coefficient_at rationals row t))
   same = factor ∙ ap (single rationals plain_cmp unit) (sym (inverse_is k lead.apart) ∙ ap (inverse_of rationals rational_inverses) (sym lead.stands))
 
-  as_scaled : made_monic rationals rational_inverses (within program s) row cofactor t ≡ (scaled rationals (within program s) f row >>= λ r. scaled rationals (within program s) f cofactor >>= λ q. Ok (record { row = r; cofactor = q; lead = t }))
-  unfolding made_monic
+  as_scaled : monic_multiple rationals rational_inverses (within program s) row cofactor t ≡ (scaled rationals (within program s) f row >>= λ r. scaled rationals (within program s) f cofactor >>= λ q. Ok (record { row = r; cofactor = q; lead = t }))
+  unfolding monic_multiple
   as_scaled = λ i. scaled rationals (within program s) (sym same i) row >>= λ r. scaled rationals (within program s) (sym same i) cofactor >>= λ q. Ok (record { row = r; cofactor = q; lead = t })
 
-  pub made_first : (c : Cause) → scaled rationals (within program s) f row ≡ Err c → made_monic rationals rational_inverses (within program s) row cofactor t ≡ Err c
+  pub made_first : (c : Cause) → scaled rationals (within program s) f row ≡ Err c → monic_multiple rationals rational_inverses (within program s) row cofactor t ≡ Err c
   made_first c e = as_scaled ∙ (λ i. e i >>= λ r. scaled rationals (within program s) f cofactor >>= λ q. Ok (record { row = r; cofactor = q; lead = t }))
 
-  pub made_second : (r : Row rationals) (c : Cause) → scaled rationals (within program s) f row ≡ Ok r → scaled rationals (within program s) f cofactor ≡ Err c → made_monic rationals rational_inverses (within program s) row cofactor t ≡ Err c
+  pub made_second : (r : Row rationals) (c : Cause) → scaled rationals (within program s) f row ≡ Ok r → scaled rationals (within program s) f cofactor ≡ Err c → monic_multiple rationals rational_inverses (within program s) row cofactor t ≡ Err c
   made_second r c e h = as_scaled ∙ (λ i. e i >>= λ r. h i >>= λ q. Ok (record { row = r; cofactor = q; lead = t }))
 
-  pub made_gives : (r q : Row rationals) → scaled rationals (within program s) f row ≡ Ok r → scaled rationals (within program s) f cofactor ≡ Ok q → made_monic rationals rational_inverses (within program s) row cofactor t ≡ Ok (record { row = r; cofactor = q; lead = t })
+  pub made_gives : (r q : Row rationals) → scaled rationals (within program s) f row ≡ Ok r → scaled rationals (within program s) f cofactor ≡ Ok q → monic_multiple rationals rational_inverses (within program s) row cofactor t ≡ Ok (record { row = r; cofactor = q; lead = t })
   made_gives r q e h = as_scaled ∙ (λ i. e i >>= λ r. h i >>= λ q. Ok (record { row = r; cofactor = q; lead = t }))
 
   pub lead_is_one : (r : Row rationals) → scaled rationals (within program s) f row ≡ Ok r → IsRowLead rationals s.order r t rationals.one
@@ -111,27 +108,17 @@ module _ (s : Signature) (row cofactor : Row rationals) (t : Term) (k : Fraction
       product : rationals.times (inverse k) k ≡ rationals.one
       product = rationals.times_comm (inverse k) k ∙ mul-inverse k lead.apart
 
-      apart : inverse k ≢ rationals.none
-      apart z = rationals.one_apart (sym product ∙ ap (λ x. rationals.times x k) z ∙ DomainLaws.none_times rationals k)
+      apart : inverse k ≢ rationals.zero
+      apart z = rationals.one_apart (sym product ∙ ap (λ x. rationals.times x k) z ∙ DomainLaws.zero_times rationals k)
 
 -- ---- one more basis row
-
-pub map_push : {A B : Type 0} (f : A → B) (xs : List A) (x : A) → map f (xs ++ x ∷ []) ≡ map f xs ++ f x ∷ []
-map_push f [] x = refl
-map_push f (y ∷ xs) x = λ i. f y ∷ map_push f xs x i
 
 pub same_lead : (s : Signature) (r : Row rationals) (t u : Term) → IsRowLead rationals s.order r t rationals.one → IsRowLead rationals s.order r u rationals.one → t ≡ u
 same_lead s r t u h k = (one_row_lead rationals s.order r t u rationals.one rationals.one h k).0
 
 module _ (s : Signature) (b c : StoredBasis) (r q : List Ordered) (u : Term) (grown : c ≡ record b { items = b.items ++ record { row = r; cofactor = q; lead = u } ∷ [] }) where
   pub monics_pushed : monics c ≡ monics b ++ monic_with u (r, q) ∷ []
-  monics_pushed = ap monics grown ∙ map_push monic_of b.items (record { row = r; cofactor = q; lead = u })
+  monics_pushed = ap monics grown ∙ map-append monic_of b.items (record { row = r; cofactor = q; lead = u } ∷ [])
 
-  pub pushed_gives : (t : Term) (made : Result (Monic (Row rationals)) Cause) → u ≡ t → made ≡ Ok (monic_with t (r, q)) → pushed (monics b) made ≡ Ok (monics c)
-  pushed_gives t made e h = ap (pushed (monics b)) h ∙ ap Ok (sym (monics_pushed ∙ ap (λ v. monics b ++ monic_with v (r, q) ∷ []) e))
-
-  pub belong_pushed : AllBelong s b.items → All (Belongs s) r → All (Belongs s) q → AllBelong s c.items
-  belong_pushed h x y = subst (λ (d : StoredBasis). AllBelong s d.items) (sym grown) (All-push (λ (m : Monic (List Ordered)). All (Belongs s) m.row × All (Belongs s) m.cofactor) b.items (record { row = r; cofactor = q; lead = u }) h (x, y))
-
-  pub monic_pushed : AreMonic rationals s.order (monics b) → IsRowLead rationals s.order (sums_of r) u rationals.one → AreMonic rationals s.order (monics c)
-  monic_pushed h x = subst (AreMonic rationals s.order) (sym monics_pushed) (All-push (IsMonic rationals s.order) (monics b) (monic_with u (r, q)) h x)
+  pub pushed_gives : (t : Term) (made : Result (Monic (Row rationals)) Cause) → u ≡ t → made ≡ Ok (monic_with t (r, q)) → basis_with (monics b) made ≡ Ok (monics c)
+  pushed_gives t made e h = ap (basis_with (monics b)) h ∙ ap Ok (sym (monics_pushed ∙ ap (λ v. monics b ++ monic_with v (r, q) ∷ []) e))

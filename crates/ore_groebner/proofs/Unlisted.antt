@@ -9,15 +9,15 @@ use Rattle.std.proofs.Common.{◌≡◌, ℕ, zero, suc, ◌+◌, ◌<◌, ◌�
 use Rattle.std.proofs.Common.{inl, inr}
 use Rattle.std.specs.Prelude.{◌⊎◌}
 use Rattle.std.proofs.lemmas.Bool.{cases_eq}
-use Rattle.ore_pairs.specs.Listed.{is_in}
+use Rattle.ore_pairs.specs.PairRule.{is_listed}
 
 abbrev pub Keeps : List (ℕ × ℕ) → List (ℕ × ℕ) → Type 0
-Keeps ps qs = (x y : ℕ) → is_in x y ps ≡ true → is_in x y qs ≡ true
+Keeps ps qs = (x y : ℕ) → is_listed x y ps ≡ true → is_listed x y qs ≡ true
 
 -- of the pairs of j and a lesser row, of n
 unfoldable pub unlisted_in : List (ℕ × ℕ) → ℕ → ℕ → ℕ
 unlisted_in ps j zero = 0
-unlisted_in ps j (suc n) = cond (is_in n j ps) 0 1 + unlisted_in ps j n
+unlisted_in ps j (suc n) = cond (is_listed n j ps) 0 1 + unlisted_in ps j n
 
 unfoldable pub unlisted : List (ℕ × ℕ) → ℕ → ℕ
 unlisted ps zero = 0
@@ -46,22 +46,22 @@ module _ (ps qs : List (ℕ × ℕ)) (keeps : Keeps ps qs) where
   row_less : (j n : ℕ) → unlisted_in qs j n ≤ unlisted_in ps j n
   unfolding unlisted_in
   row_less j zero = omega arith
-  row_less j (suc n) = sum_less _ _ _ _ (cond_less (is_in n j ps) (is_in n j qs) (keeps n j)) (row_less j n)
+  row_less j (suc n) = sum_less _ _ _ _ (cond_less (is_listed n j ps) (is_listed n j qs) (keeps n j)) (row_less j n)
 
   all_less : (n : ℕ) → unlisted qs n ≤ unlisted ps n
   unfolding unlisted
   all_less zero = omega arith
   all_less (suc n) = sum_less _ _ _ _ (row_less n n) (all_less n)
 
-  module _ (i j : ℕ) (before : is_in i j ps ≡ false) (after : is_in i j qs ≡ true) where
+  module _ (i j : ℕ) (before : is_listed i j ps ≡ false) (after : is_listed i j qs ≡ true) where
     row_fewer : (n : ℕ) → i < n → unlisted_in qs j n < unlisted_in ps j n
     unfolding unlisted_in
     row_fewer zero h = absurd (omega arith)
     row_fewer (suc n) h = by (cases_eq i n) (λ (k : i < n). row_fewer n k)
       where
-        by : (i ≡ n) ⊎ (i ≡ n → ⊥) → (i < n → unlisted_in qs j n < unlisted_in ps j n) → cond (is_in n j qs) 0 1 + unlisted_in qs j n < cond (is_in n j ps) 0 1 + unlisted_in ps j n
-        by (inl e) more = sum_fewer_left _ _ _ _ (cond_fewer (is_in n j ps) (is_in n j qs) (ap (λ m. is_in m j ps) (sym e) ∙ before) (ap (λ m. is_in m j qs) (sym e) ∙ after)) (row_less j n)
-        by (inr d) more = sum_fewer_right _ _ _ _ (cond_less (is_in n j ps) (is_in n j qs) (keeps n j)) (more (omega arith))
+        by : (i ≡ n) ⊎ (i ≡ n → ⊥) → (i < n → unlisted_in qs j n < unlisted_in ps j n) → cond (is_listed n j qs) 0 1 + unlisted_in qs j n < cond (is_listed n j ps) 0 1 + unlisted_in ps j n
+        by (inl e) more = sum_fewer_left _ _ _ _ (cond_fewer (is_listed n j ps) (is_listed n j qs) (ap (λ m. is_listed m j ps) (sym e) ∙ before) (ap (λ m. is_listed m j qs) (sym e) ∙ after)) (row_less j n)
+        by (inr d) more = sum_fewer_right _ _ _ _ (cond_less (is_listed n j ps) (is_listed n j qs) (keeps n j)) (more (omega arith))
 
     pub unlisted-fewer : (n : ℕ) → i < j → j < n → unlisted qs n < unlisted ps n
     unfolding unlisted
@@ -87,7 +87,7 @@ unlisted-longer ps m (suc n) h = by (cases_eq m (suc n)) (λ (l : m ≤ n). unli
     by (inl e) more = same _ _ (ap (unlisted ps) e)
     by (inr d) more = less _ (unlisted_in ps n n) _ (more (omega arith))
 
-pub unlisted-smaller : (ps qs : List (ℕ × ℕ)) (i j m n : ℕ) → Keeps ps qs → is_in i j ps ≡ false → is_in i j qs ≡ true → i < j → j < n → m ≤ n → unlisted qs m < unlisted ps n
+pub unlisted-smaller : (ps qs : List (ℕ × ℕ)) (i j m n : ℕ) → Keeps ps qs → is_listed i j ps ≡ false → is_listed i j qs ≡ true → i < j → j < n → m ≤ n → unlisted qs m < unlisted ps n
 unlisted-smaller ps qs i j m n keeps before after h k l = less _ _ _ (unlisted-longer qs m n l) (unlisted-fewer ps qs keeps i j before after n h k)
   where
     less : (a b c : ℕ) → a ≤ b → b < c → a < c

@@ -1,34 +1,27 @@
 -- What a chooser answers, and the choices that it has given, run by run; the present run is the last.
 --     first_of, second_of       the pair of a choice
---     pairs_of                  the pairs of some choices, in order
---     is_chosen                 a pair is that of some choice
+--     chosen_pairs              the pairs of some choices, in order
 --     treats, treats_in         how many pairs some choices, and some runs, treat
---     present, with_choice      the choices of the present run; one more of them
---     next_kept                 of the kept choices the one whose turn it is
+--     present, with_choice      the choices of the present run; one more of them (Choices of ore_course)
+--     next_kept                 of the kept choices the one whose turn it is (there too)
 --     given_after               the runs after an answer
 --     BeginsWith                a list begins with another (Shown)
+--     Settings                  what no call of a chooser changes: its budget, whether it replays, and what it keeps
 --     IsPrefixOfKept            the choices given are some of the first that are kept, run by run
---     ListsChoices              the pairs that are listed are those of some choices
---     IsOpen, HasOpen           a pair may be chosen; some pair may
---     MaySkip                   the definition of a run allows to skip a pair by a third row
---     IsLawful                  a choice that the definition of a run allows
---     AreAllListed              each pair with equal lead columns is listed
 --     IsAfforded, AreAfforded   the budget allows a choice; it allowed all that were given
 --     IsAnswer                  what is known where an answer is given
-use Rattle.std.specs.Prelude.{◌≡◌, ℕ, suc, ◌+◌, ◌-◌, ◌<◌, ◌≤◌, Bool, true, false, ◌&&◌, ◌||◌, nat_eq, List, [], ◌∷◌, ◌++◌, length, map, get_or, IfSome}
-use Rattle.std.specs.List.{slice_get}
-use Rattle.std.specs.declared.option.Option.{Option}
+use Rattle.std.specs.Prelude.{◌≡◌, ℕ, ◌<◌, ◌≤◌, Bool, true, false, List, [], map, get_or, IfSome}
 use Rattle.std.specs.declared.result.Result.{Result}
 use Rattle.std.specs.declared.result.Result.TheVariants.{Ok, Err}
-use Rattle.ore_rational.proofs.FractionLaws.{rationals}
+unfoldable pub use Rattle.ore_course.specs.Choices.{present, with_choice}
+pub use Rattle.ore_course.specs.Choices.{next_kept}
+use Rattle.ore_course.specs.Choices as course
+use Rattle.ore_monomial.specs.Term.{Term}
 use Rattle.ore_monomial.specs.declared.stop.NoMemory.{NoMemory}
-use Rattle.ore_rows.specs.Reduction.{Monic, lead_at}
-use Rattle.ore_rows.specs.Rows.{Row}
-use Rattle.ore_pairs.specs.Run.{State, may_skip}
-use Rattle.ore_rows.specs.StoredBasis.{StoredBasis, monics}
 use Rattle.ore_rows.specs.declared.choices.Choice.{Choice}
 use Rattle.ore_rows.specs.declared.choices.Choice.TheVariants.{Treat, Skip}
-use Rattle.ore_pairs.specs.Listed.{is_in, AreAt, HasPairsOf}
+use Rattle.ore_pairs.specs.PairRule.{is_lawful, AreAllListed, HasUnlisted}
+use Rattle.ore_pairs.specs.Runner.{treats_pair}
 pub use Rattle.ore_groebner.specs.Shown.{BeginsWith}
 use Rattle.ore_groebner.specs.declared.chooser.Next.{Next}
 use Rattle.ore_groebner.specs.declared.chooser.Next.TheVariants.{Choose, Complete, Spent, NoLawful}
@@ -44,37 +37,16 @@ second_of (Treat i j) = j
 second_of (Skip i j via) = j
 
 -- in the order of the choices
-abbrev pub pairs_of : List Choice → List (ℕ × ℕ)
-pairs_of cs = map (λ c. (first_of c, second_of c)) cs
+abbrev pub chosen_pairs : List Choice → List (ℕ × ℕ)
+chosen_pairs cs = map (λ c. (first_of c, second_of c)) cs
 
-unfoldable pub is_chosen : ℕ → ℕ → List Choice → Bool
-is_chosen i j [] = false
-is_chosen i j (c ∷ cs) = (nat_eq i (first_of c) && nat_eq j (second_of c)) || is_chosen i j cs
+-- how many of the choices treat a pair
+abbrev pub treats : List Choice → ℕ
+treats cs = course.treats treats_pair cs
 
-unfoldable pub treats : List Choice → ℕ
-treats [] = 0
-treats (Treat i j ∷ cs) = suc (treats cs)
-treats (Skip i j via ∷ cs) = treats cs
-
-unfoldable pub treats_in : List (List Choice) → ℕ
-treats_in [] = 0
-treats_in (cs ∷ runs) = treats cs + treats_in runs
-
--- the last run; none where there is no run
-unfoldable pub present : List (List Choice) → List Choice
-present [] = []
-present (cs ∷ []) = cs
-present (cs ∷ ds ∷ runs) = present (ds ∷ runs)
-
--- the choice stands at the end of the last run
-unfoldable pub with_choice : List (List Choice) → Choice → List (List Choice)
-with_choice [] c = []
-with_choice (cs ∷ []) c = (cs ++ c ∷ []) ∷ []
-with_choice (cs ∷ ds ∷ runs) c = cs ∷ with_choice (ds ∷ runs) c
-
--- the kept choice at the place in the present run that comes next
-abbrev pub next_kept : List (List Choice) → List (List Choice) → Option Choice
-next_kept kept given = slice_get (get_or kept (length given - 1) []) (length (present given))
+-- how many of the choices of all runs treat a pair
+abbrev pub treats_in : List (List Choice) → ℕ
+treats_in runs = course.treats_in treats_pair runs
 
 -- a choice stands at the end of the present run, and any other answer changes nothing
 abbrev pub given_after : List (List Choice) → Result Next NoMemory → List (List Choice)
@@ -84,38 +56,16 @@ given_after runs (Ok Spent) = runs
 given_after runs (Ok NoLawful) = runs
 given_after runs (Err e) = runs
 
+-- how many pairs the chooser treats in all its runs, whether it gives the choices that it keeps, and these, run by run
+pub record Settings : Type 0 where
+  pub budget : ℕ
+  pub replays : Bool
+  pub kept : List (List Choice)
+
 -- a chooser that doesn't replay keeps nothing; one that does has given, in each run, a front of what it keeps for it
-pub record IsPrefixOfKept (replays : Bool) (kept given : List (List Choice)) : Type 0 where
-  pub keeps_none : replays ≡ false → kept ≡ []
-  pub gives_kept : replays ≡ true → (k : ℕ) → BeginsWith (get_or kept k []) (get_or given k [])
-
--- the pairs that are listed are those of the choices
-abbrev pub ListsChoices : List (ℕ × ℕ) → List Choice → Type 0
-ListsChoices ps cs = (i j : ℕ) → is_in i j ps ≡ is_chosen i j cs
-
--- ---- what may be chosen
-
--- two basis rows in order, with equal lead columns, whose pair isn't listed
-pub record IsOpen (basis : StoredBasis) (ps : List (ℕ × ℕ)) (i j : ℕ) : Type 0 where
-  pub ordered : i < j
-  pub inside : j < length basis.items
-  pub columns : (lead_at basis.items i).column ≡ (lead_at basis.items j).column
-  pub unlisted : is_in i j ps ≡ false
-
-abbrev pub HasOpen : StoredBasis → List (ℕ × ℕ) → Type 0
-HasOpen basis ps = (i : ℕ) × (j : ℕ) × IsOpen basis ps i j
-
--- in each state with this basis and these pairs the pair may be skipped
-abbrev pub MaySkip : StoredBasis → List (ℕ × ℕ) → ℕ → ℕ → ℕ → Type 0
-MaySkip basis ps i j via = (st : State rationals) (a b : Monic (Row rationals)) → st.basis ≡ monics basis → HasPairsOf rationals st.listed ps → AreAt basis i j a b → may_skip rationals st i j a b via ≡ true
-
-abbrev pub IsLawful : StoredBasis → List (ℕ × ℕ) → Choice → Type 0
-IsLawful basis ps (Treat i j) = IsOpen basis ps i j
-IsLawful basis ps (Skip i j via) = IsOpen basis ps i j × MaySkip basis ps i j via
-
--- each pair with equal lead columns is listed
-abbrev pub AreAllListed : StoredBasis → List (ℕ × ℕ) → Type 0
-AreAllListed basis ps = (i j : ℕ) → i < j → j < length basis.items → (lead_at basis.items i).column ≡ (lead_at basis.items j).column → is_in i j ps ≡ true
+pub record IsPrefixOfKept (settings : Settings) (given : List (List Choice)) : Type 0 where
+  pub keeps_none : settings.replays ≡ false → settings.kept ≡ []
+  pub gives_kept : settings.replays ≡ true → (k : ℕ) → BeginsWith (get_or settings.kept k []) (get_or given k [])
 
 -- ---- answers
 
@@ -129,8 +79,8 @@ abbrev pub AreAfforded : List (List Choice) → ℕ → Type 0
 AreAfforded given budget = treats_in given ≤ budget
 
 -- a lawful choice that the budget allows; nothing is left to choose; the budget is spent; the next kept choice is absent or not lawful
-abbrev pub IsAnswer : StoredBasis → List (ℕ × ℕ) → (given : List (List Choice)) → (budget : ℕ) → (replays : Bool) → (kept : List (List Choice)) → Next → Type 0
-IsAnswer basis ps given budget replays kept (Choose c) = IsLawful basis ps c × IsAfforded given budget c
-IsAnswer basis ps given budget replays kept Complete = AreAllListed basis ps
-IsAnswer basis ps given budget replays kept Spent = HasOpen basis ps × (replays ≡ false) × (treats_in given ≡ budget)
-IsAnswer basis ps given budget replays kept NoLawful = HasOpen basis ps × (replays ≡ true) × IfSome (next_kept kept given) (λ c. ¬ IsLawful basis ps c)
+abbrev pub IsAnswer : List Term → List (ℕ × ℕ) → (given : List (List Choice)) → Settings → Next → Type 0
+IsAnswer leads listed given settings (Choose c) = (is_lawful leads listed c ≡ true) × IsAfforded given settings.budget c
+IsAnswer leads listed given settings Complete = AreAllListed leads listed
+IsAnswer leads listed given settings Spent = HasUnlisted leads listed × (settings.replays ≡ false) × (treats_in given ≡ settings.budget)
+IsAnswer leads listed given settings NoLawful = HasUnlisted leads listed × (settings.replays ≡ true) × IfSome (next_kept settings.kept given) (λ c. is_lawful leads listed c ≡ false)

@@ -18,16 +18,17 @@ use Rattle.ore_algebra.specs.Limits.{Cause, program}
 use Rattle.ore_algebra.specs.Limits as cause
 use Rattle.ore_rational.proofs.FractionLaws.{rationals, rational_inverses}
 use Rattle.ore_monomial.specs.Signature.{Signature}
+use Rattle.ore_monomial.specs.Term.{Term}
 use Rattle.ore_rows.specs.Arithmetic.{within}
+use Rattle.ore_pairs.specs.PairRule.{HaveSamePairs, is_lawful, AreAllListed}
 use Rattle.ore_pairs.specs.Run.{State, Refusal, Stopped}
 use Rattle.ore_pairs.specs.Run as run
 use Rattle.ore_rows.specs.Stored.{OperatorMatrix}
-use Rattle.ore_rows.specs.StoredBasis.{StoredBasis}
 use Rattle.ore_rows.specs.declared.choices.Choice.{Choice}
 use Rattle.ore_rows.specs.declared.choices.Choice.TheVariants as choice
-use Rattle.ore_groebner.specs.Choosing.{first_of, second_of, with_choice, ListsChoices, IsLawful, AreAllListed, IsAfforded, IsAnswer}
-use Rattle.ore_groebner.specs.Honest.{starts, leads, AreAllowed}
-use Rattle.ore_groebner.specs.Progressing.{state_of, choices_of, IsKept, HasShapeOf, Adds}
+use Rattle.ore_groebner.specs.Choosing.{first_of, second_of, chosen_pairs, with_choice, Settings, IsAfforded, IsAnswer}
+use Rattle.ore_groebner.specs.Honest.{first_state, state_after, AreAllowed}
+use Rattle.ore_groebner.specs.RunProgress.{state_of, choices_of, IsProgressOf, HasShapeOf}
 use Rattle.ore_groebner.specs.Shown.{Shown}
 use Rattle.ore_groebner.specs.declared.chooser.Next.TheVariants as next
 use Rattle.ore_groebner.specs.declared.outcome.Halt.{Halt}
@@ -48,21 +49,21 @@ given_with runs None = runs
 given_with runs (Some c) = with_choice runs c
 
 -- a lawful choice that the budget allows, or nothing is left
-abbrev pub IsNext : StoredBasis → List (ℕ × ℕ) → List (List Choice) → ℕ → Option Choice → Type 0
-IsNext basis ps given budget None = AreAllListed basis ps
-IsNext basis ps given budget (Some c) = IsLawful basis ps c × IsAfforded given budget c
+abbrev pub IsNext : List Term → List (ℕ × ℕ) → List (List Choice) → ℕ → Option Choice → Type 0
+IsNext leads listed given budget None = AreAllListed leads listed
+IsNext leads listed given budget (Some c) = (is_lawful leads listed c ≡ true) × IsAfforded given budget c
 
 abbrev pub IsNextAllowed : (Shown → List (ℕ × ℕ) → Choice → Bool) → Shown → List (ℕ × ℕ) → Option Choice → Type 0
 IsNextAllowed allows shown ps None = Unit {0}
 IsNextAllowed allows shown ps (Some c) = allows shown ps c ≡ true
 
 -- the budget is spent, or the next kept choice is absent or not lawful, or memory ran out
-abbrev pub IsRefusal : StoredBasis → List (ℕ × ℕ) → List (List Choice) → ℕ → Bool → List (List Choice) → Halt → Type 0
-IsRefusal basis ps given budget replays kept halt.Spent = IsAnswer basis ps given budget replays kept next.Spent
-IsRefusal basis ps given budget replays kept halt.NoLawful = IsAnswer basis ps given budget replays kept next.NoLawful
-IsRefusal basis ps given budget replays kept halt.Memory = Unit {0}
-IsRefusal basis ps given budget replays kept (halt.Overflow place) = ⊥
-IsRefusal basis ps given budget replays kept (halt.Degree place) = ⊥
+abbrev pub IsRefusal : List Term → List (ℕ × ℕ) → List (List Choice) → Settings → Halt → Type 0
+IsRefusal leads listed given settings halt.Spent = IsAnswer leads listed given settings next.Spent
+IsRefusal leads listed given settings halt.NoLawful = IsAnswer leads listed given settings next.NoLawful
+IsRefusal leads listed given settings halt.Memory = Unit {0}
+IsRefusal leads listed given settings (halt.Overflow place) = ⊥
+IsRefusal leads listed given settings (halt.Degree place) = ⊥
 
 -- the budget is spent only where a rule allows it
 abbrev pub IsRefusalAllowed : (Shown → List (ℕ × ℕ) → Bool) → Shown → List (ℕ × ℕ) → Halt → Type 0
@@ -80,9 +81,9 @@ step_of s st c = run.step rationals rational_inverses s.order (within program s)
 -- the state is the one that the choice makes, and what is kept fits it; one pair is added, in one more event
 pub record IsFollowed (s : Signature) (p : Progress) (c : Choice) (q : Progress) : Type 0 where
   pub made : step_of s (state_of p) c ≡ Ok (state_of q)
-  pub kept : IsKept s q
+  pub kept : IsProgressOf s q
   pub shape : HasShapeOf p c q
-  pub listed : Adds (first_of c) (second_of c) p.listed q.listed
+  pub listed : HaveSamePairs q.listed ((first_of c, second_of c) ∷ p.listed)
 
 -- the choice treats the pair of the place, which stops
 abbrev pub IsStopIn : Signature → State rationals → Choice → Cause → StopAt → Type 0
@@ -101,10 +102,10 @@ IsStopOf s st c halt.Memory = Unit {0}
 -- the choices lead from the first state of a run on a to that of the progress, and are allowed; what is kept fits them
 pub record IsLed (s : Signature) (a : OperatorMatrix) (allows : Shown → List (ℕ × ℕ) → Choice → Bool) (choices : List Choice) (p : Progress) : Type 0 where
   pub start : State rationals
-  pub begun : starts s a ≡ Ok start
-  pub led : leads s a start choices ≡ Ok (state_of p)
-  pub kept : IsKept s p
-  pub lists : ListsChoices p.listed choices
+  pub begun : first_state s a ≡ Ok start
+  pub led : state_after s a start choices ≡ Ok (state_of p)
+  pub kept : IsProgressOf s p
+  pub lists : HaveSamePairs p.listed (chosen_pairs choices)
   pub events : choices_of p.events.items ≡ choices
   pub first : p.first ≡ length start.basis
   pub cols : p.basis.cols ≡ a.cols

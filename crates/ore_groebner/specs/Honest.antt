@@ -5,7 +5,7 @@
 --     IsHalted                why a run stopped
 --     HasOneMoreRun           one more run is given than before
 --     HasRunsAt, HasRunsAfter    which runs are given after a halt
-use Rattle.std.specs.Prelude.{◌≡◌, ◌⊎◌, ℕ, Bool, List, [], ◌∷◌, ◌++◌, length}
+use Rattle.std.specs.Prelude.{◌≡◌, ◌⊎◌, ◌+◌, List, [], ◌∷◌, ◌++◌, length}
 use Rattle.std.specs.List.{All}
 use Rattle.std.specs.declared.result.Result.TheVariants.{Ok, Err}
 use Rattle.ore_algebra.specs.Limits.{Cause}
@@ -14,12 +14,14 @@ use Rattle.ore_rational.proofs.FractionLaws.{rationals}
 use Rattle.ore_monomial.specs.Signature.{Signature}
 use Rattle.ore_ring.specs.Belongs.{Belongs}
 use Rattle.ore_rows.specs.Stored.{OperatorMatrix, rows_of}
-use Rattle.ore_rows.specs.StoredBasis.{StoredBasis, AllBelong, monics}
+use Rattle.ore_rows.specs.Reduction.{leads_of}
+use Rattle.ore_rows.specs.StoredBasis.{AllBelong, monics}
 use Rattle.ore_rows.specs.declared.choices.Choice.{Choice}
+use Rattle.ore_pairs.specs.PairList.{pairs_of}
 use Rattle.ore_pairs.specs.Run.{State, IsComplete, from_rows}
-pub use Rattle.ore_pairs.specs.Reached.{starts, leads, IsReached, IsStopped, shown_in, pairs_in, IsAllowedAt, AreAllowed, MayBeSpent}
-use Rattle.ore_groebner.specs.Choosing.{present, IsAnswer}
-use Rattle.ore_groebner.specs.Progressing.{entries_from, choices_of}
+pub use Rattle.ore_pairs.specs.Reached.{first_state, state_after, IsReached, IsStopped, shown_in, IsAllowedAt, AreAllowed, MayBeSpent}
+use Rattle.ore_groebner.specs.Choosing.{present, Settings, IsAnswer}
+use Rattle.ore_groebner.specs.RunProgress.{entries_from, new_rows, choices_of}
 use Rattle.ore_groebner.specs.declared.chooser.Next.{Next}
 use Rattle.ore_groebner.specs.declared.chooser.Next.TheVariants as next
 use Rattle.ore_groebner.specs.declared.outcome.Finished.{Finished}
@@ -29,18 +31,20 @@ use Rattle.ore_groebner.specs.declared.outcome.StopAt.{StopAt}
 use Rattle.ore_groebner.specs.declared.outcome.StopAt.TheVariants as at
 
 module _ (s : Signature) (a : OperatorMatrix) where
-  -- the choices lead to a complete state, whose parts are those of the answer; its events follow the choices in order
+  -- the choices lead to a complete state, whose parts are those of the answer; its events follow the choices in order, and
+  -- some of them made the basis rows behind the first
   pub record IsHonest (choices : List Choice) (f : Finished) : Type 0 where
     pub start : State rationals
     pub last : State rationals
-    pub begun : starts s a ≡ Ok start
-    pub led : leads s a start choices ≡ Ok last
+    pub begun : first_state s a ≡ Ok start
+    pub led : state_after s a start choices ≡ Ok last
     pub complete : IsComplete rationals last
     pub basis : last.basis ≡ monics f.basis
     pub listed : last.listed ≡ entries_from (length start.basis) f.events
     pub syzygies : last.syzygies ≡ rows_of f.syzygies
     pub origins : last.origins ≡ f.origins
     pub events : choices_of f.events ≡ choices
+    pub counted : length last.basis ≡ length start.basis + new_rows f.events
     pub from : rows_of f.from ≡ from_rows rationals s.order (length last.basis) 0 (rows_of a)
     pub from_cols : f.from.cols ≡ length last.basis
     pub syzygy_cols : f.syzygies.cols ≡ length a.rows
@@ -52,23 +56,21 @@ module _ (s : Signature) (a : OperatorMatrix) where
 
   -- in making the first basis, or inside the treatment of the pair of the last choice
   abbrev pub IsStoppedAt : List Choice → Cause → StopAt → Type 0
-  IsStoppedAt choices c at.Forced = starts s a ≡ Err c
+  IsStoppedAt choices c at.Forced = first_state s a ≡ Err c
   IsStoppedAt choices c (at.Treat i j) = IsStopped s a choices i j c
 
   -- the choices lead to a state at which the chooser may so answer
-  pub record IsAnswered (given : List (List Choice)) (budget : ℕ) (replays : Bool) (kept : List (List Choice)) (answer : Next) : Type 0 where
+  pub record IsAnswered (given : List (List Choice)) (settings : Settings) (answer : Next) : Type 0 where
     pub last : State rationals
     pub reached : IsReached s a (present given) last
-    pub basis : StoredBasis
-    pub basis_is : last.basis ≡ monics basis
-    pub answered : IsAnswer basis (pairs_in last) given budget replays kept answer
+    pub answered : IsAnswer (leads_of last.basis) (pairs_of last.listed) given settings answer
 
-  abbrev pub IsHalted : List (List Choice) → ℕ → Bool → List (List Choice) → Halt → Type 0
-  IsHalted given budget replays kept (halt.Overflow where_at) = IsStoppedAt (present given) cause.Overflow where_at
-  IsHalted given budget replays kept (halt.Degree where_at) = IsStoppedAt (present given) cause.Degree where_at
-  IsHalted given budget replays kept halt.Spent = IsAnswered given budget replays kept next.Spent
-  IsHalted given budget replays kept halt.NoLawful = IsAnswered given budget replays kept next.NoLawful
-  IsHalted given budget replays kept halt.Memory = Unit {0}
+  abbrev pub IsHalted : List (List Choice) → Settings → Halt → Type 0
+  IsHalted given settings (halt.Overflow where_at) = IsStoppedAt (present given) cause.Overflow where_at
+  IsHalted given settings (halt.Degree where_at) = IsStoppedAt (present given) cause.Degree where_at
+  IsHalted given settings halt.Spent = IsAnswered given settings next.Spent
+  IsHalted given settings halt.NoLawful = IsAnswered given settings next.NoLawful
+  IsHalted given settings halt.Memory = Unit {0}
 
 -- ---- the runs that are given
 

@@ -1,8 +1,10 @@
 pub mod RunLaws
+pub mod BlockLaws
 pub mod Choosing
-pub mod Progressing
+pub mod RunProgress
 pub mod Honest
 pub mod Shown
 pub mod Rules
 pub mod Halting
 pub mod Following
+pub mod Courses

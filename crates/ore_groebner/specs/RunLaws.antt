@@ -2,35 +2,40 @@
 --     IsBasisRow             a row with lead coefficient 1, and a cofactor row that makes it of the rows of a
 --     IsSyzygy               a row of cofactors that takes a to zeros
 --     AreListedOnce          no pair is listed twice
---     IsKept                 what each state of a run on a keeps of a
+--     IsStateOf              what each state of a run on a has to do with a
 --     IsNone, IsFrom         no syzygy comes from an origin; a row is the syzygy that does, or zeros
 --     IsPlaceIn              an origin is a row of a, or a listed pair
---     IsShown, AreShown      what the steps of a treated pair leave over the cofactor rows comes from it
---     LinesHold              each pair that is listed was treated or skipped lawfully, and shows its syzygy
+--     HasItsSyzygy, HaveTheirSyzygies    what the steps of a treated pair leave over the cofactor rows comes from it
+--     EntriesHold            each listed pair was treated or skipped lawfully, and has its syzygy
 --     WithinIsExact          a state that is reached within limits is reached without them
 --     OnlyUnlawful           without limits each run begins, and nothing but an unlawful choice ends it
 --     RunKeeps               what each state that is reached keeps
+--     RunsEnd                no run has so many choices as some number
+--     ExactExtends           runs without limits go as far as those within, and further where these stop
 --     CompleteIsExact        the syzygies of a complete state generate all of the signature
 use Rattle.std.specs.Prelude.{◌≡◌, ◌≢◌, ℕ, suc, ◌<◌, false, List, [], ◌∷◌, length, slice_get}
 use Rattle.std.specs.List.{AllByRecursion}
 use Rattle.std.specs.declared.option.Option.TheVariants.{Some}
 use Rattle.std.specs.declared.result.Result.TheVariants.{Ok, Err}
 use Rattle.ore_algebra.specs.Domain.{Domain}
-use Rattle.ore_algebra.specs.Limits.{Limits, Cause}
+use Rattle.ore_algebra.specs.Limits.{Limits, Cause, unlimited}
+use Rattle.ore_course.specs.Bounded.{IsShort, Extends}
 use Rattle.ore_rational.proofs.FractionLaws.{rationals, rational_inverses}
 use Rattle.ore_monomial.specs.declared.order.Order.{Order}
 use Rattle.ore_monomial.specs.Signature.{Signature}
 use Rattle.ore_monomial.specs.Term.{Term}
 use Rattle.ore_rows.specs.Rows.{Row, RowOf, AreLong, zero_row, unit_row, row_minus, combine, matrix_times, IsExact}
-use Rattle.ore_rows.specs.Reduction.{Monic, IsMonic, rows_of, cofactors_of, leads_of, row_at, after}
+use Rattle.ore_rows.specs.Reduction.{Monic, IsMonic, basis_rows, cofactors_of, leads_of, row_at, after}
 use Rattle.ore_rows.specs.Arithmetic.{exact, within}
-use Rattle.ore_pairs.specs.Run.{State, Stopped, is_listed, IsComplete, from_rows, begin, run}
+use Rattle.ore_pairs.specs.Run.{State, Stopped, IsComplete, from_rows, begin}
+use Rattle.ore_pairs.specs.Runner.{run, runner_within}
 use Rattle.ore_rows.specs.declared.choices.Choice.{Choice}
 use Rattle.ore_rows.specs.declared.choices.Origin.{Origin}
 use Rattle.ore_rows.specs.declared.choices.Origin.TheVariants.{ZeroRow, Event}
 use Rattle.ore_pairs.specs.Reached.{IsReachable}
 use Rattle.ore_pairs.specs.Steps.{s_row}
-use Rattle.ore_pairs.specs.PairList.{Entry, Pair, Skip, first, second, AreLawful, AreEntriesOf}
+use Rattle.ore_pairs.specs.PairList.{Entry, Pair, Skip, first, second, pairs_of, AreLawful, AreEntriesOf}
+use Rattle.ore_pairs.specs.PairRule.{is_listed}
 
 module _ (K : Domain) (s : Signature) (o : Order) (n : ℕ) (a : List (Row K)) where
   -- n entries and the lead coefficient 1; the cofactor row times a is the row; both are of the signature where a is
@@ -51,7 +56,7 @@ module _ (K : Domain) (s : Signature) (o : Order) (n : ℕ) (a : List (Row K)) w
 -- the pair of each entry isn't that of one before, of which the latest stands first
 abbrev pub AreListedOnce : {K : Domain} → List (Entry K) → List (Entry K) → Type 0
 AreListedOnce before [] = Unit {0}
-AreListedOnce {K} before (e ∷ es) = (is_listed K (first e) (second e) before ≡ false) × AreListedOnce (e ∷ before) es
+AreListedOnce before (e ∷ es) = (is_listed (first e) (second e) (pairs_of before) ≡ false) × AreListedOnce (e ∷ before) es
 
 -- ---- what syzygies come from
 
@@ -70,12 +75,12 @@ IsPlaceIn q n (Event k) = k < n
 
 -- the cofactor rows times a are the basis, and some rows times the basis are a; what is left of a unit row by way of
 -- the basis and back is the syzygy that comes from this row of a, or zeros
-pub record IsKept (K : Domain) (s : Signature) (o : Order) (n : ℕ) (a : List (Row K)) (st : State K) : Type 0 where
+pub record IsStateOf (K : Domain) (s : Signature) (o : Order) (n : ℕ) (a : List (Row K)) (st : State K) : Type 0 where
   pub basis : AllByRecursion (IsBasisRow K s o n a) st.basis
   pub syzygies : AllByRecursion (IsSyzygy K s o n a) st.syzygies
-  pub to_is : matrix_times K s n (cofactors_of st.basis) a ≡ rows_of st.basis
-  pub from_is : matrix_times K s n (from_rows K o (length st.basis) 0 a) (rows_of st.basis) ≡ a
-  pub left : (k : ℕ) → k < length a → IsFrom K (length a) st.origins st.syzygies (ZeroRow k) (row_minus K (unit_row K (length a) k) (combine K s (length a) (row_at (from_rows K o (length st.basis) 0 a) k) (cofactors_of st.basis)))
+  pub to_is : matrix_times K s n (cofactors_of st.basis) a ≡ basis_rows st.basis
+  pub from_is : matrix_times K s n (from_rows K o (length st.basis) 0 a) (basis_rows st.basis) ≡ a
+  pub remainders : (k : ℕ) → k < length a → IsFrom K (length a) st.origins st.syzygies (ZeroRow k) (row_minus K (unit_row K (length a) k) (combine K s (length a) (row_at (from_rows K o (length st.basis) 0 a) k) (cofactors_of st.basis)))
   pub many : length st.origins ≡ length st.syzygies
   pub places : AllByRecursion (IsPlaceIn (length a) (length st.listed)) st.origins
   pub once : AreListedOnce [] st.listed
@@ -85,21 +90,21 @@ pub record IsKept (K : Domain) (s : Signature) (o : Order) (n : ℕ) (a : List (
 module _ (K : Domain) (s : Signature) (q : ℕ) (leads : List Term) (cofactors : List (Row K)) (origins : List Origin) (syzygies : List (Row K)) where
   -- what the steps leave of the pair's row, over the cofactor rows, is the syzygy that comes from this pair, at place k
   -- of those that are listed, or zeros; from a skipped pair none comes
-  abbrev pub IsShown : ℕ → Entry K → Type 0
-  IsShown k (Pair i j steps) = IsFrom K q origins syzygies (Event k) (after K s cofactors steps (s_row K s leads cofactors i j))
-  IsShown k (Skip i j via) = IsNone origins (Event k)
+  abbrev pub HasItsSyzygy : ℕ → Entry K → Type 0
+  HasItsSyzygy k (Pair i j steps) = IsFrom K q origins syzygies (Event k) (after K s cofactors steps (s_row K s leads cofactors i j))
+  HasItsSyzygy k (Skip i j via) = IsNone origins (Event k)
 
   -- so does each entry from place k on
-  abbrev pub AreShown : ℕ → List (Entry K) → Type 0
-  AreShown k [] = Unit {0}
-  AreShown k (e ∷ es) = IsShown k e × AreShown (suc k) es
+  abbrev pub HaveTheirSyzygies : ℕ → List (Entry K) → Type 0
+  HaveTheirSyzygies k [] = Unit {0}
+  HaveTheirSyzygies k (e ∷ es) = HasItsSyzygy k e × HaveTheirSyzygies (suc k) es
 
--- the listed pairs are a lawful list for the basis; each treated pair shows the syzygy that comes from it, or zeros; the steps
--- are of the signature where a is
-pub record LinesHold (K : Domain) (s : Signature) (o : Order) (n : ℕ) (a : List (Row K)) (st : State K) : Type 0 where
-  pub lawful : AreLawful K s o n (rows_of st.basis) (leads_of st.basis) [] st.listed
+-- the listed entries are a lawful list for the basis; each treated pair has the syzygy that comes from it, or zeros; the
+-- steps are of the signature where a is
+pub record EntriesHold (K : Domain) (s : Signature) (o : Order) (n : ℕ) (a : List (Row K)) (st : State K) : Type 0 where
+  pub lawful : AreLawful K s o n (basis_rows st.basis) (leads_of st.basis) [] st.listed
   pub entries : AllByRecursion (RowOf K s) a → AreEntriesOf K s st.listed
-  pub shown : AreShown K s (length a) (leads_of st.basis) (cofactors_of st.basis) st.origins st.syzygies 0 st.listed
+  pub syzygies : HaveTheirSyzygies K s (length a) (leads_of st.basis) (cofactors_of st.basis) st.origins st.syzygies 0 st.listed
 
 -- ---- the laws
 
@@ -115,12 +120,21 @@ module _ (s : Signature) where
   OnlyUnlawful = (a : List (Row rationals)) → (first : State rationals) × (begin rationals rational_inverses s.order (exact rationals s) a ≡ Ok first)
       × ((choices : List Choice) (cause : Cause) → run rationals rational_inverses s.order (exact rationals s) first choices ≢ Err (Stopped cause))
 
-  -- each state that a run within limits reaches keeps a, and its lines hold
+  -- each state that a run within limits reaches is a state of a run on a, and its entries hold
   abbrev pub RunKeeps : Type 0
   RunKeeps = (l : Limits) (n : ℕ) (a : List (Row rationals)) (st : State rationals) → AreLong rationals n a
-      → IsReachable rationals rational_inverses s.order (within l s) a st → IsKept rationals s s.order n a st × LinesHold rationals s s.order n a st
+      → IsReachable rationals rational_inverses s.order (within l s) a st → IsStateOf rationals s s.order n a st × EntriesHold rationals s s.order n a st
 
   -- the syzygies of a complete state are exact
   abbrev pub CompleteIsExact : Type 0
   CompleteIsExact = (l : Limits) (n : ℕ) (a : List (Row rationals)) (st : State rationals) → AreLong rationals n a → AllByRecursion (RowOf rationals s) a
       → IsReachable rationals rational_inverses s.order (within l s) a st → IsComplete rationals st → IsExact rationals s n a st.syzygies
+
+  -- of each run some number is greater than the number of choices that lead on, whatever they are
+  abbrev pub RunsEnd : Type 0
+  RunsEnd = (l : Limits) (n : ℕ) (a : List (Row rationals)) (first : State rationals) → AreLong rationals n a
+      → begin rationals rational_inverses s.order (within l s) a ≡ Ok first → (m : ℕ) × IsShort (runner_within l s) m first
+
+  -- each choice that leads on within limits leads to the same state without
+  abbrev pub ExactExtends : Type 0
+  ExactExtends = (l : Limits) → Extends (runner_within l s) (runner_within unlimited s)

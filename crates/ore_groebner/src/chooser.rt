@@ -1,8 +1,10 @@
 //! Who chooses what a run does next.
 
-ghost use Rattle.std.specs.Prelude.{◌≡◌, ◌≢◌, ℕ, Bool, List, [], ◌∷◌, ◌++◌, IfOk, IfErr};
+ghost use Rattle.std.specs.Prelude.{◌≡◌, ◌≢◌, List, [], ◌∷◌, ◌++◌, IfOk, IfErr};
 ghost use Rattle.ore_rows.specs.declared.choices.Choice as rows;
-ghost use Rattle.ore_groebner.specs.Choosing.{present, pairs_of, given_after, ListsChoices, IsAnswer, IsPrefixOfKept};
+ghost use Rattle.ore_rows.specs.Reduction.{leads_of};
+ghost use Rattle.ore_pairs.specs.PairRule.{HaveSamePairs};
+ghost use Rattle.ore_groebner.specs.Choosing.{present, chosen_pairs, given_after, Settings, IsAnswer, IsPrefixOfKept};
 ghost use Rattle.ore_groebner.specs.Shown.{Shown, shown_of, none_shown, IsGrownFrom};
 ghost use Rattle.ore_groebner.specs.Rules.{IsAllowed};
 
@@ -28,14 +30,8 @@ pub trait Chooser: Rule {
     /// The choices that it gave, run by run. The present run is the last.
     ghost given: { Self → List (List rows.Choice) };
 
-    /// How many pairs it treats in all its runs.
-    ghost budget: { Self → ℕ };
-
-    /// Whether it gives the choices that it keeps.
-    ghost replays: { Self → Bool };
-
-    /// The choices that it keeps, run by run.
-    ghost kept: { Self → List (List rows.Choice) };
+    /// Its budget, whether it replays, and the choices that it keeps.
+    ghost settings: { Self → Settings };
 
     /// The order of monomials and the leads that it was shown last in the present run.
     ghost shown: { Self → Shown };
@@ -48,9 +44,7 @@ pub trait Chooser: Rule {
         ensures begun { IfOk result (λ _. given self.new ≡ given self.old ++ [] ∷ []) }
         ensures none_shown { IfOk result (λ _. shown self.new ≡ none_shown) }
         ensures refused { IfErr result (λ _. given self.new ≡ given self.old) }
-        ensures budget { budget self.new ≡ budget self.old }
-        ensures replays { replays self.new ≡ replays self.old }
-        ensures kept { kept self.new ≡ kept self.old };
+        ensures settings { settings self.new ≡ settings self.old };
 
     /// What comes next in the present run. The rule of the chooser allows it, by the pairs of the present run in order.
     ///
@@ -58,16 +52,14 @@ pub trait Chooser: Rule {
     /// Want of memory. Then it has given nothing.
     fn next(&mut self, basis: &Basis, listed: &Listed) -> Result<Next, NoMemory>
         requires begun { given self.old ≢ [] }
-        requires lists { ListsChoices listed.now (present (given self.old)) }
+        requires lists { HaveSamePairs listed.now (chosen_pairs (present (given self.old))) }
         requires grown { IsGrownFrom (shown self.old) basis.now }
-        ensures answer { IfOk result (IsAnswer basis.now listed.now (given self.old) (budget self.old) (replays self.old) (kept self.old)) }
-        ensures allowed { IfOk result (IsAllowed Self.allows Self.allows_spent (shown_of basis.now) (pairs_of (present (given self.old)))) }
+        ensures answer { IfOk result (IsAnswer (leads_of basis.now.items) listed.now (given self.old) (settings self.old)) }
+        ensures allowed { IfOk result (IsAllowed Self.allows Self.allows_spent (shown_of basis.now) (chosen_pairs (present (given self.old)))) }
         ensures given { given self.new ≡ given_after (given self.old) result }
         ensures shown { IfOk result (λ _. shown self.new ≡ shown_of basis.now) }
-        ensures budget { budget self.new ≡ budget self.old }
-        ensures replays { replays self.new ≡ replays self.old }
-        ensures kept { kept self.new ≡ kept self.old };
+        ensures settings { settings self.new ≡ settings self.old };
 
     /// One that doesn't replay keeps no choices; one that does has given, in each run, a front of those that it keeps.
-    ghost keeps: { (x : Self) → IsPrefixOfKept (replays x) (kept x) (given x) };
+    ghost keeps: { (x : Self) → IsPrefixOfKept (settings x) (given x) };
 }

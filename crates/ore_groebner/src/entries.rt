@@ -2,7 +2,7 @@
 
 ghost use Rattle.std.specs.Prelude.{◌≡◌, ◌≤◌, ◌<◌, ◌+◌, ◌^◌, ◌∷◌, List, cond, length, IfOk};
 ghost use Rattle.std.specs.List.{All};
-ghost use Rattle.ore_algebra.specs.Free.{none};
+ghost use Rattle.ore_algebra.specs.Free.{empty_sum};
 ghost use Rattle.ore_rational.proofs.FractionLaws.{rationals};
 ghost use Rattle.ore_monomial.specs.Monomial.{plain_cmp};
 ghost use Rattle.ore_ring.specs.Belongs.{Belongs};
@@ -74,7 +74,7 @@ pub fn entry_row(
     ensures width { IfOk result (λ r. length r ≡ n) }
     ensures of { IfOk result (All (Belongs sig.now)) }
 {
-    let mut out = Vec::new(alloc);
+    let mut out = Vec::with_capacity(alloc, n)?;
     for k in 0..n {
         out.push(coef_or_zero(alloc, sig, k == i, coef)?)?;
     }
@@ -83,7 +83,7 @@ pub fn entry_row(
 
 // A fraction as an operator, or the operator 0.
 fn coef_or_zero(alloc: Global, sig: &Signature, here: bool, coef: Rational) -> Result<Op, NoMemory>
-    ensures value { IfOk result (λ f. f.sum ≡ cond here (run.constant rationals coef) (none rationals plain_cmp)) }
+    ensures value { IfOk result (λ f. f.sum ≡ cond here (run.constant rationals coef) (empty_sum rationals plain_cmp)) }
     ensures of { IfOk result (Belongs sig.now) }
 {
     if !here {

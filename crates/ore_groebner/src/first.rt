@@ -13,7 +13,7 @@ ghost use Rattle.ore_rows.specs.Rows as rows;
 ghost use Rattle.ore_pairs.specs.Run as run;
 ghost use Rattle.ore_rows.specs.Stored.{IsZeroRow, rows_of, sums_of};
 ghost use Rattle.ore_rows.specs.declared.choices.Origin.TheVariants as origins;
-ghost use Rattle.ore_groebner.specs.Progressing.{state_of, based, IsBegun, IsKept, HasWidthsOf};
+ghost use Rattle.ore_groebner.specs.RunProgress.{state_of, with_basis_row, IsBegun, IsProgressOf, HasWidthsOf};
 
 use crate::monic::push_monic;
 use crate::progress::Progress;
@@ -30,9 +30,9 @@ use std::alloc::Global;
 /// # Errors
 /// The stop of the first product that stops, and want of memory.
 pub fn begin<R: OreRing>(ring: &R, alloc: Global, a: &Matrix) -> Result<Progress, RingStop>
-    requires { All (All (Belongs (R.signature_of ring.now))) a.now.rows }
-    ensures gives { Gives state_of result (run.begin rationals rational_inverses (R.signature_of ring.now).order (within program (R.signature_of ring.now)) (rows_of a.now)) }
-    ensures kept { IfOk result (IsKept (R.signature_of ring.now)) }
+    requires { All (All (Belongs (R.sig ring.now))) a.now.rows }
+    ensures gives { Gives state_of result (run.begin rationals rational_inverses (R.sig ring.now).order (within program (R.sig ring.now)) (rows_of a.now)) }
+    ensures kept { IfOk result (IsProgressOf (R.sig ring.now)) }
     ensures begun { IfOk result IsBegun }
     ensures cols { IfOk result (λ p. p.basis.cols ≡ a.now.cols) }
     ensures width { IfOk result (λ p. p.basis.width ≡ length a.now.rows) }
@@ -61,11 +61,11 @@ fn begin_row<R: OreRing>(
     k: usize,
 ) -> Result<Progress, RingStop>
     requires row_width { length row.now ≡ progress.basis.cols }
-    requires row_of { All (Belongs (R.signature_of ring.now)) row.now }
-    requires kept { IsKept (R.signature_of ring.now) progress }
+    requires row_of { All (Belongs (R.sig ring.now)) row.now }
+    requires kept { IsProgressOf (R.sig ring.now) progress }
     requires begun { IsBegun progress }
-    ensures gives { Gives state_of result (run.begin_row rationals rational_inverses (R.signature_of ring.now).order (within program (R.signature_of ring.now)) progress.basis.width k (sums_of row.now) (state_of progress)) }
-    ensures kept { IfOk result (IsKept (R.signature_of ring.now)) }
+    ensures gives { Gives state_of result (run.begin_row rationals rational_inverses (R.sig ring.now).order (within program (R.sig ring.now)) progress.basis.width k (sums_of row.now) (state_of progress)) }
+    ensures kept { IfOk result (IsProgressOf (R.sig ring.now)) }
     ensures begun { IfOk result IsBegun }
     ensures widths { IfOk result (HasWidthsOf progress) }
     ensures count { IfOk result (λ p. length p.basis.items ≤ length progress.basis.items + 1) }
@@ -86,10 +86,10 @@ fn begin_zero(
 ) -> Result<Progress, NoMemory>
     requires width { length unit ≡ progress.basis.width }
     requires of { All (Belongs sig.now) unit }
-    requires kept { IsKept sig.now progress }
+    requires kept { IsProgressOf sig.now progress }
     requires begun { IsBegun progress }
     ensures state { IfOk result (λ p. state_of p ≡ record (state_of progress) { syzygies = (state_of progress).syzygies ++ sums_of unit ∷ []; origins = (state_of progress).origins ++ origins.ZeroRow k ∷ [] }) }
-    ensures kept { IfOk result (IsKept sig.now) }
+    ensures kept { IfOk result (IsProgressOf sig.now) }
     ensures begun { IfOk result IsBegun }
     ensures widths { IfOk result (HasWidthsOf progress) }
     ensures basis { IfOk result (λ p. p.basis ≡ progress.basis) }
@@ -110,15 +110,15 @@ fn begin_monic<R: OreRing>(
     unit: &Row,
     coef: Rational,
 ) -> Result<Progress, RingStop>
-    requires lead { (t : Term) × IsRowLead rationals (R.signature_of ring.now).order (sums_of row.now) t coef }
+    requires lead { (t : Term) × IsRowLead rationals (R.sig ring.now).order (sums_of row.now) t coef }
     requires row_width { length row.now ≡ progress.basis.cols }
     requires unit_width { length unit.now ≡ progress.basis.width }
-    requires row_of { All (Belongs (R.signature_of ring.now)) row.now }
-    requires unit_of { All (Belongs (R.signature_of ring.now)) unit.now }
-    requires kept { IsKept (R.signature_of ring.now) progress }
+    requires row_of { All (Belongs (R.sig ring.now)) row.now }
+    requires unit_of { All (Belongs (R.sig ring.now)) unit.now }
+    requires kept { IsProgressOf (R.sig ring.now) progress }
     requires begun { IsBegun progress }
-    ensures gives { (t : Term) → IsRowLead rationals (R.signature_of ring.now).order (sums_of row.now) t coef → Gives state_of result (based (state_of progress) (run.made_monic rationals rational_inverses (within program (R.signature_of ring.now)) (sums_of row.now) (sums_of unit.now) t)) }
-    ensures kept { IfOk result (IsKept (R.signature_of ring.now)) }
+    ensures gives { (t : Term) → IsRowLead rationals (R.sig ring.now).order (sums_of row.now) t coef → Gives state_of result (with_basis_row (state_of progress) (run.monic_multiple rationals rational_inverses (within program (R.sig ring.now)) (sums_of row.now) (sums_of unit.now) t)) }
+    ensures kept { IfOk result (IsProgressOf (R.sig ring.now)) }
     ensures begun { IfOk result IsBegun }
     ensures widths { IfOk result (HasWidthsOf progress) }
     ensures count { IfOk result (λ p. length p.basis.items ≡ length progress.basis.items + 1) }

@@ -1,9 +1,10 @@
 //! What a choice makes of a run.
 
-ghost use Rattle.std.specs.Prelude.{IfOk, IfErr};
-ghost use Rattle.ore_groebner.specs.Choosing.{IsLawful, IsOpen, MaySkip};
+ghost use Rattle.std.specs.Prelude.{◌≡◌, true, IfOk, IfErr};
+ghost use Rattle.ore_rows.specs.Reduction.{leads_of};
+ghost use Rattle.ore_pairs.specs.PairRule.{is_lawful};
 ghost use Rattle.ore_groebner.specs.Following.{IsFollowed, IsStopOf};
-ghost use Rattle.ore_groebner.specs.Progressing.{state_of, IsKept};
+ghost use Rattle.ore_groebner.specs.RunProgress.{state_of, IsProgressOf};
 ghost use Rattle.ore_rows.specs.declared.choices.Choice.TheVariants as choices;
 
 use crate::halting::halt_at;
@@ -21,10 +22,10 @@ pub(crate) fn follow<R: OreRing>(
     progress: Progress,
     choice: Choice,
 ) -> Result<Progress, Halt>
-    requires kept { IsKept (R.signature_of ring.now) progress }
-    requires lawful { IsLawful progress.basis progress.listed choice }
-    ensures followed { IfOk result (IsFollowed (R.signature_of ring.now) progress choice) }
-    ensures halted { IfErr result (IsStopOf (R.signature_of ring.now) (state_of progress) choice) }
+    requires kept { IsProgressOf (R.sig ring.now) progress }
+    requires lawful { is_lawful (leads_of progress.basis.items) progress.listed choice ≡ true }
+    ensures followed { IfOk result (IsFollowed (R.sig ring.now) progress choice) }
+    ensures halted { IfErr result (IsStopOf (R.sig ring.now) (state_of progress) choice) }
 {
     match choice {
         Choice::Treat { i, j } => follow_treat(ring, alloc, progress, i, j),
@@ -43,10 +44,10 @@ fn follow_treat<R: OreRing>(
     i: usize,
     j: usize,
 ) -> Result<Progress, Halt>
-    requires kept { IsKept (R.signature_of ring.now) progress }
-    requires lawful { IsOpen progress.basis progress.listed i j }
-    ensures followed { IfOk result (IsFollowed (R.signature_of ring.now) progress (choices.Treat i j)) }
-    ensures halted { IfErr result (IsStopOf (R.signature_of ring.now) (state_of progress) (choices.Treat i j)) }
+    requires kept { IsProgressOf (R.sig ring.now) progress }
+    requires lawful { is_lawful (leads_of progress.basis.items) progress.listed (choices.Treat i j) ≡ true }
+    ensures followed { IfOk result (IsFollowed (R.sig ring.now) progress (choices.Treat i j)) }
+    ensures halted { IfErr result (IsStopOf (R.sig ring.now) (state_of progress) (choices.Treat i j)) }
 {
     match treat(ring, alloc, progress, i, j) {
         Ok(next) => Ok(next),
@@ -62,9 +63,8 @@ fn follow_skip(
     j: usize,
     via: usize,
 ) -> Result<Progress, NoMemory>
-    requires kept { IsKept sig.now progress }
-    requires lawful { IsOpen progress.basis progress.listed i j }
-    requires skipped { MaySkip progress.basis progress.listed i j via }
+    requires kept { IsProgressOf sig.now progress }
+    requires lawful { is_lawful (leads_of progress.basis.items) progress.listed (choices.Skip i j via) ≡ true }
     ensures followed { IfOk result (IsFollowed sig.now progress (choices.Skip i j via)) }
 {
     let _ = sig;

@@ -12,12 +12,11 @@ ghost use Rattle.ore_monomial.specs.Term.{Term};
 ghost use Rattle.ore_monomial.specs.declared.stop.RingStop.TheVariants.{Memory};
 ghost use Rattle.ore_ring.specs.Belongs.{Belongs};
 ghost use Rattle.ore_rows.specs.Arithmetic.{within};
-ghost use Rattle.ore_rows.specs.Reduction.{AreMonic};
 ghost use Rattle.ore_rows.specs.RowLead.{IsRowLead};
 ghost use Rattle.ore_pairs.specs.Run as run;
 ghost use Rattle.ore_rows.specs.Stored.{sums_of};
 ghost use Rattle.ore_rows.specs.StoredBasis.{AllBelong, monics};
-ghost use Rattle.ore_groebner.specs.Progressing.{monic_with, pushed};
+ghost use Rattle.ore_groebner.specs.RunProgress.{monic_with, basis_with};
 
 use ore_monomial::{Exps, RingStop};
 use ore_rational::Rational;
@@ -42,7 +41,7 @@ fn inverse(coef: Rational) -> Rational
 fn inverse_term<R: OreRing>(ring: &R, alloc: Global, coef: Rational) -> Result<Op, RingStop>
     requires { coef ≢ whole (pos 0) }
     ensures value { IfOk result (λ f. f.sum ≡ single rationals plain_cmp unit (inverse_of coef)) }
-    ensures of { IfOk result (Belongs (R.signature_of ring.now)) }
+    ensures of { IfOk result (Belongs (R.sig ring.now)) }
     ensures memory { IfErr result (λ e. e ≡ Memory) }
 {
     let order = ring.signature().order();
@@ -50,20 +49,20 @@ fn inverse_term<R: OreRing>(ring: &R, alloc: Global, coef: Rational) -> Result<O
 }
 
 // A row with the lead coefficient `coef`, and its cofactor row, scaled by the inverse of that.
-fn made_monic<R: OreRing>(
+fn monic_multiple<R: OreRing>(
     ring: &R,
     alloc: Global,
     row: &Row,
     cofactor: &Row,
     coef: Rational,
 ) -> Result<(Row, Row), RingStop>
-    requires lead { (t : Term) × IsRowLead rationals (R.signature_of ring.now).order (sums_of row.now) t coef }
-    requires row_of { All (Belongs (R.signature_of ring.now)) row.now }
-    requires cofactor_of { All (Belongs (R.signature_of ring.now)) cofactor.now }
-    ensures gives { (t : Term) → IsRowLead rationals (R.signature_of ring.now).order (sums_of row.now) t coef → Gives (monic_with t) result (run.made_monic rationals rational_inverses (within program (R.signature_of ring.now)) (sums_of row.now) (sums_of cofactor.now) t) }
-    ensures monic { IfOk result (λ p. (t : Term) → IsRowLead rationals (R.signature_of ring.now).order (sums_of row.now) t coef → IsRowLead rationals (R.signature_of ring.now).order (sums_of p.0) t rationals.one) }
-    ensures row_of { IfOk result (λ p. All (Belongs (R.signature_of ring.now)) p.0) }
-    ensures cofactor_of { IfOk result (λ p. All (Belongs (R.signature_of ring.now)) p.1) }
+    requires lead { (t : Term) × IsRowLead rationals (R.sig ring.now).order (sums_of row.now) t coef }
+    requires row_of { All (Belongs (R.sig ring.now)) row.now }
+    requires cofactor_of { All (Belongs (R.sig ring.now)) cofactor.now }
+    ensures gives { (t : Term) → IsRowLead rationals (R.sig ring.now).order (sums_of row.now) t coef → Gives (monic_with t) result (run.monic_multiple rationals rational_inverses (within program (R.sig ring.now)) (sums_of row.now) (sums_of cofactor.now) t) }
+    ensures monic { IfOk result (λ p. (t : Term) → IsRowLead rationals (R.sig ring.now).order (sums_of row.now) t coef → IsRowLead rationals (R.sig ring.now).order (sums_of p.0) t rationals.one) }
+    ensures row_of { IfOk result (λ p. All (Belongs (R.sig ring.now)) p.0) }
+    ensures cofactor_of { IfOk result (λ p. All (Belongs (R.sig ring.now)) p.1) }
     ensures row_width { IfOk result (λ p. length p.0 ≡ length row.now) }
     ensures cofactor_width { IfOk result (λ p. length p.1 ≡ length cofactor.now) }
 {
@@ -85,22 +84,20 @@ pub fn push_monic<R: OreRing>(
     cofactor: &Row,
     coef: Rational,
 ) -> Result<Basis, RingStop>
-    requires lead { (t : Term) × IsRowLead rationals (R.signature_of ring.now).order (sums_of row.now) t coef }
+    requires lead { (t : Term) × IsRowLead rationals (R.sig ring.now).order (sums_of row.now) t coef }
     requires row_width { length row.now ≡ basis.cols }
     requires cofactor_width { length cofactor.now ≡ basis.width }
-    requires row_of { All (Belongs (R.signature_of ring.now)) row.now }
-    requires cofactor_of { All (Belongs (R.signature_of ring.now)) cofactor.now }
-    requires basis_of { AllBelong (R.signature_of ring.now) basis.items }
-    requires monic { AreMonic rationals (R.signature_of ring.now).order (monics basis) }
-    ensures gives { (t : Term) → IsRowLead rationals (R.signature_of ring.now).order (sums_of row.now) t coef → Gives monics result (pushed (monics basis) (run.made_monic rationals rational_inverses (within program (R.signature_of ring.now)) (sums_of row.now) (sums_of cofactor.now) t)) }
-    ensures basis_of { IfOk result (λ b. AllBelong (R.signature_of ring.now) b.items) }
-    ensures monic { IfOk result (λ b. AreMonic rationals (R.signature_of ring.now).order (monics b)) }
+    requires row_of { All (Belongs (R.sig ring.now)) row.now }
+    requires cofactor_of { All (Belongs (R.sig ring.now)) cofactor.now }
+    requires basis_of { AllBelong (R.sig ring.now) basis.items }
+    ensures gives { (t : Term) → IsRowLead rationals (R.sig ring.now).order (sums_of row.now) t coef → Gives monics result (basis_with (monics basis) (run.monic_multiple rationals rational_inverses (within program (R.sig ring.now)) (sums_of row.now) (sums_of cofactor.now) t)) }
+    ensures basis_of { IfOk result (λ b. AllBelong (R.sig ring.now) b.items) }
     ensures cols { IfOk result (λ b. b.cols ≡ basis.cols) }
     ensures width { IfOk result (λ b. b.width ≡ basis.width) }
     ensures count { IfOk result (λ b. length b.items ≡ length basis.items + 1) }
 {
     let mut grown = basis;
-    let (monic, scaled) = made_monic(ring, alloc, row, cofactor, coef)?;
+    let (monic, scaled) = monic_multiple(ring, alloc, row, cofactor, coef)?;
     grown.push(ring.signature(), monic, scaled)?;
     Ok(grown)
 }

@@ -1,6 +1,6 @@
 //! What a run answers.
 
-ghost use Rattle.std.specs.Prelude.{◌≡◌, ◌<◌, length, slice_get};
+ghost use Rattle.std.specs.Prelude.{◌≡◌, ◌<◌, ◌^◌, length, slice_get};
 
 use ore_rational::Rational;
 use ore_rows::{Basis, Matrix, Origin, Steps};
@@ -30,7 +30,7 @@ pub enum Halt {
     Memory,
 }
 
-/// What is left of the combination of a pair.
+/// What is left of the S-row of a pair.
 #[derive(Drop)]
 pub enum Outcome {
     /// Nothing.
@@ -42,7 +42,7 @@ pub enum Outcome {
 /// What was done with a pair.
 #[derive(Drop)]
 pub enum Event {
-    /// Its combination was reduced by these steps.
+    /// Its S-row was reduced by these steps.
     Treated {
         i: usize,
         j: usize,
@@ -92,6 +92,13 @@ impl Events {
         ensures { result ≡ length self.now }
     {
         self.items.len()
+    }
+
+    /// Does nothing. Its contract says what holds of all such lists: there are fewer than 2^63 events.
+    pub fn few(&self)
+        ensures { length self.now < 2 ^ 63 }
+    {
+        let _count = self.items.len();
     }
 
     /// The event at place `k`, where the first has place 0.

@@ -1,6 +1,6 @@
 //! What a run has made so far.
 
-ghost use Rattle.std.specs.Prelude.{◌≡◌, ◌<◌, ◌++◌, length, map, IfOk, IfErr};
+ghost use Rattle.std.specs.Prelude.{◌≡◌, ◌<◌, ◌∷◌, ◌++◌, length, map, IfOk, IfErr};
 ghost use Rattle.std.specs.List.{All};
 ghost use Rattle.ore_algebra.specs.Limits.{program};
 ghost use Rattle.ore_rational.proofs.FractionLaws.{rationals, rational_inverses};
@@ -9,15 +9,14 @@ ghost use Rattle.ore_monomial.specs.Signature.{Signature as Lawful};
 ghost use Rattle.ore_monomial.specs.Term.{Term};
 ghost use Rattle.ore_ring.specs.Belongs.{Belongs};
 ghost use Rattle.ore_rows.specs.Arithmetic.{within};
-ghost use Rattle.ore_rows.specs.Reduction.{Monic, lead_at};
+ghost use Rattle.ore_rows.specs.Reduction.{basis_lead};
 ghost use Rattle.ore_rows.specs.RowLead.{IsRowLead};
-ghost use Rattle.ore_rows.specs.Rows.{Row as Plain};
+ghost use Rattle.ore_pairs.specs.PairRule.{HaveSamePairs};
 ghost use Rattle.ore_pairs.specs.Run as run;
 ghost use Rattle.ore_pairs.specs.PairList as pair;
 ghost use Rattle.ore_rows.specs.Stored.{IsZeroRow, sums_of};
 ghost use Rattle.ore_division.specs.StoredWork.{work_of};
-ghost use Rattle.ore_pairs.specs.Listed.{AreAt};
-ghost use Rattle.ore_groebner.specs.Progressing.{state_of, Adds, IsKept, HasShapeOf};
+ghost use Rattle.ore_groebner.specs.RunProgress.{state_of, IsProgressOf, HasShapeOf};
 ghost use Rattle.ore_rows.specs.declared.choices.Choice.TheVariants as choices;
 
 use crate::monic::push_monic;
@@ -61,12 +60,12 @@ pub fn treat<R: OreRing>(
 ) -> Result<Progress, RingStop>
     requires ordered { i < j }
     requires inside { j < length progress.basis.items }
-    requires columns { (lead_at progress.basis.items i).column ≡ (lead_at progress.basis.items j).column }
-    requires kept { IsKept (R.signature_of ring.now) progress }
-    ensures gives { (a b : Monic (Plain rationals)) → AreAt progress.basis i j a b → Gives state_of result (run.treat rationals rational_inverses (R.signature_of ring.now).order (within program (R.signature_of ring.now)) (state_of progress) i j a b) }
-    ensures kept { IfOk result (IsKept (R.signature_of ring.now)) }
+    requires columns { (basis_lead progress.basis.items i).column ≡ (basis_lead progress.basis.items j).column }
+    requires kept { IsProgressOf (R.sig ring.now) progress }
+    ensures gives { Gives state_of result (run.treat rationals rational_inverses (R.sig ring.now).order (within program (R.sig ring.now)) (state_of progress) i j) }
+    ensures kept { IfOk result (IsProgressOf (R.sig ring.now)) }
     ensures shape { IfOk result (HasShapeOf progress (choices.Treat i j)) }
-    ensures listed { IfOk result (λ p. Adds i j progress.listed p.listed) }
+    ensures listed { IfOk result (λ p. HaveSamePairs p.listed ((i, j) ∷ progress.listed)) }
 {
     let (row, cofactor) = s_row(ring, alloc, &progress.basis, i, j)?;
     let work = reduce(ring, alloc, &progress.basis, row, cofactor)?;
@@ -79,10 +78,10 @@ pub fn treat<R: OreRing>(
 /// Want of memory.
 pub fn skip(progress: Progress, i: usize, j: usize, via: usize) -> Result<Progress, NoMemory>
     requires { i < j }
-    ensures state { IfOk result (λ p. state_of p ≡ record (state_of progress) { listed = run.listing rationals (state_of progress) (pair.Skip i j via) }) }
-    ensures kept { IfOk result (λ p. (s : Lawful) → IsKept s progress → IsKept s p) }
+    ensures state { IfOk result (λ p. state_of p ≡ record (state_of progress) { listed = run.entries_with rationals (state_of progress) (pair.Skip i j via) }) }
+    ensures kept { IfOk result (λ p. (s : Lawful) → IsProgressOf s progress → IsProgressOf s p) }
     ensures shape { IfOk result (HasShapeOf progress (choices.Skip i j via)) }
-    ensures listed { IfOk result (λ p. Adds i j progress.listed p.listed) }
+    ensures listed { IfOk result (λ p. HaveSamePairs p.listed ((i, j) ∷ progress.listed)) }
 {
     let mut grown = progress;
     grown.listed.add(i, j)?;
@@ -90,7 +89,7 @@ pub fn skip(progress: Progress, i: usize, j: usize, via: usize) -> Result<Progre
     Ok(grown)
 }
 
-// What is left of the combination of a pair is a basis row, or its cofactor row is a syzygy.
+// What is left of the S-row of a pair is a basis row, or its cofactor row is a syzygy.
 fn settle<R: OreRing>(
     ring: &R,
     alloc: Global,
@@ -100,15 +99,15 @@ fn settle<R: OreRing>(
     work: Reduced,
 ) -> Result<Progress, RingStop>
     requires ordered { i < j }
-    requires kept { IsKept (R.signature_of ring.now) progress }
+    requires kept { IsProgressOf (R.sig ring.now) progress }
     requires row_width { length work.row ≡ progress.basis.cols }
     requires cofactor_width { length work.cofactor ≡ progress.basis.width }
-    requires row_of { All (Belongs (R.signature_of ring.now)) work.row }
-    requires cofactor_of { All (Belongs (R.signature_of ring.now)) work.cofactor }
-    ensures gives { Gives state_of result (run.settle rationals rational_inverses (R.signature_of ring.now).order (within program (R.signature_of ring.now)) (state_of progress) i j (work_of work)) }
-    ensures kept { IfOk result (IsKept (R.signature_of ring.now)) }
+    requires row_of { All (Belongs (R.sig ring.now)) work.row }
+    requires cofactor_of { All (Belongs (R.sig ring.now)) work.cofactor }
+    ensures gives { Gives state_of result (run.settle rationals rational_inverses (R.sig ring.now).order (within program (R.sig ring.now)) (state_of progress) i j (work_of work)) }
+    ensures kept { IfOk result (IsProgressOf (R.sig ring.now)) }
     ensures shape { IfOk result (HasShapeOf progress (choices.Treat i j)) }
-    ensures listed { IfOk result (λ p. Adds i j progress.listed p.listed) }
+    ensures listed { IfOk result (λ p. HaveSamePairs p.listed ((i, j) ∷ progress.listed)) }
 {
     match row_lead(ring.signature(), &work.row) {
         None => Ok(settle_zero(ring.signature(), progress, i, j, work)?),
@@ -116,7 +115,7 @@ fn settle<R: OreRing>(
     }
 }
 
-// Nothing is left of the combination: its cofactor row is a syzygy, unless it is zero.
+// Nothing is left of the S-row: its cofactor row is a syzygy, unless it is zero.
 fn settle_zero(
     sig: &Signature,
     progress: Progress,
@@ -126,13 +125,13 @@ fn settle_zero(
 ) -> Result<Progress, NoMemory>
     requires ordered { i < j }
     requires left { IsZeroRow work.row }
-    requires kept { IsKept sig.now progress }
+    requires kept { IsProgressOf sig.now progress }
     requires cofactor_width { length work.cofactor ≡ progress.basis.width }
     requires cofactor_of { All (Belongs sig.now) work.cofactor }
     ensures state { IfOk result (λ p. state_of p ≡ run.with_syzygy rationals sig.now.order (state_of progress) i j (work_of work)) }
-    ensures kept { IfOk result (IsKept sig.now) }
+    ensures kept { IfOk result (IsProgressOf sig.now) }
     ensures shape { IfOk result (HasShapeOf progress (choices.Treat i j)) }
-    ensures listed { IfOk result (λ p. Adds i j progress.listed p.listed) }
+    ensures listed { IfOk result (λ p. HaveSamePairs p.listed ((i, j) ∷ progress.listed)) }
 {
     let Reduced {
         row: _,
@@ -158,11 +157,11 @@ fn with_syzygy(
     cofactor: Row,
     origin: Origin,
 ) -> Result<Progress, NoMemory>
-    requires kept { IsKept sig.now progress }
+    requires kept { IsProgressOf sig.now progress }
     requires width { length cofactor ≡ progress.basis.width }
     requires of { All (Belongs sig.now) cofactor }
     ensures syzygies { IfOk result (λ p. map sums_of p.syzygies.items ≡ map sums_of progress.syzygies.items ++ run.unless_zero rationals sig.now.order (sums_of cofactor)) }
-    ensures kept { IfOk result (IsKept sig.now) }
+    ensures kept { IfOk result (IsProgressOf sig.now) }
     ensures origins { IfOk result (λ p. p.origins.items ≡ progress.origins.items ++ map (λ _. origin) (run.unless_zero rationals sig.now.order (sums_of cofactor))) }
     ensures first { IfOk result (λ p. p.first ≡ progress.first) }
     ensures basis { IfOk result (λ p. p.basis ≡ progress.basis) }
@@ -179,7 +178,7 @@ fn with_syzygy(
     Ok(grown)
 }
 
-// What is left of the combination, with the lead coefficient `coef`, is made monic and stands next in the basis.
+// What is left of the S-row, with the lead coefficient `coef`, is made monic and stands next in the basis.
 fn settle_row<R: OreRing>(
     ring: &R,
     alloc: Global,
@@ -190,16 +189,16 @@ fn settle_row<R: OreRing>(
     coef: Rational,
 ) -> Result<Progress, RingStop>
     requires ordered { i < j }
-    requires kept { IsKept (R.signature_of ring.now) progress }
-    requires lead { (t : Term) × IsRowLead rationals (R.signature_of ring.now).order (sums_of work.row) t coef }
+    requires kept { IsProgressOf (R.sig ring.now) progress }
+    requires lead { (t : Term) × IsRowLead rationals (R.sig ring.now).order (sums_of work.row) t coef }
     requires row_width { length work.row ≡ progress.basis.cols }
     requires cofactor_width { length work.cofactor ≡ progress.basis.width }
-    requires row_of { All (Belongs (R.signature_of ring.now)) work.row }
-    requires cofactor_of { All (Belongs (R.signature_of ring.now)) work.cofactor }
-    ensures gives { (t : Term) → IsRowLead rationals (R.signature_of ring.now).order (sums_of work.row) t coef → Gives state_of result (run.with_row rationals rational_inverses (within program (R.signature_of ring.now)) (state_of progress) i j (work_of work) t) }
-    ensures kept { IfOk result (IsKept (R.signature_of ring.now)) }
+    requires row_of { All (Belongs (R.sig ring.now)) work.row }
+    requires cofactor_of { All (Belongs (R.sig ring.now)) work.cofactor }
+    ensures gives { (t : Term) → IsRowLead rationals (R.sig ring.now).order (sums_of work.row) t coef → Gives state_of result (run.with_row rationals rational_inverses (within program (R.sig ring.now)) (state_of progress) i j (work_of work) t) }
+    ensures kept { IfOk result (IsProgressOf (R.sig ring.now)) }
     ensures shape { IfOk result (HasShapeOf progress (choices.Treat i j)) }
-    ensures listed { IfOk result (λ p. Adds i j progress.listed p.listed) }
+    ensures listed { IfOk result (λ p. HaveSamePairs p.listed ((i, j) ∷ progress.listed)) }
 {
     let Progress {
         first,

@@ -2,8 +2,15 @@
 
 ghost use Rattle.std.specs.Prelude.{◌≡◌, ◌≢◌, ◌∷◌, ◌++◌, [], IfOk, IfErr};
 ghost use Rattle.std.specs.List.{All};
+ghost use Rattle.ore_algebra.specs.Limits.{program};
 ghost use Rattle.ore_ring.specs.Belongs.{Belongs};
-ghost use Rattle.ore_groebner.specs.Choosing.{present, pairs_of, ListsChoices, AreAllListed, AreAfforded};
+ghost use Rattle.ore_rows.specs.Reduction.{leads_of};
+ghost use Rattle.ore_rows.specs.Stored.{rows_of};
+ghost use Rattle.ore_rows.specs.StoredBasis.{HaveLeads};
+ghost use Rattle.ore_pairs.specs.PairRule.{HaveSamePairs, AreAllListed};
+ghost use Rattle.ore_pairs.specs.Runner.{run_within};
+ghost use Rattle.ore_groebner.specs.Choosing.{present, chosen_pairs, AreAfforded};
+ghost use Rattle.ore_groebner.specs.Courses.{last_of, FollowsTo, HaltsIn};
 ghost use Rattle.ore_groebner.specs.Following.{earlier, given_with, IsNext, IsNextAllowed, IsRefusal, IsRefusalAllowed, IsLed};
 ghost use Rattle.ore_groebner.specs.Honest.{AreAllowed, HasOneMoreRun, HasRunsAfter, IsHonest, IsHalted, MayBeSpent};
 ghost use Rattle.ore_groebner.specs.Shown.{shown_of, IsGrownFrom};
@@ -32,18 +39,18 @@ pub fn run<R: OreRing, C: Chooser>(
     a: &Matrix,
     chooser: &mut C,
 ) -> Result<Finished, Halt>
-    requires { All (All (Belongs (R.signature_of ring.now))) a.now.rows }
-    ensures honest { IfOk result (IsHonest (R.signature_of ring.now) a.now (present (C.given chooser.new))) }
-    ensures allowed { IfOk result (λ _. AreAllowed (R.signature_of ring.now) a.now C.allows (present (C.given chooser.new))) }
+    requires { All (All (Belongs (R.sig ring.now))) a.now.rows }
+    ensures honest { IfOk result (IsHonest (R.sig ring.now) a.now (present (C.given chooser.new))) }
+    ensures allowed { IfOk result (λ _. AreAllowed (R.sig ring.now) a.now C.allows (present (C.given chooser.new))) }
     ensures given { IfOk result (λ _. HasOneMoreRun (C.given chooser.old) (C.given chooser.new)) }
-    ensures halted { IfErr result (IsHalted (R.signature_of ring.now) a.now (C.given chooser.new) (C.budget chooser.new) (C.replays chooser.new) (C.kept chooser.new)) }
+    ensures answered { IfOk result (λ f. FollowsTo (R.sig ring.now) C.allows C.allows_spent (run_within program (R.sig ring.now) (rows_of a.now)) (C.given chooser.old) (C.given chooser.new) (last_of f)) }
+    ensures halted { IfErr result (IsHalted (R.sig ring.now) a.now (C.given chooser.new) (C.settings chooser.new)) }
+    ensures halts { IfErr result (HaltsIn (R.sig ring.now) C.allows C.allows_spent (run_within program (R.sig ring.now) (rows_of a.now)) (C.given chooser.old) (C.given chooser.new) (C.settings chooser.new)) }
     ensures halted_given { IfErr result (HasRunsAfter (C.given chooser.old) (C.given chooser.new)) }
-    ensures halted_allowed { IfErr result (λ _. HasOneMoreRun (C.given chooser.old) (C.given chooser.new) → AreAllowed (R.signature_of ring.now) a.now C.allows (present (C.given chooser.new))) }
-    ensures spent_allowed { IfErr result (λ halt. halt ≡ Spent → MayBeSpent (R.signature_of ring.now) a.now C.allows_spent (present (C.given chooser.new))) }
-    ensures afforded { AreAfforded (C.given chooser.old) (C.budget chooser.old) → AreAfforded (C.given chooser.new) (C.budget chooser.new) }
-    ensures budget { C.budget chooser.new ≡ C.budget chooser.old }
-    ensures replays { C.replays chooser.new ≡ C.replays chooser.old }
-    ensures kept { C.kept chooser.new ≡ C.kept chooser.old }
+    ensures halted_allowed { IfErr result (λ _. HasOneMoreRun (C.given chooser.old) (C.given chooser.new) → AreAllowed (R.sig ring.now) a.now C.allows (present (C.given chooser.new))) }
+    ensures spent_allowed { IfErr result (λ halt. halt ≡ Spent → MayBeSpent (R.sig ring.now) a.now C.allows_spent (present (C.given chooser.new))) }
+    ensures afforded { AreAfforded (C.given chooser.old) (C.settings chooser.old).budget → AreAfforded (C.given chooser.new) (C.settings chooser.new).budget }
+    ensures settings { C.settings chooser.new ≡ C.settings chooser.old }
 {
     let started = match begin(ring, alloc, a) {
         Ok(progress) => progress,
@@ -70,24 +77,23 @@ fn complete<R: OreRing, C: Chooser>(
     started: Progress,
 ) -> Result<Progress, Halt>
     requires begun { C.given chooser.old ≢ [] }
-    requires led { IsLed (R.signature_of ring.now) a.now C.allows (present (C.given chooser.old)) started }
+    requires led { IsLed (R.sig ring.now) a.now C.allows (present (C.given chooser.old)) started }
     requires grown { IsGrownFrom (C.shown chooser.old) started.basis }
-    ensures led { IfOk result (IsLed (R.signature_of ring.now) a.now C.allows (present (C.given chooser.new))) }
-    ensures listed { IfOk result (λ p. AreAllListed p.basis p.listed) }
+    ensures led { IfOk result (IsLed (R.sig ring.now) a.now C.allows (present (C.given chooser.new))) }
+    ensures listed { IfOk result (λ p. AreAllListed (leads_of p.basis.items) p.listed) }
     ensures begun { C.given chooser.new ≢ [] }
     ensures earlier { earlier (C.given chooser.new) ≡ earlier (C.given chooser.old) }
-    ensures halted { IfErr result (IsHalted (R.signature_of ring.now) a.now (C.given chooser.new) (C.budget chooser.new) (C.replays chooser.new) (C.kept chooser.new)) }
-    ensures allowed { AreAllowed (R.signature_of ring.now) a.now C.allows (present (C.given chooser.new)) }
-    ensures spent_allowed { IfErr result (λ halt. halt ≡ Spent → MayBeSpent (R.signature_of ring.now) a.now C.allows_spent (present (C.given chooser.new))) }
-    ensures afforded { AreAfforded (C.given chooser.old) (C.budget chooser.old) → AreAfforded (C.given chooser.new) (C.budget chooser.new) }
-    ensures budget { C.budget chooser.new ≡ C.budget chooser.old }
-    ensures replays { C.replays chooser.new ≡ C.replays chooser.old }
-    ensures kept { C.kept chooser.new ≡ C.kept chooser.old }
+    ensures halted { IfErr result (IsHalted (R.sig ring.now) a.now (C.given chooser.new) (C.settings chooser.new)) }
+    ensures allowed { AreAllowed (R.sig ring.now) a.now C.allows (present (C.given chooser.new)) }
+    ensures spent_allowed { IfErr result (λ halt. halt ≡ Spent → MayBeSpent (R.sig ring.now) a.now C.allows_spent (present (C.given chooser.new))) }
+    ensures afforded { AreAfforded (C.given chooser.old) (C.settings chooser.old).budget → AreAfforded (C.given chooser.new) (C.settings chooser.new).budget }
+    ensures settings { C.settings chooser.new ≡ C.settings chooser.old }
 {
     let _ = a;
     let mut progress = started;
     while let Some(choice) = chosen(chooser, &progress)? {
         progress = follow(ring, alloc, progress, choice)?;
+        let _cols = progress.basis.cols();
     }
     Ok(progress)
 }
@@ -95,19 +101,19 @@ fn complete<R: OreRing, C: Chooser>(
 // The next choice; none where each pair is dealt with.
 fn chosen<C: Chooser>(chooser: &mut C, progress: &Progress) -> Result<Option<Choice>, Halt>
     requires begun { C.given chooser.old ≢ [] }
-    requires lists { ListsChoices progress.now.listed (present (C.given chooser.old)) }
+    requires lists { HaveSamePairs progress.now.listed (chosen_pairs (present (C.given chooser.old))) }
     requires grown { IsGrownFrom (C.shown chooser.old) progress.now.basis }
-    ensures next { IfOk result (IsNext progress.now.basis progress.now.listed (C.given chooser.old) (C.budget chooser.old)) }
-    ensures allowed { IfOk result (IsNextAllowed C.allows (shown_of progress.now.basis) (pairs_of (present (C.given chooser.old)))) }
+    ensures next { IfOk result (IsNext (leads_of progress.now.basis.items) progress.now.listed (C.given chooser.old) (C.settings chooser.old).budget) }
+    ensures allowed { IfOk result (IsNextAllowed C.allows (shown_of progress.now.basis) (chosen_pairs (present (C.given chooser.old)))) }
     ensures given { IfOk result (λ o. C.given chooser.new ≡ given_with (C.given chooser.old) o) }
     ensures shown { IfOk result (λ _. C.shown chooser.new ≡ shown_of progress.now.basis) }
     ensures same { IfErr result (λ _. C.given chooser.new ≡ C.given chooser.old) }
-    ensures refusal { IfErr result (IsRefusal progress.now.basis progress.now.listed (C.given chooser.old) (C.budget chooser.old) (C.replays chooser.old) (C.kept chooser.old)) }
-    ensures refusal_allowed { IfErr result (IsRefusalAllowed C.allows_spent (shown_of progress.now.basis) (pairs_of (present (C.given chooser.old)))) }
-    ensures budget { C.budget chooser.new ≡ C.budget chooser.old }
-    ensures replays { C.replays chooser.new ≡ C.replays chooser.old }
-    ensures kept { C.kept chooser.new ≡ C.kept chooser.old }
+    ensures refusal { IfErr result (IsRefusal (leads_of progress.now.basis.items) progress.now.listed (C.given chooser.old) (C.settings chooser.old)) }
+    ensures refusal_allowed { IfErr result (IsRefusalAllowed C.allows_spent (shown_of progress.now.basis) (chosen_pairs (present (C.given chooser.old)))) }
+    ensures settings { C.settings chooser.new ≡ C.settings chooser.old }
+    ensures leads { HaveLeads progress.now.basis.items }
 {
+    let _cols = progress.basis.cols();
     let Ok(next) = chooser.next(&progress.basis, &progress.listed) else {
         return Err(Halt::Memory);
     };

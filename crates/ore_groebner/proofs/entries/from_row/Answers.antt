@@ -4,7 +4,7 @@ use Rattle.ore_monomial.specs.Term.{Term}
 use Rattle.ore_pairs.specs.Run.{constant, entry_row}
 use Rattle.ore_rows.specs.Stored.{sums_of}
 use Rattle.ore_groebner.proofs.Multiples.{from_zero, from_lead}
-use Rattle.ore_groebner.proofs.Progresses.{no_lead}
+use Rattle.ore_groebner.proofs.ProgressParts.{no_lead}
 use Rattle.ore_groebner.proofs.entries.from_row.Goals as goal
 
 pub returns-in_ok-entry_row-in-None-clause-value : goal.returns-in_ok-entry_row-in-None-clause-value

@@ -13,14 +13,14 @@ use Rattle.ore_pairs.specs.Run as run
 use Rattle.ore_rows.specs.Stored.{rows_of, sums_of}
 use Rattle.ore_rows.specs.StoredBasis.{StoredBasis, monics}
 use Rattle.ore_rows.proofs.Dots.{all_at}
-use Rattle.ore_groebner.specs.Progressing.{state_of, IsBegun}
+use Rattle.ore_groebner.specs.RunProgress.{state_of, IsBegun}
 use Rattle.ore_groebner.specs.declared.progress.Progress.{Progress}
-use Rattle.ore_groebner.proofs.Begins.{begun_first, rows_start, rows_next, rows_stop, rows_end, empty_kept}
+use Rattle.ore_groebner.proofs.FirstBasis.{begun_first, rows_start, rows_next, rows_stop, rows_end, empty_kept}
 use Rattle.ore_groebner.proofs.first.begin.Goals as goal
 
 pub loop-k-init : goal.loop-k-init
 loop-k-init g c =
-    let s = g.R.OreRing.signature_of c.args.ring.now in
+    let s = g.R.OreRing.sig c.args.ring.now in
     let p : Progress = record { first = 0; basis = c.new.result; listed = c.new-2.result; events = c.new-3.result; syzygies = c.new-4.result; origins = c.new-5.result } in
     let begun : IsBegun p = record { events = c.new-3.ensures.items; listed = c.new-2.ensures } in
     record {
@@ -33,11 +33,11 @@ loop-k-init g c =
     }
 
 pub begin_row-requires-clause-row_of : goal.begin_row-requires-clause-row_of
-begin_row-requires-clause-row_of g c = all_at (All (Belongs (g.R.OreRing.signature_of c.args.ring.now))) c.args.a.now.rows c.loop-k.k c.row.result.now c.row.ensures.value c.requires
+begin_row-requires-clause-row_of g c = all_at (All (Belongs (g.R.OreRing.sig c.args.ring.now))) c.args.a.now.rows c.loop-k.k c.row.result.now c.row.ensures.value c.requires
 
 pub returns-in_err-progress-clause-gives : goal.returns-in_err-progress-clause-gives
 returns-in_err-progress-clause-gives g c =
-    let s = g.R.OreRing.signature_of c.args.ring.now in
+    let s = g.R.OreRing.sig c.args.ring.now in
     let a = c.args.a.now in
     let p = err_from_is_err_and c.from_residual.result c.from_residual.ensures.1 in
     let width = length-map a.rows sums_of ∙ sym c.loop-k.invariant.width in
@@ -45,7 +45,7 @@ returns-in_err-progress-clause-gives g c =
 
 pub loop-k-preserved : goal.loop-k-preserved
 loop-k-preserved g c =
-    let s = g.R.OreRing.signature_of c.args.ring.now in
+    let s = g.R.OreRing.sig c.args.ring.now in
     let a = c.args.a.now in
     let i = c.loop-k.invariant in
     let e = c.in_ok-progress.ensures in
@@ -61,12 +61,12 @@ loop-k-preserved g c =
 
 pub returns-clause-gives : goal.returns-clause-gives
 returns-clause-gives g c =
-    let s = g.R.OreRing.signature_of c.args.ring.now in
+    let s = g.R.OreRing.sig c.args.ring.now in
     let a = c.args.a.now in
     c.loop-k.invariant.told ∙ rows_end s (rows_of a) (length (rows_of a)) c.loop-k.k (state_of c.loop-k.progress) (subst (λ n. n ≤ c.loop-k.k) (sym (length-map a.rows sums_of)) (grind arith))
 
 pub returns-clause-first : goal.returns-clause-first
 returns-clause-first g c =
     let i = c.loop-k.invariant in
-    let e = begun_first (g.R.OreRing.signature_of c.args.ring.now) c.loop-k.progress i.kept i.begun in
+    let e = begun_first (g.R.OreRing.sig c.args.ring.now) c.loop-k.progress i.kept i.begun in
     (e, grind (arith, e, i.few, c.rows-k-end.ensures.value))

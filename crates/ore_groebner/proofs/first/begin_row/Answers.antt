@@ -12,13 +12,13 @@ use Rattle.ore_pairs.specs.Run as run
 use Rattle.ore_rows.specs.declared.choices.Origin.TheVariants as origin
 use Rattle.ore_rows.specs.Stored.{sums_of}
 use Rattle.ore_rows.proofs.GreatestTerms.{row_lead_from}
-use Rattle.ore_groebner.specs.Progressing.{state_of, based, IsKept}
-use Rattle.ore_groebner.proofs.Begins.{begin_none, begin_some}
-use Rattle.ore_groebner.proofs.Progresses.{no_lead}
+use Rattle.ore_groebner.specs.RunProgress.{state_of, with_basis_row, IsProgressOf}
+use Rattle.ore_groebner.proofs.FirstBasis.{begin_none, begin_some}
+use Rattle.ore_groebner.proofs.ProgressParts.{no_lead}
 use Rattle.ore_groebner.proofs.first.begin_row.Goals as goal
 
 pub begin_zero-requires-clause-kept : goal.begin_zero-requires-clause-kept
-begin_zero-requires-clause-kept g c = subst (λ (v : Signature). IsKept v c.args.progress) (sym c.signature-in-None.ensures) c.requires.kept
+begin_zero-requires-clause-kept g c = subst (λ (v : Signature). IsProgressOf v c.args.progress) (sym c.signature-in-None.ensures) c.requires.kept
 
 pub begin_monic-requires-clause-lead : goal.begin_monic-requires-clause-lead
 begin_monic-requires-clause-lead g c =
@@ -27,7 +27,7 @@ begin_monic-requires-clause-lead g c =
 
 pub returns-in_ok-begin_zero-in-None-clause-gives : goal.returns-in_ok-begin_zero-in-None-clause-gives
 returns-in_ok-begin_zero-in-None-clause-gives g c =
-    let s = g.R.OreRing.signature_of c.args.ring.now in
+    let s = g.R.OreRing.sig c.args.ring.now in
     let p = c.args.progress in
     let unit = c.in_ok-unit.ensures.value ∙ ap (λ n. unit_row rationals n c.args.k) c.width.ensures in
     begin_none s p.basis.width c.args.k (sums_of c.args.row.now) (state_of p) (no_lead s.order c.args.row.now c.in-None.ensures)
@@ -36,9 +36,9 @@ returns-in_ok-begin_zero-in-None-clause-gives g c =
 
 pub returns-in-Some-clause-gives : goal.returns-in-Some-clause-gives
 returns-in-Some-clause-gives g c =
-    let s = g.R.OreRing.signature_of c.args.ring.now in
+    let s = g.R.OreRing.sig c.args.ring.now in
     let p = c.args.progress in
     let u : Term = record { monomial = c.in-Some.found.1; column = c.in-Some.found.0 } in
     let lead = subst (λ (v : Signature). IsRowLead rationals v.order (sums_of c.args.row.now) u c.in-Some.found.2) c.signature-2.ensures c.in-Some.ensures in
     let unit = c.in_ok-unit.ensures.value ∙ ap (λ n. unit_row rationals n c.args.k) c.width.ensures in
-    subst (Gives state_of c.begin_monic.result) (sym (begin_some s p.basis.width c.args.k (sums_of c.args.row.now) (state_of p) u (row_lead_from rationals s.order (sums_of c.args.row.now) u c.in-Some.found.2 lead) ∙ (λ n. based (state_of p) (run.made_monic rationals rational_inverses (within program s) (sums_of c.args.row.now) (sym unit n) u)))) (c.begin_monic.ensures.gives u lead)
+    subst (Gives state_of c.begin_monic.result) (sym (begin_some s p.basis.width c.args.k (sums_of c.args.row.now) (state_of p) u (row_lead_from rationals s.order (sums_of c.args.row.now) u c.in-Some.found.2 lead) ∙ (λ n. with_basis_row (state_of p) (run.monic_multiple rationals rational_inverses (within program s) (sums_of c.args.row.now) (sym unit n) u)))) (c.begin_monic.ensures.gives u lead)

@@ -1,18 +1,19 @@
-use Rattle.std.proofs.Common.{refl, subst, sym}
+use Rattle.std.proofs.Common.{◌<◌, subst, sym}
+use Rattle.std.proofs.lemmas.List.{length-map}
 use Rattle.ore_groebner.specs.Following.{IsStopOf}
-use Rattle.ore_groebner.specs.Progressing.{state_of}
+use Rattle.ore_groebner.specs.RunProgress.{state_of}
 use Rattle.ore_rows.specs.declared.choices.Choice.TheVariants as choices
-use Rattle.ore_groebner.proofs.Opened.{open_pair-rows, treat_made, treat_stops}
+use Rattle.ore_groebner.proofs.LawfulSteps.{lawful_treat, lawful_kept, treat_followed, treat_stops}
 use Rattle.ore_groebner.proofs.following.follow_treat.Goals as goal
 
 pub returns-in-Ok-clause-followed : goal.returns-in-Ok-clause-followed
 returns-in-Ok-clause-followed g c =
-    let s = g.R.OreRing.signature_of c.args.ring.now in
+    let s = g.R.OreRing.sig c.args.ring.now in
     let p = c.args.progress in
-    let rows = open_pair-rows p.basis p.listed (state_of p) c.args.i c.args.j c.requires.lawful refl c.requires.kept.listed in
+    let lawful = lawful_kept s p (choices.Treat c.args.i c.args.j) c.requires.kept c.requires.lawful in
     let e = c.in-Ok.ensures in
     record {
-      made = treat_made s (state_of p) c.args.i c.args.j rows.first rows.second rows.are_open _ (e.gives rows.first rows.second rows.stand);
+      made = treat_followed s (state_of p) c.args.i c.args.j lawful _ e.gives;
       kept = e.kept;
       shape = e.shape;
       listed = e.listed;
@@ -20,7 +21,16 @@ returns-in-Ok-clause-followed g c =
 
 pub returns-in-Err-clause-halted : goal.returns-in-Err-clause-halted
 returns-in-Err-clause-halted g c =
-    let s = g.R.OreRing.signature_of c.args.ring.now in
+    let s = g.R.OreRing.sig c.args.ring.now in
     let p = c.args.progress in
-    let rows = open_pair-rows p.basis p.listed (state_of p) c.args.i c.args.j c.requires.lawful refl c.requires.kept.listed in
-    subst (IsStopOf s (state_of p) (choices.Treat c.args.i c.args.j)) (sym c.halt_at.ensures) (treat_stops s (state_of p) c.args.i c.args.j rows.first rows.second rows.are_open c.in-Err.stop (c.in-Err.ensures.gives rows.first rows.second rows.stand))
+    let lawful = lawful_kept s p (choices.Treat c.args.i c.args.j) c.requires.kept c.requires.lawful in
+    subst (IsStopOf s (state_of p) (choices.Treat c.args.i c.args.j)) (sym c.halt_at.ensures) (treat_stops s (state_of p) c.args.i c.args.j lawful c.in-Err.stop c.in-Err.ensures.gives)
+
+pub treat-requires-clause-ordered : goal.treat-requires-clause-ordered
+treat-requires-clause-ordered g c = (lawful_treat _ _ (choices.Treat c.args.i c.args.j) c.requires.lawful).ordered
+
+pub treat-requires-clause-inside : goal.treat-requires-clause-inside
+treat-requires-clause-inside g c = subst (λ n. c.args.j < n) (length-map c.args.progress.basis.items (λ b. b.lead)) (lawful_treat _ _ (choices.Treat c.args.i c.args.j) c.requires.lawful).within
+
+pub treat-requires-clause-columns : goal.treat-requires-clause-columns
+treat-requires-clause-columns g c = (lawful_treat _ _ (choices.Treat c.args.i c.args.j) c.requires.lawful).columns

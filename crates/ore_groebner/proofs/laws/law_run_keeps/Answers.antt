@@ -9,4 +9,4 @@ use Rattle.ore_groebner.proofs.laws.law_run_keeps.Goals as goal
 pub returns : goal.returns
 returns c = λ l n a st long reached.
     let h = reached_holds rationals rational_inverses c.args.sig.now (lawful c.args.sig.now) c.args.sig.now.order n a long (within l c.args.sig.now) (within_sound l c.args.sig.now) st reached in
-    (keeps rationals c.args.sig.now (lawful c.args.sig.now) c.args.sig.now.order n a long st h, h.lines)
+    (keeps rationals c.args.sig.now (lawful c.args.sig.now) c.args.sig.now.order n a long st h, h.entries)

@@ -8,5 +8,5 @@ use Rattle.ore_groebner.proofs.monic.inverse_term.Goals as goal
 
 pub returns-clause-of : goal.returns-clause-of
 returns-clause-of g c =
-    let s = g.R.OreRing.signature_of c.args.ring.now in
+    let s = g.R.OreRing.sig c.args.ring.now in
     term_belongs {E = NoMemory} s c.order-order.result c.zero.result c.inverse.result (Ok c.in_ok-term.field-0) (c.order-order.ensures ∙ ap (λ (v : Signature). v.order) c.signature.ensures) (subst (MonomialOf s) (sym c.zero.ensures) (MonomialOf-unit s)) c.in_ok-term.ensures

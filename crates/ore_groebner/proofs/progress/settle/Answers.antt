@@ -9,8 +9,8 @@ use Rattle.ore_pairs.specs.Run as run
 use Rattle.ore_rows.specs.Stored.{sums_of}
 use Rattle.ore_rows.proofs.GreatestTerms.{row_lead_from}
 use Rattle.ore_division.specs.StoredWork.{work_of}
-use Rattle.ore_groebner.specs.Progressing.{state_of}
-use Rattle.ore_groebner.proofs.Progresses.{no_lead, settle_none, settle_some}
+use Rattle.ore_groebner.specs.RunProgress.{state_of}
+use Rattle.ore_groebner.proofs.ProgressParts.{no_lead, settle_none, settle_some}
 use Rattle.ore_groebner.proofs.progress.settle.Goals as goal
 
 pub settle_row-requires-clause-lead : goal.settle_row-requires-clause-lead
@@ -20,14 +20,14 @@ settle_row-requires-clause-lead g c =
 
 pub returns-in_ok-settle_zero-in-None-clause-gives : goal.returns-in_ok-settle_zero-in-None-clause-gives
 returns-in_ok-settle_zero-in-None-clause-gives g c =
-    let s = g.R.OreRing.signature_of c.args.ring.now in
+    let s = g.R.OreRing.sig c.args.ring.now in
     settle_none s (state_of c.args.progress) c.args.i c.args.j (work_of c.args.work) (no_lead s.order c.args.work.row c.in-None.ensures)
     ∙ ap (λ (v : Signature). Ok (run.with_syzygy rationals v.order (state_of c.args.progress) c.args.i c.args.j (work_of c.args.work))) (sym c.signature-in-None.ensures)
     ∙ ap Ok (sym c.in_ok-settle_zero-in-None.ensures.state)
 
 pub returns-in-Some-clause-gives : goal.returns-in-Some-clause-gives
 returns-in-Some-clause-gives g c =
-    let s = g.R.OreRing.signature_of c.args.ring.now in
+    let s = g.R.OreRing.sig c.args.ring.now in
     let u : Term = record { monomial = c.in-Some.found.1; column = c.in-Some.found.0 } in
     let lead = subst (λ (v : Signature). IsRowLead rationals v.order (sums_of c.args.work.row) u c.in-Some.found.2) c.signature.ensures c.in-Some.ensures in
     subst (Gives state_of c.settle_row.result) (sym (settle_some s (state_of c.args.progress) c.args.i c.args.j (work_of c.args.work) u (row_lead_from rationals s.order (sums_of c.args.work.row) u c.in-Some.found.2 lead))) (c.settle_row.ensures.gives u lead)

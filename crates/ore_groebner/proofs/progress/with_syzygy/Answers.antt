@@ -1,7 +1,7 @@
-use Rattle.std.proofs.Common.{◌++◌, map, refl, sym, ap, ◌∙◌, true≢false}
+use Rattle.std.proofs.Common.{◌∷◌, [], ◌++◌, map, refl, sym, ap, ◌∙◌, true≢false}
 use Rattle.ore_rows.specs.Stored.{sums_of}
-use Rattle.ore_groebner.proofs.StoredMonics.{map_push}
-use Rattle.ore_groebner.proofs.Progresses.{append_nil, unless_zero-zero, unless_zero-row, more_syzygies}
+use Rattle.std.proofs.lemmas.List.{map-append}
+use Rattle.ore_groebner.proofs.ProgressParts.{append_nil, unless_zero-zero, unless_zero-row, more_syzygies}
 use Rattle.ore_groebner.proofs.progress.with_syzygy.Goals as goal
 
 pub returns-then-is_zero-clause-syzygies : goal.returns-then-is_zero-clause-syzygies
@@ -10,7 +10,7 @@ returns-then-is_zero-clause-syzygies c = sym (ap (λ rs. map sums_of c.args.prog
 pub returns-clause-syzygies : goal.returns-clause-syzygies
 returns-clause-syzygies c =
     ap (map sums_of) c.in_ok-push.ensures.items
-    ∙ map_push sums_of c.args.progress.syzygies.items c.args.cofactor
+    ∙ map-append sums_of c.args.progress.syzygies.items (c.args.cofactor ∷ [])
     ∙ sym (ap (λ rs. map sums_of c.args.progress.syzygies.items ++ rs) (unless_zero-row c.args.sig.now.order c.args.cofactor (λ z. true≢false (sym (c.if-is_zero.ensures.1 z)))))
 
 pub returns-clause-kept : goal.returns-clause-kept

@@ -9,14 +9,12 @@ use Rattle.ore_groebner.proofs.run.complete.Given as goal
 abbrev pub invariant-loop-progress : goal.invariant-loop-progress
 invariant-loop-progress g l = record {
   begun : g.C.Chooser.given l.chooser ≢ [];
-  led : IsLed (g.R.OreRing.signature_of l.ring) l.a g.C.Rule.allows (present (g.C.Chooser.given l.chooser)) l.progress;
+  led : IsLed (g.R.OreRing.sig l.ring) l.a g.C.Rule.allows (present (g.C.Chooser.given l.chooser)) l.progress;
   grown : IsGrownFrom (g.C.Chooser.shown l.chooser) l.progress.basis;
   earlier : earlier (g.C.Chooser.given l.chooser) ≡ earlier (g.C.Chooser.given l.fn.chooser);
-  afforded : AreAfforded (g.C.Chooser.given l.fn.chooser) (g.C.Chooser.budget l.fn.chooser) → AreAfforded (g.C.Chooser.given l.chooser) (g.C.Chooser.budget l.chooser);
-  budget : g.C.Chooser.budget l.chooser ≡ g.C.Chooser.budget l.fn.chooser;
-  replays : g.C.Chooser.replays l.chooser ≡ g.C.Chooser.replays l.fn.chooser;
-  kept : g.C.Chooser.kept l.chooser ≡ g.C.Chooser.kept l.fn.chooser;
+  afforded : AreAfforded (g.C.Chooser.given l.fn.chooser) (g.C.Chooser.settings l.fn.chooser).budget → AreAfforded (g.C.Chooser.given l.chooser) (g.C.Chooser.settings l.chooser).budget;
+  settings : g.C.Chooser.settings l.chooser ≡ g.C.Chooser.settings l.fn.chooser;
 }
 
 abbrev pub decreases-loop-progress : goal.decreases-loop-progress
-decreases-loop-progress g l = unlisted l.progress.listed (rows_left l.progress.basis (g.C.Chooser.given l.chooser) (g.C.Chooser.budget l.chooser))
+decreases-loop-progress g l = unlisted l.progress.listed (rows_left l.progress.basis (g.C.Chooser.given l.chooser) (g.C.Chooser.settings l.chooser).budget)

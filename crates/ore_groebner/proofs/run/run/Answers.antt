@@ -8,18 +8,20 @@ use Rattle.ore_rational.proofs.FractionLaws.{rationals}
 use Rattle.ore_rows.specs.Reduction.{leads_of}
 use Rattle.ore_pairs.specs.Run.{from_rows}
 use Rattle.ore_rows.specs.Stored.{OperatorMatrix, rows_of}
-use Rattle.ore_groebner.specs.Choosing.{present}
+use Rattle.ore_groebner.specs.Choosing.{Settings, present}
 use Rattle.ore_groebner.specs.Following.{earlier, IsLed}
-use Rattle.ore_groebner.specs.Progressing.{state_of}
+use Rattle.ore_groebner.specs.RunProgress.{state_of}
 use Rattle.ore_groebner.specs.Shown.{Shown, IsGrownFrom}
 use Rattle.ore_groebner.proofs.Ending.{led_honest, runs_after}
 use Rattle.ore_groebner.proofs.Given.{present-start, one_more, afforded_start}
+use Rattle.ore_course.specs.Following.{IsHaltedIn}
 use Rattle.ore_groebner.proofs.Leading.{led_start}
+use Rattle.ore_groebner.proofs.RunCourses.{last_led, run_answered, run_halted, forced_halts}
 use Rattle.ore_groebner.proofs.run.run.Goals as goal
 
 pub complete-requires-clause-led : goal.complete-requires-clause-led
 complete-requires-clause-led g c =
-    let s = g.R.OreRing.signature_of c.args.ring.now in
+    let s = g.R.OreRing.sig c.args.ring.now in
     let a = c.args.a.now in
     let p = c.in-Ok.progress in
     let e = c.in-Ok.ensures in
@@ -43,7 +45,7 @@ finished-requires-clause-few g c =
 
 pub returns-clause-honest : goal.returns-clause-honest
 returns-clause-honest g c =
-    let s = g.R.OreRing.signature_of c.args.ring.now in
+    let s = g.R.OreRing.sig c.args.ring.now in
     let a = c.args.a.now in
     let p = c.in_ok-progress.progress in
     let e = c.in-Ok-from_matrix.ensures in
@@ -60,13 +62,13 @@ returns-clause-honest g c =
 
 pub returns-in_err-progress-clause-halted_given : goal.returns-in_err-progress-clause-halted_given
 returns-in_err-progress-clause-halted_given g c =
-    let s = g.R.OreRing.signature_of c.args.ring.now in
+    let s = g.R.OreRing.sig c.args.ring.now in
     let p = c.in-Ok.progress in
     let x = c.complete.new.chooser in
     let given = g.C.Chooser.given x in
     let more = one_more (g.C.Chooser.given c.args.chooser.now) given c.complete.ensures.begun (c.complete.ensures.earlier ∙ ap earlier c.in-Ok-start_run.ensures.begun) in
     let e = err_from_is_err_and c.from_residual.result c.from_residual.ensures.1 in
-    rw (e.1, e.2) (runs_after s c.args.a.now g.C.Rule.allows p (g.C.Chooser.given c.args.chooser.now) given (state_of p) c.in-Ok.ensures.gives more (g.C.Chooser.budget x) (g.C.Chooser.replays x) (g.C.Chooser.kept x) _ c.in_err-progress.ensures.halted)
+    rw (e.1, e.2) (runs_after s c.args.a.now g.C.Rule.allows p (g.C.Chooser.given c.args.chooser.now) given (state_of p) c.in-Ok.ensures.gives more (g.C.Chooser.settings x) _ c.in_err-progress.ensures.halted)
 
 pub returns-in_default-from_matrix-clause-halted_given : goal.returns-in_default-from_matrix-clause-halted_given
 returns-in_default-from_matrix-clause-halted_given g c = inr (one_more (g.C.Chooser.given c.args.chooser.now) (g.C.Chooser.given c.complete.new.chooser) c.complete.ensures.begun (c.complete.ensures.earlier ∙ ap earlier c.in-Ok-start_run.ensures.begun))
@@ -78,16 +80,51 @@ pub returns-in_err-progress-clause-afforded : goal.returns-in_err-progress-claus
 returns-in_err-progress-clause-afforded g c h =
     let x = c.args.chooser.now in
     let y = c.start_run.new.self in
-    c.complete.ensures.afforded (afforded_start (g.C.Chooser.given x) (g.C.Chooser.given y) (g.C.Chooser.budget x) (g.C.Chooser.budget y) c.in-Ok-start_run.ensures.begun c.start_run.ensures.budget h)
+    c.complete.ensures.afforded (afforded_start (g.C.Chooser.given x) (g.C.Chooser.given y) (g.C.Chooser.settings x).budget (g.C.Chooser.settings y).budget c.in-Ok-start_run.ensures.begun (ap (λ (v : Settings). v.budget) c.start_run.ensures.settings) h)
 
 pub returns-in_default-from_matrix-clause-afforded : goal.returns-in_default-from_matrix-clause-afforded
 returns-in_default-from_matrix-clause-afforded g c h =
     let x = c.args.chooser.now in
     let y = c.start_run.new.self in
-    c.complete.ensures.afforded (afforded_start (g.C.Chooser.given x) (g.C.Chooser.given y) (g.C.Chooser.budget x) (g.C.Chooser.budget y) c.in-Ok-start_run.ensures.begun c.start_run.ensures.budget h)
+    c.complete.ensures.afforded (afforded_start (g.C.Chooser.given x) (g.C.Chooser.given y) (g.C.Chooser.settings x).budget (g.C.Chooser.settings y).budget c.in-Ok-start_run.ensures.begun (ap (λ (v : Settings). v.budget) c.start_run.ensures.settings) h)
 
 pub returns-clause-afforded : goal.returns-clause-afforded
 returns-clause-afforded g c h =
     let x = c.args.chooser.now in
     let y = c.start_run.new.self in
-    c.complete.ensures.afforded (afforded_start (g.C.Chooser.given x) (g.C.Chooser.given y) (g.C.Chooser.budget x) (g.C.Chooser.budget y) c.in-Ok-start_run.ensures.begun c.start_run.ensures.budget h)
+    c.complete.ensures.afforded (afforded_start (g.C.Chooser.given x) (g.C.Chooser.given y) (g.C.Chooser.settings x).budget (g.C.Chooser.settings y).budget c.in-Ok-start_run.ensures.begun (ap (λ (v : Settings). v.budget) c.start_run.ensures.settings) h)
+
+pub returns-in-Err-clause-halts : goal.returns-in-Err-clause-halts
+returns-in-Err-clause-halts g c =
+    let x = c.args.chooser.now in
+    let given = g.C.Chooser.given x in
+    forced_halts (g.R.OreRing.sig c.args.ring.now) g.C.Rule.allows g.C.Rule.allows_spent c.args.a.now given given refl (g.C.Chooser.settings x) _ c.halt_at.result c.halt_at.ensures c.in-Err.ensures.gives
+
+pub returns-in_default-clause-halts : goal.returns-in_default-clause-halts
+unfolding IsHaltedIn
+returns-in_default-clause-halts g c = tt
+
+pub returns-in_err-progress-clause-halts : goal.returns-in_err-progress-clause-halts
+returns-in_err-progress-clause-halts g c =
+    let s = g.R.OreRing.sig c.args.ring.now in
+    let x = c.complete.new.chooser in
+    let before = g.C.Chooser.given c.args.chooser.now in
+    let given = g.C.Chooser.given x in
+    let halted = c.in_err-progress.ensures.halted in
+    let more = one_more before given c.complete.ensures.begun (c.complete.ensures.earlier ∙ ap earlier c.in-Ok-start_run.ensures.begun) in
+    let runs = runs_after s c.args.a.now g.C.Rule.allows c.in-Ok.progress before given (state_of c.in-Ok.progress) c.in-Ok.ensures.gives more (g.C.Chooser.settings x) _ halted in
+    let e = err_from_is_err_and c.from_residual.result c.from_residual.ensures.1 in
+    rw (e.1, e.2) (run_halted s g.C.Rule.allows g.C.Rule.allows_spent c.args.a.now before given (g.C.Chooser.settings x) _ halted runs (λ _. c.complete.ensures.allowed) c.in_err-progress.ensures.spent_allowed)
+
+pub returns-in_default-from_matrix-clause-halts : goal.returns-in_default-from_matrix-clause-halts
+unfolding IsHaltedIn
+returns-in_default-from_matrix-clause-halts g c = tt
+
+pub returns-clause-answered : goal.returns-clause-answered
+returns-clause-answered g c =
+    let s = g.R.OreRing.sig c.args.ring.now in
+    let p = c.in_ok-progress.progress in
+    let led = c.in_ok-progress.ensures.led in
+    let f = c.finished.ensures in
+    run_answered s g.C.Rule.allows g.C.Rule.allows_spent c.args.a.now (g.C.Chooser.given c.args.chooser.now) (g.C.Chooser.given c.complete.new.chooser) p c.finished.result led c.in_ok-progress.ensures.listed
+    (last_led s p c.finished.result led.kept f.basis f.events (ap rows_of f.syzygies) f.origins) (returns-clause-given g c)

@@ -1,7 +1,7 @@
 -- The first basis of a run.
 --     begin_none, begin_some     a row that is zero, and one that isn't
---     based_stops, based_gives   one more basis row
---     begun_lines, monic_kept    what is kept still fits together
+--     with_basis_row_stops, with_basis_row_gives   one more basis row
+--     begun_entries, monic_kept    what is kept still fits together
 --     begun_first                the number of rows that is kept
 --     drop_at, drop_end          a list from a place on, inside it and past its end
 --     rows_start, rows_next, rows_stop, rows_end     the rows from a place on
@@ -20,16 +20,17 @@ use Rattle.ore_monomial.specs.Term.{Term}
 use Rattle.ore_ring.specs.Belongs.{Belongs}
 use Rattle.ore_ring.specs.Ordered.{Ordered}
 use Rattle.ore_rows.specs.Arithmetic.{within}
-use Rattle.ore_rows.specs.Reduction.{Monic, AreMonic}
+use Rattle.ore_rows.specs.Reduction.{Monic}
 use Rattle.ore_rows.specs.RowLead.{row_lead}
 use Rattle.ore_rows.specs.Rows.{Row, unit_row}
-use Rattle.ore_pairs.specs.Run.{State, is_listed, made_monic}
+use Rattle.ore_pairs.specs.PairRule.{is_listed}
+use Rattle.ore_pairs.specs.PairList.{pairs_of}
+use Rattle.ore_pairs.specs.Run.{State, monic_multiple}
 use Rattle.ore_pairs.specs.Run as run
 use Rattle.ore_rows.specs.Stored.{sums_of}
 use Rattle.ore_rows.specs.StoredBasis.{StoredBasis, AllBelong, monics}
 use Rattle.ore_rows.specs.declared.choices.Origin.TheVariants as origin
-use Rattle.ore_pairs.specs.Listed.{is_in}
-use Rattle.ore_groebner.specs.Progressing.{entries_from, new_rows, pushed, based, state_of, IsBegun, IsKept}
+use Rattle.ore_groebner.specs.RunProgress.{entries_from, new_rows, basis_with, with_basis_row, state_of, IsBegun, IsProgressOf}
 use Rattle.ore_groebner.specs.declared.progress.Progress.{Progress}
 
 module _ (s : Signature) (q k : ℕ) (r : Row rationals) (st : State rationals) where
@@ -38,56 +39,51 @@ module _ (s : Signature) (q k : ℕ) (r : Row rationals) (st : State rationals) 
 
   pub begin_none : row_lead rationals s.order r ≡ None → begun ≡ Ok (record st { syzygies = st.syzygies ++ unit_row rationals q k ∷ []; origins = st.origins ++ origin.ZeroRow k ∷ [] })
   unfolding run.begin_row
-  begin_none e = ap (λ (x : Option Term). elim x [ None ↦ Ok (record st { syzygies = st.syzygies ++ unit_row rationals q k ∷ []; origins = st.origins ++ origin.ZeroRow k ∷ [] }) | Some t ↦ based st (made_monic rationals rational_inverses (within program s) r (unit_row rationals q k) t) ]) e
+  begin_none e = ap (λ (x : Option Term). elim x [ None ↦ Ok (record st { syzygies = st.syzygies ++ unit_row rationals q k ∷ []; origins = st.origins ++ origin.ZeroRow k ∷ [] }) | Some t ↦ with_basis_row st (monic_multiple rationals rational_inverses (within program s) r (unit_row rationals q k) t) ]) e
 
-  pub begin_some : (t : Term) → row_lead rationals s.order r ≡ Some t → begun ≡ based st (made_monic rationals rational_inverses (within program s) r (unit_row rationals q k) t)
+  pub begin_some : (t : Term) → row_lead rationals s.order r ≡ Some t → begun ≡ with_basis_row st (monic_multiple rationals rational_inverses (within program s) r (unit_row rationals q k) t)
   unfolding run.begin_row
-  begin_some t e = ap (λ (x : Option Term). elim x [ None ↦ Ok (record st { syzygies = st.syzygies ++ unit_row rationals q k ∷ []; origins = st.origins ++ origin.ZeroRow k ∷ [] }) | Some t ↦ based st (made_monic rationals rational_inverses (within program s) r (unit_row rationals q k) t) ]) e
+  begin_some t e = ap (λ (x : Option Term). elim x [ None ↦ Ok (record st { syzygies = st.syzygies ++ unit_row rationals q k ∷ []; origins = st.origins ++ origin.ZeroRow k ∷ [] }) | Some t ↦ with_basis_row st (monic_multiple rationals rational_inverses (within program s) r (unit_row rationals q k) t) ]) e
 
 -- ---- one more basis row
 
-pub based_stops : (st : State rationals) (made : Result (Monic (Row rationals)) Cause) (c : Cause) → pushed st.basis made ≡ Err c → based st made ≡ Err c
-based_stops st (Ok b) c e = absurd (ok_is_err e)
+pub with_basis_row_stops : (st : State rationals) (made : Result (Monic (Row rationals)) Cause) (c : Cause) → basis_with st.basis made ≡ Err c → with_basis_row st made ≡ Err c
+with_basis_row_stops st (Ok b) c e = absurd (ok_is_err e)
   where
     ok_is_err : {A : Type 0} {x : A} → ◌≡◌ {A = Result A Cause} (Ok x) (Err c) → ⊥
     ok_is_err e = cc
-based_stops st (Err d) c e = ap Err (same_err d c e)
+with_basis_row_stops st (Err d) c e = ap Err (same_err d c e)
   where
     same_err : (x y : Cause) → ◌≡◌ {A = Result (List (Monic (Row rationals))) Cause} (Err x) (Err y) → x ≡ y
     same_err x y e = cc
 
-pub based_gives : (st : State rationals) (made : Result (Monic (Row rationals)) Cause) (bs : List (Monic (Row rationals))) → pushed st.basis made ≡ Ok bs → based st made ≡ Ok (record st { basis = bs })
-based_gives st (Err d) bs e = absurd (err_is_ok e)
+pub with_basis_row_gives : (st : State rationals) (made : Result (Monic (Row rationals)) Cause) (bs : List (Monic (Row rationals))) → basis_with st.basis made ≡ Ok bs → with_basis_row st made ≡ Ok (record st { basis = bs })
+with_basis_row_gives st (Err d) bs e = absurd (err_is_ok e)
   where
     err_is_ok : {A : Type 0} {x : A} → ◌≡◌ {A = Result A Cause} (Err d) (Ok x) → ⊥
     err_is_ok e = cc
-based_gives st (Ok b) bs e = ap (λ bs. Ok (record st { basis = bs })) (same_ok _ _ e)
+with_basis_row_gives st (Ok b) bs e = ap (λ bs. Ok (record st { basis = bs })) (same_ok _ _ e)
   where
     same_ok : (x y : List (Monic (Row rationals))) → ◌≡◌ {A = Result (List (Monic (Row rationals))) Cause} (Ok x) (Ok y) → x ≡ y
     same_ok x y e = cc
 
 -- ---- what is kept
 
-no_lines : (n : ℕ) → entries_from n [] ≡ []
+no_entries : (n : ℕ) → entries_from n [] ≡ []
 unfolding entries_from
-no_lines n = refl
+no_entries n = refl
 
 none_new : new_rows [] ≡ 0
 unfolding new_rows
 none_new = refl
 
-none_listed : (x y : ℕ) → is_in x y [] ≡ is_listed rationals x y []
-unfolding is_in is_listed
-none_listed x y = refl
+pub begun_entries : (p : Progress) (n : ℕ) → IsBegun p → entries_from n p.events.items ≡ []
+begun_entries p n b = ap (entries_from n) b.events ∙ no_entries n
 
-pub begun_lines : (p : Progress) (n : ℕ) → IsBegun p → entries_from n p.events.items ≡ []
-begun_lines p n b = ap (entries_from n) b.events ∙ no_lines n
-
-pub monic_kept : (s : Signature) (q : Progress) → IsBegun q → q.first ≡ length q.basis.items → AllBelong s q.basis.items → AreMonic rationals s.order (monics q.basis) → All (λ r. length r ≡ q.basis.width) q.syzygies.items → All (All (Belongs s)) q.syzygies.items → IsKept s q
-monic_kept s q begun first belongs monic wide of = record {
+pub monic_kept : (s : Signature) (q : Progress) → IsBegun q → q.first ≡ length q.basis.items → AllBelong s q.basis.items → All (λ r. length r ≡ q.basis.width) q.syzygies.items → All (All (Belongs s)) q.syzygies.items → IsProgressOf s q
+monic_kept s q begun first belongs wide of = record {
   belongs = belongs;
-  monic = monic;
-  listed = λ x y. ap (is_in x y) begun.listed ∙ none_listed x y ∙ ap (is_listed rationals x y) (sym (begun_lines q q.first begun));
+  listed = λ x y. ap (is_listed x y) begun.listed ∙ ap (λ es. is_listed x y (pairs_of es)) (sym (begun_entries q q.first begun));
   counted = counts (length q.basis.items) q.first (new_rows q.events.items) first (ap new_rows begun.events ∙ none_new);
   wide = wide;
   of = of;
@@ -97,7 +93,7 @@ monic_kept s q begun first belongs monic wide of = record {
     counts a f n h k = omega arith
 
 -- what a run begins with counts the rows of its basis
-pub begun_first : (s : Signature) (p : Progress) → IsKept s p → IsBegun p → p.first ≡ length p.basis.items
+pub begun_first : (s : Signature) (p : Progress) → IsProgressOf s p → IsBegun p → p.first ≡ length p.basis.items
 begun_first s p kept begun = counts (length p.basis.items) p.first (new_rows p.events.items) kept.counted (ap new_rows begun.events ∙ none_new)
   where
     counts : (a f n : ℕ) → a ≡ f + n → n ≡ 0 → f ≡ a
@@ -142,7 +138,7 @@ module _ (s : Signature) (rows : List (Row rationals)) where
 
   pub rows_start : (p : Progress) → monics p.basis ≡ [] → IsBegun p → p.syzygies.items ≡ [] → p.origins.items ≡ [] → run.begin rationals rational_inverses s.order (within program s) rows ≡ begin_at (length rows) 0 (drop 0 rows) (state_of p)
   unfolding run.begin
-  rows_start p basis begun syzygies origins = λ n. begin_at (length rows) 0 rows (record { basis = sym basis n; listed = sym (begun_lines p p.first begun) n; syzygies = map sums_of (sym syzygies n); origins = sym origins n })
+  rows_start p basis begun syzygies origins = λ n. begin_at (length rows) 0 rows (record { basis = sym basis n; listed = sym (begun_entries p p.first begun) n; syzygies = map sums_of (sym syzygies n); origins = sym origins n })
 
-pub empty_kept : (s : Signature) (p : Progress) (n m : ℕ) → p.basis ≡ record { cols = n; width = m; items = [] } → p.first ≡ 0 → IsBegun p → p.syzygies.items ≡ [] → IsKept s p
-empty_kept s p n m basis first begun syzygies = monic_kept s p begun (first ∙ ap (λ (b : StoredBasis). length b.items) (sym basis)) (subst (λ (b : StoredBasis). AllBelong s b.items) (sym basis) (All-nil _)) (subst (λ (b : StoredBasis). AreMonic rationals s.order (monics b)) (sym basis) (All-nil _)) (subst (All (λ (r : List Ordered). length r ≡ p.basis.width)) (sym syzygies) (All-nil _)) (subst (All (All (Belongs s))) (sym syzygies) (All-nil _))
+pub empty_kept : (s : Signature) (p : Progress) (n m : ℕ) → p.basis ≡ record { cols = n; width = m; items = [] } → p.first ≡ 0 → IsBegun p → p.syzygies.items ≡ [] → IsProgressOf s p
+empty_kept s p n m basis first begun syzygies = monic_kept s p begun (first ∙ ap (λ (b : StoredBasis). length b.items) (sym basis)) (subst (λ (b : StoredBasis). AllBelong s b.items) (sym basis) (All-nil _)) (subst (All (λ (r : List Ordered). length r ≡ p.basis.width)) (sym syzygies) (All-nil _)) (subst (All (All (Belongs s))) (sym syzygies) (All-nil _))

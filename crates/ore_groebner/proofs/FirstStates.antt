@@ -20,14 +20,15 @@ use Rattle.ore_rows.specs.Rows.{Row, RowOf, AreLong, zero_row, unit_row, row_sca
 use Rattle.ore_rows.specs.RowLead.{coefficient_at, row_lead}
 use Rattle.ore_rows.specs.Arithmetic.{Arithmetic, exact}
 use Rattle.ore_rows.specs.Reduction.{Monic}
-use Rattle.ore_pairs.specs.Run.{State, constant, made_monic, begin_row, begin_rows, begin}
+use Rattle.ore_pairs.specs.Run.{State, constant, monic_multiple, begin_row, begin_rows, begin}
 use Rattle.ore_rows.specs.declared.choices.Origin.{Origin}
 use Rattle.ore_rows.specs.declared.choices.Origin.TheVariants.{ZeroRow, Event}
 use Rattle.ore_rows.proofs.GreatestTerms.{zero_from}
 use Rattle.ore_rows.proofs.UnitRows.{length-unit_row, of_unit_row, combine-unit_row}
 use Rattle.ore_pairs.specs.PairList.{Entry, AreLawful, AreEntriesOf}
-use Rattle.ore_groebner.specs.RunLaws.{IsBasisRow, IsSyzygy, IsNone, IsFrom, IsPlaceIn, AreShown}
-use Rattle.ore_groebner.proofs.Limited.{given, monic_of, monic_exact}
+use Rattle.ore_groebner.specs.RunLaws.{IsBasisRow, IsSyzygy, IsNone, IsFrom, IsPlaceIn, HaveTheirSyzygies}
+use Rattle.ore_groebner.proofs.Limited.{monic_of, monic_exact}
+use Rattle.ore_algebra.proofs.ResultLaws.{same_ok}
 use Rattle.ore_groebner.proofs.Growing.{map_grow, map_last}
 use Rattle.ore_groebner.proofs.Sources.{all_imply, none_other, none_more, from_more, from_new}
 use Rattle.ore_groebner.proofs.Holding.{AreBack, Holds}
@@ -211,7 +212,7 @@ module _ (K : Domain) (inverses : HasInverses K) (s : Signature) (lawful : IsLaw
     begun_row go e = by (row_lead K o r) refl e
       where
         by : (x : Option Term) → row_lead K o r ≡ x
-            → ◌≡◌ {A = Result (State K) Cause} ((elim x [ None ↦ Ok (record st { syzygies = st.syzygies ++ unit_row K q k ∷ []; origins = st.origins ++ ZeroRow k ∷ [] }) | Some t ↦ made_monic K inverses exactly r (unit_row K q k) t >>= (λ b. Ok (record st { basis = st.basis ++ b ∷ [] })) ]) >>= (λ next. begin_rows K inverses o exactly q (suc k) rs next)) (Ok next)
+            → ◌≡◌ {A = Result (State K) Cause} ((elim x [ None ↦ Ok (record st { syzygies = st.syzygies ++ unit_row K q k ∷ []; origins = st.origins ++ ZeroRow k ∷ [] }) | Some t ↦ monic_multiple K inverses exactly r (unit_row K q k) t >>= (λ b. Ok (record st { basis = st.basis ++ b ∷ [] })) ]) >>= (λ next. begin_rows K inverses o exactly q (suc k) rs next)) (Ok next)
             → Begun k (r ∷ rs) st next
         by None l e = begun_none l (go without next at.2 good (unit_syzygy l) (without_next before) e)
         by (Some t) l e = begun_some t l (go (with_one (b t l)) next at.2 (unit_good t l) all (with_next (b t l) before)
@@ -219,7 +220,7 @@ module _ (K : Domain) (inverses : HasInverses K) (s : Signature) (lawful : IsLaw
 
   begun : (rs : List (Row K)) (k : ℕ) → Later k rs
   unfolding begin_rows Later
-  begun [] k st next here good all before e = subst (Begun k [] st) (given st next e) (record {
+  begun [] k st next here good all before e = subst (Begun k [] st) (same_ok st next e) (record {
     basis = good;
     syzygies = all;
     more = [];
@@ -241,10 +242,10 @@ module _ (K : Domain) (inverses : HasInverses K) (s : Signature) (lawful : IsLaw
   begin_holds first e = record {
     basis = g.basis;
     syzygies = g.syzygies;
-    lines = record {
+    entries = record {
       lawful = subst (λ ls. AreLawful K s o n (map (λ b. b.row) first.basis) (map (λ b. b.lead) first.basis) [] ls) (sym g.unlisted) tt;
       entries = λ d. subst (λ ls. AreEntriesOf K s ls) (sym g.unlisted) tt;
-      shown = subst (λ ls. AreShown K s q (map (λ b. b.lead) first.basis) (map (λ b. b.cofactor) first.basis) first.origins first.syzygies 0 ls) (sym g.unlisted) tt;
+      syzygies = subst (λ ls. HaveTheirSyzygies K s q (map (λ b. b.lead) first.basis) (map (λ b. b.cofactor) first.basis) first.origins first.syzygies 0 ls) (sym g.unlisted) tt;
     };
     back = g.back;
     many = g.many;

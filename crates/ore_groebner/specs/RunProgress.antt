@@ -1,17 +1,16 @@
 -- What the code keeps of a run, beside the states of a run.
 --     monic_with          a row and its cofactor row, with a lead
---     pushed              some basis rows, and one more that is made
+--     basis_with          some basis rows, and one more that is made
 --     entries_from        the entries of events, where so many basis rows stood before the first
 --     new_rows            how many events made a basis row
 --     state_of            the state that is kept
---     IsKept              the parts that are kept fit together
+--     IsProgressOf        the parts that are kept fit together
 --     choice_of, choices_of    the choice that an event follows, and those of some events
 --     HasShapeOf          the widths are the same, and one more choice was followed
---     based               one more basis row that is made
+--     with_basis_row      the state with one more basis row that is made
 --     IsBegun             nothing was done with any pair
 --     HasWidthsOf         the widths are the same
---     Adds                one pair is added
-use Rattle.std.specs.Prelude.{◌≡◌, ◌&&◌, ◌||◌, nat_eq, ℕ, suc, ◌+◌, List, [], ◌∷◌, ◌++◌, length, map}
+use Rattle.std.specs.Prelude.{◌≡◌, ℕ, suc, ◌+◌, List, [], ◌∷◌, ◌++◌, length, map}
 use Rattle.std.specs.List.{All}
 use Rattle.std.specs.declared.result.Result.{Result}
 use Rattle.std.specs.declared.result.Result.TheVariants.{Ok}
@@ -22,16 +21,16 @@ use Rattle.ore_monomial.specs.Signature.{Signature}
 use Rattle.ore_monomial.specs.Term.{Term}
 use Rattle.ore_ring.specs.Belongs.{Belongs}
 use Rattle.ore_ring.specs.Ordered.{Ordered}
-use Rattle.ore_rows.specs.Reduction.{Monic, AreMonic}
+use Rattle.ore_rows.specs.Reduction.{Monic}
 use Rattle.ore_rows.specs.Rows.{Row}
-use Rattle.ore_pairs.specs.PairList.{Entry}
+use Rattle.ore_pairs.specs.PairList.{Entry, pairs_of}
 use Rattle.ore_pairs.specs.PairList as pair
+use Rattle.ore_pairs.specs.PairRule.{HaveSamePairs}
 use Rattle.ore_pairs.specs.Run.{State}
 use Rattle.ore_rows.specs.Stored.{sums_of}
 use Rattle.ore_rows.specs.StoredBasis.{AllBelong, monics}
 use Rattle.ore_rows.specs.declared.choices.Choice.{Choice}
 use Rattle.ore_rows.specs.declared.choices.Choice.TheVariants.{Treat, Skip}
-use Rattle.ore_pairs.specs.Listed.{is_in, HasPairsOf}
 use Rattle.ore_groebner.specs.declared.outcome.Event.{Event}
 use Rattle.ore_groebner.specs.declared.outcome.Event.TheVariants.{Treated, Skipped}
 use Rattle.ore_groebner.specs.declared.outcome.Outcome.TheVariants.{Zero, NewRow}
@@ -41,8 +40,8 @@ abbrev pub monic_with : Term → List Ordered × List Ordered → Monic (Row rat
 monic_with t p = record { row = sums_of p.0; cofactor = sums_of p.1; lead = t }
 
 -- some basis rows, and one more that is made
-abbrev pub pushed : List (Monic (Row rationals)) → Result (Monic (Row rationals)) Cause → Result (List (Monic (Row rationals))) Cause
-pushed basis made = made >>= λ b. Ok (basis ++ b ∷ [])
+abbrev pub basis_with : List (Monic (Row rationals)) → Result (Monic (Row rationals)) Cause → Result (List (Monic (Row rationals))) Cause
+basis_with basis made = made >>= λ b. Ok (basis ++ b ∷ [])
 
 -- the last step of a treated pair that made a row has its lead coefficient and its place
 unfoldable pub entries_from : ℕ → List Event → List (Entry rationals)
@@ -60,10 +59,9 @@ new_rows (Skipped i j via ∷ es) = new_rows es
 abbrev pub state_of : Progress → State rationals
 state_of p = record { basis = monics p.basis; listed = entries_from p.first p.events.items; syzygies = map sums_of p.syzygies.items; origins = p.origins.items }
 
-pub record IsKept (s : Signature) (p : Progress) : Type 0 where
+pub record IsProgressOf (s : Signature) (p : Progress) : Type 0 where
   pub belongs : AllBelong s p.basis.items
-  pub monic : AreMonic rationals s.order (monics p.basis)
-  pub listed : HasPairsOf rationals (entries_from p.first p.events.items) p.listed
+  pub listed : HaveSamePairs p.listed (pairs_of (entries_from p.first p.events.items))
   pub counted : length p.basis.items ≡ p.first + new_rows p.events.items
   pub wide : All (λ r. length r ≡ p.basis.width) p.syzygies.items
   pub of : All (All (Belongs s)) p.syzygies.items
@@ -82,15 +80,11 @@ pub record HasShapeOf (p : Progress) (c : Choice) (q : Progress) : Type 0 where
   pub width : q.basis.width ≡ p.basis.width
   pub events : choices_of q.events.items ≡ choices_of p.events.items ++ c ∷ []
 
--- one pair is added
-abbrev pub Adds : ℕ → ℕ → List (ℕ × ℕ) → List (ℕ × ℕ) → Type 0
-Adds i j before after = (x y : ℕ) → is_in x y after ≡ ((nat_eq x i && nat_eq y j) || is_in x y before)
-
 -- ---- the first basis
 
 -- one more basis row that is made
-abbrev pub based : State rationals → Result (Monic (Row rationals)) Cause → Result (State rationals) Cause
-based st made = made >>= λ b. Ok (record st { basis = st.basis ++ b ∷ [] })
+abbrev pub with_basis_row : State rationals → Result (Monic (Row rationals)) Cause → Result (State rationals) Cause
+with_basis_row st made = made >>= λ b. Ok (record st { basis = st.basis ++ b ∷ [] })
 
 -- nothing was done with any pair
 pub record IsBegun (p : Progress) : Type 0 where

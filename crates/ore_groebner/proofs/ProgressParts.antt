@@ -1,19 +1,19 @@
 -- What is kept of a run, with one more event.
 --     unless_zero-zero, unless_zero-row    a cofactor row that is zero, and one that isn't
---     is_listed-push             one more line
 --     new_rows-push, entries_from-push, choices_push     one more event
---     length-entries_from, lines_pairs     there is a line for each event, with the pair of its choice
---     line_zero, line_row, line_skip     its line
+--     length-entries_from, pairs_of-entries_from     there is an entry for each event, with the pair of its choice
+--     entry_zero, entry_row, entry_skip     its entry
 --     kept_more                  what is kept still fits together
-use Rattle.std.proofs.Common.{◌≡◌, ℕ, suc, ◌+◌, Bool, true, false, List, [], ◌∷◌, ◌++◌, length, map, refl, sym, ap, ◌∙◌, subst, arith}
+use Rattle.std.proofs.Common.{◌≡◌, ℕ, suc, ◌+◌, List, [], ◌∷◌, ◌++◌, length, map, refl, sym, ap, ◌∙◌, subst, arith}
 use Rattle.std.specs.Prelude.{◌&&◌, ◌||◌, nat_eq}
 use Rattle.std.specs.List.{All}
 use Rattle.std.specs.declared.result.Result.{Result}
 use Rattle.std.specs.declared.result.Result.TheVariants.{Ok, Err}
 use Rattle.std.specs.declared.option.Option.{Option}
 use Rattle.std.specs.declared.option.Option.TheVariants.{None, Some}
+use Rattle.std.proofs.lemmas.List.{map-append}
 use Rattle.std.proofs.lemmas.List.Elements.{All-nil, All-cons, All-push}
-use Rattle.ore_algebra.specs.Free.{none}
+use Rattle.ore_algebra.specs.Free.{empty_sum}
 use Rattle.ore_algebra.specs.Limits.{Cause, program, ◌>>=◌}
 use Rattle.ore_rational.specs.Fraction.{Fraction}
 use Rattle.ore_rational.proofs.FractionLaws.{rationals, rational_inverses}
@@ -24,11 +24,13 @@ use Rattle.ore_monomial.specs.declared.order.Order.{Order}
 use Rattle.ore_ring.specs.Belongs.{Belongs}
 use Rattle.ore_ring.specs.Ordered.{Ordered}
 use Rattle.ore_rows.specs.Arithmetic.{within}
-use Rattle.ore_rows.specs.Reduction.{Monic, AreMonic, Step, Work, reduce}
+use Rattle.ore_rows.specs.Reduction.{Monic, Step, Work, reduce}
 use Rattle.ore_rows.specs.RowLead.{coefficient_at, row_lead}
 use Rattle.ore_rows.specs.Rows.{Row, zero_row}
-use Rattle.ore_pairs.specs.Run.{State, is_listed, unless_zero, made_monic}
-use Rattle.ore_pairs.specs.PairList.{Entry}
+use Rattle.ore_pairs.specs.PairRule.{is_listed, HaveSamePairs}
+use Rattle.ore_pairs.specs.Run.{State, unless_zero, monic_multiple}
+use Rattle.ore_pairs.specs.PairList.{Entry, pairs_of}
+use Rattle.ore_pairs.proofs.PairRuleLaws.{is_listed-push}
 use Rattle.ore_pairs.specs.PairList as pair
 use Rattle.ore_pairs.specs.Run as run
 use Rattle.ore_rows.specs.Stored.{IsZeroRow, sums_of}
@@ -36,9 +38,8 @@ use Rattle.ore_rows.specs.StoredBasis.{AllBelong, monics}
 use Rattle.ore_rows.specs.declared.choices.Origin.TheVariants as origin
 use Rattle.ore_rows.proofs.GreatestTerms.{row_lead-Some, zero_from}
 use Rattle.ore_rows.proofs.StoredBases.{no_lead_of_zeros}
-use Rattle.ore_pairs.specs.Listed.{is_in}
-use Rattle.ore_groebner.specs.Choosing.{pairs_of}
-use Rattle.ore_groebner.specs.Progressing.{entries_from, new_rows, pushed, state_of, choice_of, choices_of, Adds, IsKept}
+use Rattle.ore_groebner.specs.Choosing.{chosen_pairs}
+use Rattle.ore_groebner.specs.RunProgress.{entries_from, new_rows, basis_with, state_of, choice_of, choices_of, IsProgressOf}
 use Rattle.ore_groebner.specs.declared.outcome.Event.{Event}
 use Rattle.ore_groebner.specs.declared.outcome.Event.TheVariants.{Treated, Skipped}
 use Rattle.ore_groebner.specs.declared.outcome.Outcome.TheVariants.{Zero, NewRow}
@@ -63,8 +64,8 @@ tails x y xs ys e = cc
 
 zeros : (q : List Ordered) → sums_of q ≡ zero_row rationals (length (sums_of q)) → IsZeroRow q
 unfolding zero_row
-zeros [] e = All-nil (λ (f : Ordered). f.sum ≡ none rationals plain_cmp)
-zeros (f ∷ q) e = All-cons (λ (f : Ordered). f.sum ≡ none rationals plain_cmp) f q (heads _ _ _ _ e) (zeros q (tails _ _ _ _ e))
+zeros [] e = All-nil (λ (f : Ordered). f.sum ≡ empty_sum rationals plain_cmp)
+zeros (f ∷ q) e = All-cons (λ (f : Ordered). f.sum ≡ empty_sum rationals plain_cmp) f q (heads _ _ _ _ e) (zeros q (tails _ _ _ _ e))
 
 pub unless_zero-row : (o : Order) (r : List Ordered) → ¬ IsZeroRow r → unless_zero rationals o (sums_of r) ≡ sums_of r ∷ []
 unfolding unless_zero
@@ -74,17 +75,7 @@ unless_zero-row o r n = by (row_lead rationals o (sums_of r)) refl
     by (Some t) e = refl
     by None e = absurd (n (zeros r (zero_from rationals o (sums_of r) e)))
 
--- ---- one more line
-
-pub is_listed-push : (x y : ℕ) (ls : List (Entry rationals)) (l : Entry rationals) → is_listed rationals x y (ls ++ l ∷ []) ≡ ((nat_eq x (pair.first l) && nat_eq y (pair.second l)) || is_listed rationals x y ls)
-unfolding is_listed
-is_listed-push x y [] l = refl
-is_listed-push x y (m ∷ ls) l = ap (λ b. (nat_eq x (pair.first m) && nat_eq y (pair.second m)) || b) (is_listed-push x y ls l) ∙ or_turned (nat_eq x (pair.first m) && nat_eq y (pair.second m)) (nat_eq x (pair.first l) && nat_eq y (pair.second l)) _
-  where
-    or_turned : (a b c : Bool) → (a || (b || c)) ≡ (b || (a || c))
-    or_turned true true c = refl
-    or_turned true false c = refl
-    or_turned false b c = refl
+-- ---- one more entry
 
 none_more : (a : ℕ) → a ≡ 0 + a
 none_more a = omega arith
@@ -109,17 +100,17 @@ entries_from-push n (Treated i j steps (NewRow c) ∷ es) e =
 entries_from-push n (Skipped i j via ∷ es) e = λ k. pair.Skip i j via ∷ entries_from-push n es e k
 
 module _ (m : ℕ) (i j : ℕ) where
-  pub line_zero : (steps : List (Step rationals)) → entries_from m (Treated i j steps Zero ∷ []) ≡ pair.Pair i j steps ∷ []
+  pub entry_zero : (steps : List (Step rationals)) → entries_from m (Treated i j steps Zero ∷ []) ≡ pair.Pair i j steps ∷ []
   unfolding entries_from
-  line_zero steps = refl
+  entry_zero steps = refl
 
-  pub line_row : (steps : List (Step rationals)) (k : Fraction) → entries_from m (Treated i j steps (NewRow k) ∷ []) ≡ pair.Pair i j (steps ++ record { index = m; monomial = unit; number = k } ∷ []) ∷ []
+  pub entry_row : (steps : List (Step rationals)) (k : Fraction) → entries_from m (Treated i j steps (NewRow k) ∷ []) ≡ pair.Pair i j (steps ++ record { index = m; monomial = unit; number = k } ∷ []) ∷ []
   unfolding entries_from
-  line_row steps k = refl
+  entry_row steps k = refl
 
-  pub line_skip : (via : ℕ) → entries_from m (Skipped i j via ∷ []) ≡ pair.Skip i j via ∷ []
+  pub entry_skip : (via : ℕ) → entries_from m (Skipped i j via ∷ []) ≡ pair.Skip i j via ∷ []
   unfolding entries_from
-  line_skip via = refl
+  entry_skip via = refl
 
 pub new_rows-zero : (i j : ℕ) (steps : List (Step rationals)) → new_rows (Treated i j steps Zero ∷ []) ≡ 0
 unfolding new_rows
@@ -146,12 +137,12 @@ length-entries_from n (Treated i j steps Zero ∷ es) = ap suc (length-entries_f
 length-entries_from n (Treated i j steps (NewRow k) ∷ es) = ap suc (length-entries_from (suc n) es)
 length-entries_from n (Skipped i j via ∷ es) = ap suc (length-entries_from n es)
 
-pub lines_pairs : (n : ℕ) (es : List Event) → map (λ (l : Entry rationals). (pair.first l, pair.second l)) (entries_from n es) ≡ pairs_of (choices_of es)
+pub pairs_of-entries_from : (n : ℕ) (es : List Event) → pairs_of (entries_from n es) ≡ chosen_pairs (choices_of es)
 unfolding entries_from
-lines_pairs n [] = refl
-lines_pairs n (Treated i j steps Zero ∷ es) = ap (λ ps. (i, j) ∷ ps) (lines_pairs n es)
-lines_pairs n (Treated i j steps (NewRow k) ∷ es) = ap (λ ps. (i, j) ∷ ps) (lines_pairs (suc n) es)
-lines_pairs n (Skipped i j via ∷ es) = ap (λ ps. (i, j) ∷ ps) (lines_pairs n es)
+pairs_of-entries_from n [] = refl
+pairs_of-entries_from n (Treated i j steps Zero ∷ es) = ap (λ ps. (i, j) ∷ ps) (pairs_of-entries_from n es)
+pairs_of-entries_from n (Treated i j steps (NewRow k) ∷ es) = ap (λ ps. (i, j) ∷ ps) (pairs_of-entries_from (suc n) es)
+pairs_of-entries_from n (Skipped i j via ∷ es) = ap (λ ps. (i, j) ∷ ps) (pairs_of-entries_from n es)
 
 pub choices_push : (es : List Event) (e : Event) → choices_of (es ++ e ∷ []) ≡ choices_of es ++ choice_of e ∷ []
 choices_push [] e = refl
@@ -159,15 +150,18 @@ choices_push (x ∷ es) e = ap (λ cs. choice_of x ∷ cs) (choices_push es e)
 
 -- ---- what is kept
 
-module _ (p q : Progress) (e : Event) (i j : ℕ) (entry : Entry rationals) (one : pair.first entry ≡ i) (other : pair.second entry ≡ j) (first : q.first ≡ p.first) (events : q.events.items ≡ p.events.items ++ e ∷ []) (line : entries_from (p.first + new_rows p.events.items) (e ∷ []) ≡ entry ∷ []) where
-  pub lines_more : entries_from q.first q.events.items ≡ entries_from p.first p.events.items ++ entry ∷ []
-  lines_more = (λ k. entries_from (first k) (events k)) ∙ entries_from-push p.first p.events.items e ∙ ap (λ ls. entries_from p.first p.events.items ++ ls) line
+module _ (p q : Progress) (e : Event) (i j : ℕ) (entry : Entry rationals) (one : pair.first entry ≡ i) (other : pair.second entry ≡ j) (first : q.first ≡ p.first) (events : q.events.items ≡ p.events.items ++ e ∷ []) (entry_is : entries_from (p.first + new_rows p.events.items) (e ∷ []) ≡ entry ∷ []) where
+  pub entries_more : entries_from q.first q.events.items ≡ entries_from p.first p.events.items ++ entry ∷ []
+  entries_more = (λ k. entries_from (first k) (events k)) ∙ entries_from-push p.first p.events.items e ∙ ap (λ ls. entries_from p.first p.events.items ++ ls) entry_is
 
-  pub kept_more : (s : Signature) → IsKept s p → Adds i j p.listed q.listed → AllBelong s q.basis.items → AreMonic rationals s.order (monics q.basis) → length q.basis.items ≡ length p.basis.items + new_rows (e ∷ []) → q.basis.width ≡ p.basis.width → q.syzygies.items ≡ p.syzygies.items → IsKept s q
-  kept_more s kept adds belongs monic count width syzygies = record {
+  pub kept_more : (s : Signature) → IsProgressOf s p → HaveSamePairs q.listed ((i, j) ∷ p.listed) → AllBelong s q.basis.items → length q.basis.items ≡ length p.basis.items + new_rows (e ∷ []) → q.basis.width ≡ p.basis.width → q.syzygies.items ≡ p.syzygies.items → IsProgressOf s q
+  unfolding is_listed
+  kept_more s kept adds belongs count width syzygies = record {
     belongs = belongs;
-    monic = monic;
-    listed = λ x y. adds x y ∙ ap (λ b. (nat_eq x i && nat_eq y j) || b) (kept.listed x y) ∙ sym (ap (is_listed rationals x y) lines_more ∙ is_listed-push x y (entries_from p.first p.events.items) entry ∙ (λ k. (nat_eq x (one k) && nat_eq y (other k)) || is_listed rationals x y (entries_from p.first p.events.items)));
+    listed = λ x y. adds x y ∙ ap (λ b. (nat_eq x i && nat_eq y j) || b) (kept.listed x y)
+        ∙ sym (ap (is_listed x y) (ap pairs_of entries_more ∙ map-append (λ (e : Entry rationals). (pair.first e, pair.second e)) (entries_from p.first p.events.items) (entry ∷ []))
+        ∙ is_listed-push x y (pairs_of (entries_from p.first p.events.items)) (pair.first entry, pair.second entry)
+        ∙ (λ k. (nat_eq x (one k) && nat_eq y (other k)) || is_listed x y (pairs_of (entries_from p.first p.events.items))));
     counted = counts (length q.basis.items) (length p.basis.items) p.first (new_rows p.events.items) (new_rows (e ∷ [])) (new_rows q.events.items) count kept.counted (ap new_rows events ∙ new_rows-push p.events.items e) ∙ ap (λ n. n + new_rows q.events.items) (sym first);
     wide = subst (λ n. All (λ (r : List Ordered). length r ≡ n) q.syzygies.items) (sym width) (subst (λ rs. All (λ (r : List Ordered). length r ≡ p.basis.width) rs) (sym syzygies) kept.wide);
     of = subst (All (All (Belongs s))) (sym syzygies) kept.of;
@@ -180,11 +174,10 @@ pub append_nil : {A : Type 0} (xs : List A) → xs ++ [] ≡ xs
 append_nil [] = refl
 append_nil (x ∷ xs) = λ k. x ∷ append_nil xs k
 
-pub more_syzygies : (s : Signature) (p q : Progress) (r : List Ordered) → IsKept s p → q.first ≡ p.first → q.basis ≡ p.basis → q.listed ≡ p.listed → q.events.items ≡ p.events.items → q.syzygies.items ≡ p.syzygies.items ++ r ∷ [] → length r ≡ p.basis.width → All (Belongs s) r → IsKept s q
+pub more_syzygies : (s : Signature) (p q : Progress) (r : List Ordered) → IsProgressOf s p → q.first ≡ p.first → q.basis ≡ p.basis → q.listed ≡ p.listed → q.events.items ≡ p.events.items → q.syzygies.items ≡ p.syzygies.items ++ r ∷ [] → length r ≡ p.basis.width → All (Belongs s) r → IsProgressOf s q
 more_syzygies s p q r kept first basis listed events syzygies wide of = record {
   belongs = subst (λ b. AllBelong s b.items) (sym basis) kept.belongs;
-  monic = subst (λ b. AreMonic rationals s.order (monics b)) (sym basis) kept.monic;
-  listed = λ x y. ap (is_in x y) listed ∙ kept.listed x y ∙ (λ k. is_listed rationals x y (entries_from (sym first k) (sym events k)));
+  listed = λ x y. ap (is_listed x y) listed ∙ kept.listed x y ∙ (λ k. is_listed x y (pairs_of (entries_from (sym first k) (sym events k))));
   counted = (λ k. length (basis k).items) ∙ kept.counted ∙ (λ k. sym first k + new_rows (sym events k));
   wide = subst (λ n. All (λ (r : List Ordered). length r ≡ n) q.syzygies.items) (λ k. (sym basis k).width) (subst (λ rs. All (λ (r : List Ordered). length r ≡ p.basis.width) rs) (sym syzygies) (All-push (λ (r : List Ordered). length r ≡ p.basis.width) p.syzygies.items r kept.wide wide));
   of = subst (All (All (Belongs s))) (sym syzygies) (All-push (All (Belongs s)) p.syzygies.items r kept.of of);
@@ -194,20 +187,20 @@ more_syzygies s p q r kept first basis listed events syzygies wide of = record {
 
 pub zero_state : (o : Order) (p q : Progress) (i j n : ℕ) (w : Work rationals) → n ≡ length p.events.items → entries_from q.first q.events.items ≡ entries_from p.first p.events.items ++ pair.Pair i j w.steps ∷ [] → q.basis ≡ p.basis → map sums_of q.syzygies.items ≡ map sums_of p.syzygies.items ++ unless_zero rationals o w.cofactor → q.origins.items ≡ p.origins.items ++ map (λ _. origin.Event n) (unless_zero rationals o w.cofactor) → state_of q ≡ run.with_syzygy rationals o (state_of p) i j w
 unfolding run.with_syzygy
-zero_state o p q i j n w place lines basis syzygies origins = λ k. record { basis = monics (basis k); listed = lines k; syzygies = syzygies k; origins = (origins ∙ ap (λ m. p.origins.items ++ map (λ _. origin.Event m) (unless_zero rationals o w.cofactor)) (place ∙ sym (length-entries_from p.first p.events.items))) k }
+zero_state o p q i j n w place entries basis syzygies origins = λ k. record { basis = monics (basis k); listed = entries k; syzygies = syzygies k; origins = (origins ∙ ap (λ m. p.origins.items ++ map (λ _. origin.Event m) (unless_zero rationals o w.cofactor)) (place ∙ sym (length-entries_from p.first p.events.items))) k }
 
 module _ (s : Signature) (p : Progress) (i j : ℕ) (w : Work rationals) (t : Term) where
   abbrev made : Result (Monic (Row rationals)) Cause
-  made = made_monic rationals rational_inverses (within program s) w.row w.cofactor t
+  made = monic_multiple rationals rational_inverses (within program s) w.row w.cofactor t
 
   abbrev finish : Monic (Row rationals) → Result (State rationals) Cause
-  finish b = Ok (record { basis = monics p.basis ++ b ∷ []; listed = run.listing rationals (state_of p) (pair.Pair i j (w.steps ++ record { index = length (monics p.basis); monomial = unit; number = coefficient_at rationals w.row t } ∷ [])); syzygies = map sums_of p.syzygies.items; origins = p.origins.items })
+  finish b = Ok (record { basis = monics p.basis ++ b ∷ []; listed = run.entries_with rationals (state_of p) (pair.Pair i j (w.steps ++ record { index = length (monics p.basis); monomial = unit; number = coefficient_at rationals w.row t } ∷ [])); syzygies = map sums_of p.syzygies.items; origins = p.origins.items })
 
-  pub row_stops : (c : Cause) → pushed (monics p.basis) made ≡ Err c → run.with_row rationals rational_inverses (within program s) (state_of p) i j w t ≡ Err c
+  pub row_stops : (c : Cause) → basis_with (monics p.basis) made ≡ Err c → run.with_row rationals rational_inverses (within program s) (state_of p) i j w t ≡ Err c
   unfolding run.with_row
   row_stops c e = by made refl e
     where
-      by : (x : Result (Monic (Row rationals)) Cause) → made ≡ x → pushed (monics p.basis) x ≡ Err c → (made >>= finish) ≡ Err c
+      by : (x : Result (Monic (Row rationals)) Cause) → made ≡ x → basis_with (monics p.basis) x ≡ Err c → (made >>= finish) ≡ Err c
       by (Ok b) f e = absurd (ok_is_err e)
         where
           ok_is_err : {A : Type 0} {x : A} → ◌≡◌ {A = Result A Cause} (Ok x) (Err c) → ⊥
@@ -217,24 +210,24 @@ module _ (s : Signature) (p : Progress) (i j : ℕ) (w : Work rationals) (t : Te
           same_err : {A : Type 0} (x y : Cause) → ◌≡◌ {A = Result A Cause} (Err x) (Err y) → x ≡ y
           same_err x y e = cc
 
-  pub row_state : (q : Progress) (k : Fraction) → coefficient_at rationals w.row t ≡ k → length (monics p.basis) ≡ p.first + new_rows p.events.items → entries_from q.first q.events.items ≡ entries_from p.first p.events.items ++ pair.Pair i j (w.steps ++ record { index = p.first + new_rows p.events.items; monomial = unit; number = k } ∷ []) ∷ [] → q.syzygies.items ≡ p.syzygies.items → q.origins.items ≡ p.origins.items → pushed (monics p.basis) made ≡ Ok (monics q.basis) → run.with_row rationals rational_inverses (within program s) (state_of p) i j w t ≡ Ok (state_of q)
+  pub row_state : (q : Progress) (k : Fraction) → coefficient_at rationals w.row t ≡ k → length (monics p.basis) ≡ p.first + new_rows p.events.items → entries_from q.first q.events.items ≡ entries_from p.first p.events.items ++ pair.Pair i j (w.steps ++ record { index = p.first + new_rows p.events.items; monomial = unit; number = k } ∷ []) ∷ [] → q.syzygies.items ≡ p.syzygies.items → q.origins.items ≡ p.origins.items → basis_with (monics p.basis) made ≡ Ok (monics q.basis) → run.with_row rationals rational_inverses (within program s) (state_of p) i j w t ≡ Ok (state_of q)
   unfolding run.with_row
-  row_state q k stands place lines syzygies origins e = by made refl e
+  row_state q k stands place entries syzygies origins e = by made refl e
     where
-      by : (x : Result (Monic (Row rationals)) Cause) → made ≡ x → pushed (monics p.basis) x ≡ Ok (monics q.basis) → (made >>= finish) ≡ Ok (state_of q)
+      by : (x : Result (Monic (Row rationals)) Cause) → made ≡ x → basis_with (monics p.basis) x ≡ Ok (monics q.basis) → (made >>= finish) ≡ Ok (state_of q)
       by (Err d) f e = absurd (err_is_ok e)
         where
           err_is_ok : {A : Type 0} {x : A} → ◌≡◌ {A = Result A Cause} (Err d) (Ok x) → ⊥
           err_is_ok e = cc
       by (Ok b) f e =
           ap (λ (x : Result (Monic (Row rationals)) Cause). x >>= finish) f
-          ∙ (λ n. Ok (record { basis = same_ok _ _ e n; listed = (as_lines ∙ sym lines) n; syzygies = map sums_of (sym syzygies n); origins = sym origins n }))
+          ∙ (λ n. Ok (record { basis = same_ok _ _ e n; listed = (as_entries ∙ sym entries) n; syzygies = map sums_of (sym syzygies n); origins = sym origins n }))
         where
           same_ok : (x y : List (Monic (Row rationals))) → ◌≡◌ {A = Result (List (Monic (Row rationals))) Cause} (Ok x) (Ok y) → x ≡ y
           same_ok x y e = cc
 
-          as_lines : run.listing rationals (state_of p) (pair.Pair i j (w.steps ++ record { index = length (monics p.basis); monomial = unit; number = coefficient_at rationals w.row t } ∷ [])) ≡ entries_from p.first p.events.items ++ pair.Pair i j (w.steps ++ record { index = p.first + new_rows p.events.items; monomial = unit; number = k } ∷ []) ∷ []
-          as_lines = λ n. entries_from p.first p.events.items ++ pair.Pair i j (w.steps ++ record { index = place n; monomial = unit; number = stands n } ∷ []) ∷ []
+          as_entries : run.entries_with rationals (state_of p) (pair.Pair i j (w.steps ++ record { index = length (monics p.basis); monomial = unit; number = coefficient_at rationals w.row t } ∷ [])) ≡ entries_from p.first p.events.items ++ pair.Pair i j (w.steps ++ record { index = p.first + new_rows p.events.items; monomial = unit; number = k } ∷ []) ∷ []
+          as_entries = λ n. entries_from p.first p.events.items ++ pair.Pair i j (w.steps ++ record { index = place n; monomial = unit; number = stands n } ∷ []) ∷ []
 
 module _ (s : Signature) (st : State rationals) (i j : ℕ) (w : Work rationals) where
   abbrev settled : Result (State rationals) Cause
@@ -248,21 +241,21 @@ module _ (s : Signature) (st : State rationals) (i j : ℕ) (w : Work rationals)
   unfolding run.settle
   settle_some t e = ap (λ (x : Option Term). elim x [ None ↦ Ok (run.with_syzygy rationals s.order st i j w) | Some t ↦ run.with_row rationals rational_inverses (within program s) st i j w t ]) e
 
-module _ (s : Signature) (st : State rationals) (i j : ℕ) (a b : Monic (Row rationals)) where
+module _ (s : Signature) (st : State rationals) (i j : ℕ) where
   abbrev treated : Result (State rationals) Cause
-  treated = run.treat rationals rational_inverses s.order (within program s) st i j a b
+  treated = run.treat rationals rational_inverses s.order (within program s) st i j
 
-  pub treat_first : (c : Cause) → run.s_row rationals (within program s) a b ≡ Err c → treated ≡ Err c
+  pub treat_first : (c : Cause) → run.s_rows rationals (within program s) st.basis i j ≡ Err c → treated ≡ Err c
   unfolding run.treat
   treat_first c e = λ n. e n >>= λ start. reduce rationals s.order (within program s) st.basis start >>= λ rest. run.settle rationals rational_inverses s.order (within program s) st i j rest
 
-  pub treat_second : (w : Work rationals) (c : Cause) → run.s_row rationals (within program s) a b ≡ Ok w → reduce rationals s.order (within program s) st.basis w ≡ Err c → treated ≡ Err c
+  pub treat_second : (w : Work rationals) (c : Cause) → run.s_rows rationals (within program s) st.basis i j ≡ Ok w → reduce rationals s.order (within program s) st.basis w ≡ Err c → treated ≡ Err c
   unfolding run.treat
   treat_second w c e f =
       (λ n. e n >>= λ start. reduce rationals s.order (within program s) st.basis start >>= λ rest. run.settle rationals rational_inverses s.order (within program s) st i j rest)
       ∙ ap (λ (x : Result (Work rationals) Cause). x >>= λ rest. run.settle rationals rational_inverses s.order (within program s) st i j rest) f
 
-  pub treat_last : (w v : Work rationals) → run.s_row rationals (within program s) a b ≡ Ok w → reduce rationals s.order (within program s) st.basis w ≡ Ok v → treated ≡ run.settle rationals rational_inverses s.order (within program s) st i j v
+  pub treat_last : (w v : Work rationals) → run.s_rows rationals (within program s) st.basis i j ≡ Ok w → reduce rationals s.order (within program s) st.basis w ≡ Ok v → treated ≡ run.settle rationals rational_inverses s.order (within program s) st i j v
   unfolding run.treat
   treat_last w v e f =
       (λ n. e n >>= λ start. reduce rationals s.order (within program s) st.basis start >>= λ rest. run.settle rationals rational_inverses s.order (within program s) st i j rest)
