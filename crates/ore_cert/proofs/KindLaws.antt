@@ -22,9 +22,10 @@ use Rattle.ore_cert.specs.declared.kind.Kind.TheVariants.{Controllable, Autonomo
 use Rattle.ore_cert.specs.declared.report.Cause.{Cause}
 use Rattle.ore_cert.specs.declared.report.Cause.TheVariants.{Overflow, Degree, Budget}
 use Rattle.ore_parts.specs.CertificateText.{number_bound}
-use Rattle.ore_cert.specs.KindFormat.{kind_words, IsWrittenKind, kind_format, halted_words, IsNoPlain, IsNoLinks}
+use Rattle.ore_cert.specs.KindWords.{cause_words, kind_words}
+use Rattle.ore_cert.specs.KindFormat.{IsWrittenKind, kind_format, halted_words, IsNoPlain, IsNoLinks}
 use Rattle.ore_parts.specs.Lines.{LacksByte}
-use Rattle.ore_cert.specs.WholeText.{cause_words, IsWrittenCause}
+use Rattle.ore_cert.specs.WholeText.{IsWrittenCause}
 use Rattle.ore_parts.proofs.Bytes.{LacksByte-append, LacksByte-decimal}
 use Rattle.ore_parts.proofs.FormatLaws.{IsFormat, AreWords, line_is}
 use Rattle.ore_parts.proofs.Numbers.{same_decimal}

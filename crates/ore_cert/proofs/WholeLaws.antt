@@ -8,15 +8,15 @@
 --     parts_is, parts_text, body_makes, body_is      the parts of each kind, their text, and what they make
 --     body_found, body_fails     what their readers answer
 --     last, last_is, head, head_is     the last line, and the first
---     kind_of, may_kind          the kind of a certificate; one that may be written has a kind, and parts, that may be written
+--     may_kind                   a certificate that may be written has a kind, and parts, that may be written
 --     same_kind, made_kind       what parts of a kind make is of that kind
 --     few_links, written, made_written     a certificate whose parts may be written may be written
---     line_of, text_of_kind, closed_text     what follows the first line is the line of the kind, the rest and the last line
+--     line_of                    the line of a kind
 --     closed_names, closed_is, kinds_names, kinds_is, certificate_names, certificate_is      the whole text
 use Rattle.std.proofs.Common.{◌≡◌, ℕ, suc, List, [], ◌∷◌, ◌++◌, length, Option, None, Some, Result, Ok, Err, refl, sym, ap, subst, ◌∙◌, append_assoc, arith}
 use Rattle.std.specs.Prelude.{codes, IsErrAnd, IfOk, IfSome, MatchOption}
 use Rattle.std.proofs.lemmas.List.{append_cancel_left}
-use Rattle.ore_algebra.specs.Free.{none}
+use Rattle.ore_algebra.specs.Free.{empty_sum}
 use Rattle.ore_rational.proofs.FractionLaws.{rationals}
 use Rattle.ore_monomial.specs.Monomial.{plain_cmp}
 use Rattle.ore_monomial.specs.Signature.{Signature}
@@ -36,13 +36,14 @@ use Rattle.ore_cert.specs.declared.kind.Kind.{Kind}
 use Rattle.ore_cert.specs.declared.kind.Kind.TheVariants.{Controllable, AutonomousElement, LeftInverse, RightInverse, NoLeftInverse, NoRightInverse, KernelLeft, KernelRight, Resolution, ExtZero, ExtNonzero, Halted}
 use Rattle.ore_parts.specs.BlockText.{place, is_place}
 use Rattle.ore_parts.specs.Formats.{Format, IsTextOf, Finds, ReadsOne, sequence, fixed, Spells}
-use Rattle.ore_cert.specs.KindFormat.{kind_words, kind_format, IsWrittenKind}
+use Rattle.ore_cert.specs.KindFormat.{kind_format, IsWrittenKind}
+use Rattle.ore_cert.specs.KindWords.{kind_words, kind_of}
 use Rattle.ore_parts.specs.Lines.{LacksByte, Unread}
 use Rattle.ore_parts.specs.Reading.{IsStartFault}
 use Rattle.ore_parts.specs.PartFormats.{matrix_format, row_format, exact_format, outside_format}
 use Rattle.ore_cert.specs.WholeFormats.{unit_format, operator_words, operator_format, link_format, with_exact, with_unit, with_row, with_operator, autonomous_parts, links_format, links_exact, links_row, Parts, parts_format, with_parts, IsMadeOf, body_format, closed_format, kinds_format, certificate_format}
 use Rattle.ore_cert.specs.ReportFormats.{plan_format, runs_format}
-use Rattle.ore_cert.specs.WholeText.{kind_text, rest_text, IsLength, IsWrittenOperator, IsWrittenLinks, IsWrittenCertificate}
+use Rattle.ore_cert.specs.WholeText.{rest_text, IsLength, IsWrittenOperator, IsWrittenLinks, IsWrittenCertificate}
 use Rattle.ore_parts.proofs.Bytes.{LacksByte-append, LacksByte-cons, LacksByte-decimal}
 use Rattle.ore_parts.proofs.FormatLaws.{IsFormat, AreWords, Renames, line_is, fixed_is, sequence_is, renamed_is, items_is}
 use Rattle.ore_cert.proofs.KindLaws.{kind_is}
@@ -72,7 +73,7 @@ unit_is = line_is (λ k. codes "unit " ++ place k) is_place unit_words_are
 
 module _ (s : Signature) (names : List (List ℕ)) (are : AreNames names) (fit : length names ≡ length s.kinds) where
   zero_operator : Ordered
-  zero_operator = record { by = s.order; sum = none rationals plain_cmp }
+  zero_operator = record { by = s.order; sum = empty_sum rationals plain_cmp }
 
   zero_written : IsWrittenOperator s names zero_operator
   unfolding zero_operator
@@ -209,22 +210,7 @@ module _ (s : Signature) (names : List (List ℕ)) (are : AreNames names) (fit :
   pub closed_is : (k : Kind) → IsFormat (closed_format s names k)
   closed_is k = renamed_is (sequence (body_format s names k) (λ _. last)) (closed_format s names k) (closed_names k) (sequence_is (body_format s names k) (λ _. last) (body_is k) (λ c h. last_is))
 
-  unfoldable pub kind_of : Certificate → Kind
-  kind_of (certificate.Controllable q block) = Controllable
-  kind_of (certificate.AutonomousElement element operator cofactor block) = AutonomousElement
-  kind_of (certificate.LeftInverse m) = LeftInverse
-  kind_of (certificate.RightInverse m) = RightInverse
-  kind_of (certificate.NoLeftInverse unit block) = NoLeftInverse
-  kind_of (certificate.NoRightInverse unit block) = NoRightInverse
-  kind_of (certificate.Kernel Left generators block) = KernelLeft
-  kind_of (certificate.Kernel Right generators block) = KernelRight
-  kind_of (certificate.Resolution links) = Resolution (length links)
-  kind_of (certificate.ExtZero links block) = ExtZero (length links)
-  kind_of (certificate.ExtNonzero links element block) = ExtNonzero (length links)
-  kind_of (certificate.Halted r) = Halted r.cause
-
   pub may_kind : (c : Certificate) → IsWrittenCertificate s names c → IsWrittenKind (kind_of c) × IsMadeOf s names (kind_of c) c
-  unfolding kind_of
   may_kind (certificate.Controllable q block) h = (tt, ((q, block), h, refl))
   may_kind (certificate.AutonomousElement element operator cofactor block) h = (tt, ((element, (operator, (cofactor, block))), (h.0, (h.1, (h.2, h.3))), refl))
   may_kind (certificate.LeftInverse m) h = (tt, (m, h, refl))
@@ -256,7 +242,6 @@ module _ (s : Signature) (names : List (List ℕ)) (are : AreNames names) (fit :
   written (Halted cause) p h k = record { cause = h; plan = k.0; runs = k.1.0; stop = k.1.1 }
 
   same_kind : (k : Kind) (p : Parts s names k) → (parts_format s names k).may p → kind_of (with_parts s names k p) ≡ k
-  unfolding kind_of
   same_kind Controllable p h = refl
   same_kind AutonomousElement p h = refl
   same_kind LeftInverse p h = refl
@@ -273,24 +258,6 @@ module _ (s : Signature) (names : List (List ℕ)) (are : AreNames names) (fit :
   abbrev line_of : Kind → List ℕ
   line_of k = kind_words k ++ 10 ∷ []
 
-  text_of_kind : (c : Certificate) → kind_text c ≡ line_of (kind_of c)
-  unfolding kind_of
-  text_of_kind (certificate.Controllable q block) = refl
-  text_of_kind (certificate.AutonomousElement element operator cofactor block) = refl
-  text_of_kind (certificate.LeftInverse m) = refl
-  text_of_kind (certificate.RightInverse m) = refl
-  text_of_kind (certificate.NoLeftInverse unit block) = refl
-  text_of_kind (certificate.NoRightInverse unit block) = refl
-  text_of_kind (certificate.Kernel Left generators block) = refl
-  text_of_kind (certificate.Kernel Right generators block) = refl
-  text_of_kind (certificate.Resolution links) = refl
-  text_of_kind (certificate.ExtZero links block) = refl
-  text_of_kind (certificate.ExtNonzero links element block) = refl
-  text_of_kind (certificate.Halted r) = refl
-
-  pub closed_text : (c : Certificate) → kind_text c ++ (rest_text names s.order c ++ codes "end\n") ≡ line_of (kind_of c) ++ (rest_text names s.order c ++ codes "end\n")
-  closed_text c = ap (λ t. t ++ (rest_text names s.order c ++ codes "end\n")) (text_of_kind c)
-
   pub made_kind : (k : Kind) (c : Certificate) → IsMadeOf s names k c → kind_of c ≡ k
   made_kind k c m = ap kind_of (sym m.2) ∙ same_kind k m.0 m.1
 
@@ -304,8 +271,8 @@ module _ (s : Signature) (names : List (List ℕ)) (are : AreNames names) (fit :
     again = λ c h. refl;
     may_from = may_kind;
     may_to = λ p h. made_written p.0 p.1 h.0 h.1;
-    text_from = λ c h. closed_text c;
-    text_to = λ p h. closed_text p.1 ∙ ap (λ k. line_of k ++ (rest_text names s.order p.1 ++ codes "end\n")) (made_kind p.0 p.1 h.1);
+    text_from = λ c h. refl;
+    text_to = λ p h. ap (λ k. line_of k ++ (rest_text names s.order p.1 ++ codes "end\n")) (made_kind p.0 p.1 h.1);
   }
 
   pub kinds_is : IsFormat (kinds_format s names)

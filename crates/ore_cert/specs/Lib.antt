@@ -6,3 +6,4 @@ pub mod KindFormat
 pub mod ReportFormats
 pub mod WholeFormats
 pub mod CertificateLaws
+pub mod CourseReport

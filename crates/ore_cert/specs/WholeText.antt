@@ -1,10 +1,8 @@
 -- The text of a certificate of any kind.
 --     choice_text, run_text     a choice of a run; a run with its choices
---     plan_words, cause_words, stop_words     what was computed; why and where it stopped
+--     plan_words, stop_words     what was computed; where it stopped
 --     report_rest            a report, but for the line of its cause
---     side_word              a side
 --     generators_name        the name of the generators of a kernel
---     kind_details           what the line of the kind says behind its word
 --     kind_text              the line of the kind, which is the second of a certificate
 --     link_text              a matrix with its block
 --     operator_line          a word and an operator
@@ -28,14 +26,15 @@ use Rattle.ore_rows.specs.declared.choices.Choice.{Choice}
 use Rattle.ore_rows.specs.declared.choices.Choice.TheVariants as choice
 use Rattle.ore_parts.specs.CertificateText.{number_bound}
 use Rattle.ore_parts.specs.BlockText as parts
-use Rattle.ore_parts.specs.BlockText.{line, place, matrix_part, row_part, exact_text, outside_text, is_place}
+use Rattle.ore_text.specs.Lines.{line}
+use Rattle.ore_parts.specs.BlockText.{place, matrix_part, row_part, exact_text, outside_text, is_place}
 use Rattle.ore_parts.specs.EachPart.{LinkMeets}
 use Rattle.ore_parts.specs.declared.block.Link.{Link}
 use Rattle.ore_cert.specs.declared.certificate.Side.{Side}
 use Rattle.ore_cert.specs.declared.certificate.Side.TheVariants.{Left, Right}
 use Rattle.ore_cert.specs.declared.certificate.Certificate.{Certificate}
 use Rattle.ore_cert.specs.declared.certificate.Certificate.TheVariants.{Controllable, AutonomousElement, LeftInverse, RightInverse, NoLeftInverse, NoRightInverse, Kernel, Resolution, ExtZero, ExtNonzero, Halted}
-use Rattle.ore_cert.specs.KindWords.{kind_word}
+use Rattle.ore_cert.specs.KindWords.{kind_words, kind_of}
 use Rattle.ore_cert.specs.EachKind.{Conditions, LinksMeet, CertificateMeets}
 pub use Rattle.ore_cert.specs.EachKind.{IsLength}
 use Rattle.ore_cert.specs.declared.report.Cause.{Cause}
@@ -56,12 +55,6 @@ choice_text (choice.Skip i j via) = line (codes "skip" ∷ place i ∷ place j �
 -- `run` and the number of choices on one line, and then each choice
 abbrev pub run_text : List Choice → List ℕ
 run_text choices = line (codes "run" ∷ decimal (length choices) ∷ []) ++ flat_map choice_text choices
-
--- a number left its range, a degree passed 32,767, or so many pairs were treated and a pair is left
-abbrev pub cause_words : Cause → List (List ℕ)
-cause_words cause.Overflow = codes "overflow" ∷ []
-cause_words cause.Degree = codes "degree" ∷ []
-cause_words (cause.Budget n) = codes "budget" ∷ decimal n ∷ []
 
 -- `resolve` has the number of links behind, and `ext` that of the extension module
 abbrev pub plan_words : Plan → List (List ℕ)
@@ -86,28 +79,14 @@ report_rest r = line (codes "plan" ∷ plan_words r.plan) ++ (flat_map run_text 
 
 -- ---- kinds
 
--- `left` or `right`
-abbrev pub side_word : Side → List ℕ
-side_word Left = codes "left"
-side_word Right = codes "right"
-
 -- L, whose rows generate, or Q, whose columns do
 abbrev pub generators_name : Side → List ℕ
 generators_name Left = codes "L"
 generators_name Right = codes "Q"
 
--- what the line of the kind says behind its word: the side, the number of links or the cause
-abbrev pub kind_details : Certificate → List (List ℕ)
-kind_details (Kernel side generators block) = side_word side ∷ []
-kind_details (Resolution links) = decimal (length links) ∷ []
-kind_details (ExtZero links block) = decimal (length links) ∷ []
-kind_details (ExtNonzero links element block) = decimal (length links) ∷ []
-kind_details (Halted r) = cause_words r.cause
-kind_details c = []
-
--- the word of the kind, and what is behind it
+-- the line of the kind of a certificate
 abbrev pub kind_text : Certificate → List ℕ
-kind_text c = line (kind_word c ∷ kind_details c)
+kind_text c = kind_words (kind_of c) ++ 10 ∷ []
 
 module _ (names : List (List ℕ)) (o : Order) where
   -- the matrix `L`, and then its exact block

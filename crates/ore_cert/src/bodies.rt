@@ -1,7 +1,5 @@
 //! What stands between the line of a kind and the last line, read kind by kind.
 
-ghost use Rattle.std.specs.Prelude.{◌≡◌, length};
-ghost use Rattle.ore_text.specs.Names.{AreNames};
 ghost use Rattle.ore_cert.specs.declared.kind.Kind.TheVariants as kinds;
 ghost use Rattle.ore_parts.specs.Formats.{ReadsOne};
 ghost use Rattle.ore_parts.specs.Lines.{LacksByte};
@@ -12,71 +10,61 @@ use crate::kind::Kind;
 use crate::line_words::{read_operator_line, read_unit};
 use crate::report::{Cause, Report};
 use crate::report_lines::read_report_rest;
-use ore_monomial::Signature;
 use ore_parts::matrix::read_matrix_part;
 use ore_parts::parts::{read_exact_part, read_outside_part};
 use ore_parts::row::read_row_part;
 use ore_parts::{CertFault, ExactBlock, Lines, Link, Links, OutsideBlock};
 use ore_ring::Op;
 use ore_rows::{Matrix, Row};
-use ore_text::Names;
+use ore_text::Algebra;
 use std::alloc::Global;
 
 // The rest of a certificate of this kind.
 pub(crate) fn read_body(
     alloc: Global,
-    sig: &Signature,
-    names: &Names,
+    algebra: &Algebra<'_>,
     kind: Kind,
     lines: &mut Lines<'_>,
 ) -> Result<Certificate, CertFault>
-    requires names { AreNames names.now }
-    requires count { length names.now ≡ length sig.now.kinds }
-    ensures { ReadsOne (body_format sig.now names.now kind) lines.old result lines.new }
+    ensures { ReadsOne (body_format algebra.now.signature.now algebra.now.names.now kind) lines.old result lines.new }
 {
     match kind {
-        Kind::Controllable => read_controllable(alloc, sig, names, lines),
-        Kind::AutonomousElement => read_autonomous(alloc, sig, names, lines),
-        Kind::LeftInverse => read_left_inverse(alloc, sig, names, lines),
-        Kind::RightInverse => read_right(alloc, sig, names, lines),
-        Kind::NoLeftInverse => read_no_left(alloc, sig, names, lines),
-        Kind::NoRightInverse => read_no_right(alloc, sig, names, lines),
-        Kind::KernelLeft => read_kernel_left(alloc, sig, names, lines),
-        Kind::KernelRight => read_kernel_right(alloc, sig, names, lines),
-        Kind::Resolution { count } => read_resolution(alloc, sig, names, count, lines),
-        Kind::ExtZero { count } => read_ext_zero(alloc, sig, names, count, lines),
-        Kind::ExtNonzero { count } => read_ext_nonzero(alloc, sig, names, count, lines),
-        Kind::Halted { cause } => read_halted(alloc, sig, names, cause, lines),
+        Kind::Controllable => read_controllable(alloc, algebra, lines),
+        Kind::AutonomousElement => read_autonomous(alloc, algebra, lines),
+        Kind::LeftInverse => read_left_inverse(alloc, algebra, lines),
+        Kind::RightInverse => read_right(alloc, algebra, lines),
+        Kind::NoLeftInverse => read_no_left(alloc, algebra, lines),
+        Kind::NoRightInverse => read_no_right(alloc, algebra, lines),
+        Kind::KernelLeft => read_kernel_left(alloc, algebra, lines),
+        Kind::KernelRight => read_kernel_right(alloc, algebra, lines),
+        Kind::Resolution { count } => read_resolution(alloc, algebra, count, lines),
+        Kind::ExtZero { count } => read_ext_zero(alloc, algebra, count, lines),
+        Kind::ExtNonzero { count } => read_ext_nonzero(alloc, algebra, count, lines),
+        Kind::Halted { cause } => read_halted(alloc, algebra, cause, lines),
     }
 }
 
 // A matrix, and a block that shows exactness.
 fn read_controllable(
     alloc: Global,
-    sig: &Signature,
-    names: &Names,
+    algebra: &Algebra<'_>,
     lines: &mut Lines<'_>,
 ) -> Result<Certificate, CertFault>
-    requires names { AreNames names.now }
-    requires count { length names.now ≡ length sig.now.kinds }
-    ensures { ReadsOne (body_format sig.now names.now kinds.Controllable) lines.old result lines.new }
+    ensures { ReadsOne (body_format algebra.now.signature.now algebra.now.names.now kinds.Controllable) lines.old result lines.new }
 {
-    let (q, block) = read_with_exact(alloc, sig, names, b"Q", lines)?;
+    let (q, block) = read_with_exact(alloc, algebra, b"Q", lines)?;
     Ok(Certificate::Controllable { q, block })
 }
 
 // An element, the operator that takes it into the row module, and what shows both.
 fn read_autonomous(
     alloc: Global,
-    sig: &Signature,
-    names: &Names,
+    algebra: &Algebra<'_>,
     lines: &mut Lines<'_>,
 ) -> Result<Certificate, CertFault>
-    requires names { AreNames names.now }
-    requires count { length names.now ≡ length sig.now.kinds }
-    ensures { ReadsOne (body_format sig.now names.now kinds.AutonomousElement) lines.old result lines.new }
+    ensures { ReadsOne (body_format algebra.now.signature.now algebra.now.names.now kinds.AutonomousElement) lines.old result lines.new }
 {
-    let (element, (operator, (cofactor, block))) = read_autonomous_parts(alloc, sig, names, lines)?;
+    let (element, (operator, (cofactor, block))) = read_autonomous_parts(alloc, algebra, lines)?;
     Ok(Certificate::AutonomousElement {
         element,
         operator,
@@ -88,75 +76,60 @@ fn read_autonomous(
 // A left inverse.
 fn read_left_inverse(
     alloc: Global,
-    sig: &Signature,
-    names: &Names,
+    algebra: &Algebra<'_>,
     lines: &mut Lines<'_>,
 ) -> Result<Certificate, CertFault>
-    requires names { AreNames names.now }
-    requires count { length names.now ≡ length sig.now.kinds }
-    ensures { ReadsOne (body_format sig.now names.now kinds.LeftInverse) lines.old result lines.new }
+    ensures { ReadsOne (body_format algebra.now.signature.now algebra.now.names.now kinds.LeftInverse) lines.old result lines.new }
 {
-    let s = read_matrix_part(alloc, sig, names, lines, b"S")?;
+    let s = read_matrix_part(alloc, algebra, lines, b"S")?;
     Ok(Certificate::LeftInverse { s })
 }
 
 // A right inverse.
 fn read_right(
     alloc: Global,
-    sig: &Signature,
-    names: &Names,
+    algebra: &Algebra<'_>,
     lines: &mut Lines<'_>,
 ) -> Result<Certificate, CertFault>
-    requires names { AreNames names.now }
-    requires count { length names.now ≡ length sig.now.kinds }
-    ensures { ReadsOne (body_format sig.now names.now kinds.RightInverse) lines.old result lines.new }
+    ensures { ReadsOne (body_format algebra.now.signature.now algebra.now.names.now kinds.RightInverse) lines.old result lines.new }
 {
-    let s = read_matrix_part(alloc, sig, names, lines, b"S")?;
+    let s = read_matrix_part(alloc, algebra, lines, b"S")?;
     Ok(Certificate::RightInverse { s })
 }
 
 // The place of a unit row, and a block that shows that it lies outside.
 fn read_no_left(
     alloc: Global,
-    sig: &Signature,
-    names: &Names,
+    algebra: &Algebra<'_>,
     lines: &mut Lines<'_>,
 ) -> Result<Certificate, CertFault>
-    requires names { AreNames names.now }
-    requires count { length names.now ≡ length sig.now.kinds }
-    ensures { ReadsOne (body_format sig.now names.now kinds.NoLeftInverse) lines.old result lines.new }
+    ensures { ReadsOne (body_format algebra.now.signature.now algebra.now.names.now kinds.NoLeftInverse) lines.old result lines.new }
 {
-    let (unit, block) = read_with_unit(alloc, sig, names, lines)?;
+    let (unit, block) = read_with_unit(alloc, algebra, lines)?;
     Ok(Certificate::NoLeftInverse { unit, block })
 }
 
 // The place of a unit row, and a block that shows that it lies outside.
 fn read_no_right(
     alloc: Global,
-    sig: &Signature,
-    names: &Names,
+    algebra: &Algebra<'_>,
     lines: &mut Lines<'_>,
 ) -> Result<Certificate, CertFault>
-    requires names { AreNames names.now }
-    requires count { length names.now ≡ length sig.now.kinds }
-    ensures { ReadsOne (body_format sig.now names.now kinds.NoRightInverse) lines.old result lines.new }
+    ensures { ReadsOne (body_format algebra.now.signature.now algebra.now.names.now kinds.NoRightInverse) lines.old result lines.new }
 {
-    let (unit, block) = read_with_unit(alloc, sig, names, lines)?;
+    let (unit, block) = read_with_unit(alloc, algebra, lines)?;
     Ok(Certificate::NoRightInverse { unit, block })
 }
 
 // Generators, and a block that shows exactness.
 fn read_kernel_left(
     alloc: Global,
-    sig: &Signature,
-    names: &Names,
+    algebra: &Algebra<'_>,
     lines: &mut Lines<'_>,
 ) -> Result<Certificate, CertFault>
-    requires names { AreNames names.now }
-    requires count { length names.now ≡ length sig.now.kinds }
-    ensures { ReadsOne (body_format sig.now names.now kinds.KernelLeft) lines.old result lines.new }
+    ensures { ReadsOne (body_format algebra.now.signature.now algebra.now.names.now kinds.KernelLeft) lines.old result lines.new }
 {
-    let (generators, block) = read_with_exact(alloc, sig, names, b"L", lines)?;
+    let (generators, block) = read_with_exact(alloc, algebra, b"L", lines)?;
     Ok(Certificate::Kernel {
         side: Side::Left,
         generators,
@@ -167,15 +140,12 @@ fn read_kernel_left(
 // Generators, and a block that shows exactness.
 fn read_kernel_right(
     alloc: Global,
-    sig: &Signature,
-    names: &Names,
+    algebra: &Algebra<'_>,
     lines: &mut Lines<'_>,
 ) -> Result<Certificate, CertFault>
-    requires names { AreNames names.now }
-    requires count { length names.now ≡ length sig.now.kinds }
-    ensures { ReadsOne (body_format sig.now names.now kinds.KernelRight) lines.old result lines.new }
+    ensures { ReadsOne (body_format algebra.now.signature.now algebra.now.names.now kinds.KernelRight) lines.old result lines.new }
 {
-    let (generators, block) = read_with_exact(alloc, sig, names, b"Q", lines)?;
+    let (generators, block) = read_with_exact(alloc, algebra, b"Q", lines)?;
     Ok(Certificate::Kernel {
         side: Side::Right,
         generators,
@@ -186,48 +156,39 @@ fn read_kernel_right(
 // So many links.
 fn read_resolution(
     alloc: Global,
-    sig: &Signature,
-    names: &Names,
+    algebra: &Algebra<'_>,
     count: usize,
     lines: &mut Lines<'_>,
 ) -> Result<Certificate, CertFault>
-    requires names { AreNames names.now }
-    requires count { length names.now ≡ length sig.now.kinds }
-    ensures { ReadsOne (body_format sig.now names.now (kinds.Resolution count)) lines.old result lines.new }
+    ensures { ReadsOne (body_format algebra.now.signature.now algebra.now.names.now (kinds.Resolution count)) lines.old result lines.new }
 {
-    let links = read_links(alloc, sig, names, count, lines)?;
+    let links = read_links(alloc, algebra, count, lines)?;
     Ok(Certificate::Resolution { links })
 }
 
 // So many links, and a block that shows exactness.
 fn read_ext_zero(
     alloc: Global,
-    sig: &Signature,
-    names: &Names,
+    algebra: &Algebra<'_>,
     count: usize,
     lines: &mut Lines<'_>,
 ) -> Result<Certificate, CertFault>
-    requires names { AreNames names.now }
-    requires count { length names.now ≡ length sig.now.kinds }
-    ensures { ReadsOne (body_format sig.now names.now (kinds.ExtZero count)) lines.old result lines.new }
+    ensures { ReadsOne (body_format algebra.now.signature.now algebra.now.names.now (kinds.ExtZero count)) lines.old result lines.new }
 {
-    let (links, block) = read_links_exact(alloc, sig, names, count, lines)?;
+    let (links, block) = read_links_exact(alloc, algebra, count, lines)?;
     Ok(Certificate::ExtZero { links, block })
 }
 
 // So many links, and an element with a block that shows that it lies outside.
 fn read_ext_nonzero(
     alloc: Global,
-    sig: &Signature,
-    names: &Names,
+    algebra: &Algebra<'_>,
     count: usize,
     lines: &mut Lines<'_>,
 ) -> Result<Certificate, CertFault>
-    requires names { AreNames names.now }
-    requires count { length names.now ≡ length sig.now.kinds }
-    ensures { ReadsOne (body_format sig.now names.now (kinds.ExtNonzero count)) lines.old result lines.new }
+    ensures { ReadsOne (body_format algebra.now.signature.now algebra.now.names.now (kinds.ExtNonzero count)) lines.old result lines.new }
 {
-    let (links, (element, block)) = read_links_row(alloc, sig, names, count, lines)?;
+    let (links, (element, block)) = read_links_row(alloc, algebra, count, lines)?;
     Ok(Certificate::ExtNonzero {
         links,
         element,
@@ -238,14 +199,11 @@ fn read_ext_nonzero(
 // What follows the first line of a report.
 fn read_halted(
     alloc: Global,
-    sig: &Signature,
-    names: &Names,
+    algebra: &Algebra<'_>,
     cause: Cause,
     lines: &mut Lines<'_>,
 ) -> Result<Certificate, CertFault>
-    requires names { AreNames names.now }
-    requires count { length names.now ≡ length sig.now.kinds }
-    ensures { ReadsOne (body_format sig.now names.now (kinds.Halted cause)) lines.old result lines.new }
+    ensures { ReadsOne (body_format algebra.now.signature.now algebra.now.names.now (kinds.Halted cause)) lines.old result lines.new }
 {
     let (plan, (runs, stop)) = read_report_rest(alloc, lines)?;
     Ok(Certificate::Halted {
@@ -261,118 +219,93 @@ fn read_halted(
 // The matrix of this name, and a block that shows exactness.
 fn read_with_exact(
     alloc: Global,
-    sig: &Signature,
-    names: &Names,
+    algebra: &Algebra<'_>,
     name: &[u8],
     lines: &mut Lines<'_>,
 ) -> Result<(Matrix, ExactBlock), CertFault>
-    requires names { AreNames names.now }
-    requires count { length names.now ≡ length sig.now.kinds }
-    requires name { LacksByte 10 name.now }
-    ensures { ReadsOne (with_exact sig.now names.now name.now) lines.old result lines.new }
+    requires { LacksByte 10 name.now }
+    ensures { ReadsOne (with_exact algebra.now.signature.now algebra.now.names.now name.now) lines.old result lines.new }
 {
-    let matrix = read_matrix_part(alloc, sig, names, lines, name)?;
-    let block = read_exact_part(alloc, sig, names, lines)?;
+    let matrix = read_matrix_part(alloc, algebra, lines, name)?;
+    let block = read_exact_part(alloc, algebra, lines)?;
     Ok((matrix, block))
 }
 
 // The place of a unit row, and a block that shows that it lies outside.
 fn read_with_unit(
     alloc: Global,
-    sig: &Signature,
-    names: &Names,
+    algebra: &Algebra<'_>,
     lines: &mut Lines<'_>,
 ) -> Result<(usize, OutsideBlock), CertFault>
-    requires names { AreNames names.now }
-    requires count { length names.now ≡ length sig.now.kinds }
-    ensures { ReadsOne (with_unit sig.now names.now) lines.old result lines.new }
+    ensures { ReadsOne (with_unit algebra.now.signature.now algebra.now.names.now) lines.old result lines.new }
 {
     let unit = read_unit(lines)?;
-    let block = read_outside_part(alloc, sig, names, lines)?;
+    let block = read_outside_part(alloc, algebra, lines)?;
     Ok((unit, block))
 }
 
 // The row of this name, and a block that shows that a row lies outside.
 fn read_with_row(
     alloc: Global,
-    sig: &Signature,
-    names: &Names,
+    algebra: &Algebra<'_>,
     name: &[u8],
     lines: &mut Lines<'_>,
 ) -> Result<(Row, OutsideBlock), CertFault>
-    requires names { AreNames names.now }
-    requires count { length names.now ≡ length sig.now.kinds }
-    requires name { LacksByte 10 name.now }
-    ensures { ReadsOne (with_row sig.now names.now name.now) lines.old result lines.new }
+    requires { LacksByte 10 name.now }
+    ensures { ReadsOne (with_row algebra.now.signature.now algebra.now.names.now name.now) lines.old result lines.new }
 {
-    let row = read_row_part(alloc, sig, names, lines, name)?;
-    let block = read_outside_part(alloc, sig, names, lines)?;
+    let row = read_row_part(alloc, algebra, lines, name)?;
+    let block = read_outside_part(alloc, algebra, lines)?;
     Ok((row, block))
 }
 
 // An operator, and what shows that it takes an element into the row module.
 fn read_with_operator(
     alloc: Global,
-    sig: &Signature,
-    names: &Names,
+    algebra: &Algebra<'_>,
     lines: &mut Lines<'_>,
 ) -> Result<(Op, (Row, OutsideBlock)), CertFault>
-    requires names { AreNames names.now }
-    requires count { length names.now ≡ length sig.now.kinds }
-    ensures { ReadsOne (with_operator sig.now names.now) lines.old result lines.new }
+    ensures { ReadsOne (with_operator algebra.now.signature.now algebra.now.names.now) lines.old result lines.new }
 {
-    let operator = read_operator_line(alloc, sig, names, b"operator", lines)?;
-    let rest = read_with_row(alloc, sig, names, b"cofactor", lines)?;
+    let operator = read_operator_line(alloc, algebra, b"operator", lines)?;
+    let rest = read_with_row(alloc, algebra, b"cofactor", lines)?;
     Ok((operator, rest))
 }
 
 // An element, and what follows it.
 fn read_autonomous_parts(
     alloc: Global,
-    sig: &Signature,
-    names: &Names,
+    algebra: &Algebra<'_>,
     lines: &mut Lines<'_>,
 ) -> Result<(Row, (Op, (Row, OutsideBlock))), CertFault>
-    requires names { AreNames names.now }
-    requires count { length names.now ≡ length sig.now.kinds }
-    ensures { ReadsOne (autonomous_parts sig.now names.now) lines.old result lines.new }
+    ensures { ReadsOne (autonomous_parts algebra.now.signature.now algebra.now.names.now) lines.old result lines.new }
 {
-    let element = read_row_part(alloc, sig, names, lines, b"element")?;
-    let rest = read_with_operator(alloc, sig, names, lines)?;
+    let element = read_row_part(alloc, algebra, lines, b"element")?;
+    let rest = read_with_operator(alloc, algebra, lines)?;
     Ok((element, rest))
 }
 
 // A matrix with its block.
-fn read_link(
-    alloc: Global,
-    sig: &Signature,
-    names: &Names,
-    lines: &mut Lines<'_>,
-) -> Result<Link, CertFault>
-    requires names { AreNames names.now }
-    requires count { length names.now ≡ length sig.now.kinds }
-    ensures { ReadsOne (link_format sig.now names.now) lines.old result lines.new }
+fn read_link(alloc: Global, algebra: &Algebra<'_>, lines: &mut Lines<'_>) -> Result<Link, CertFault>
+    ensures { ReadsOne (link_format algebra.now.signature.now algebra.now.names.now) lines.old result lines.new }
 {
-    let l = read_matrix_part(alloc, sig, names, lines, b"L")?;
-    let block = read_exact_part(alloc, sig, names, lines)?;
+    let l = read_matrix_part(alloc, algebra, lines, b"L")?;
+    let block = read_exact_part(alloc, algebra, lines)?;
     Ok(Link { l, block })
 }
 
 // So many links.
 fn read_links(
     alloc: Global,
-    sig: &Signature,
-    names: &Names,
+    algebra: &Algebra<'_>,
     count: usize,
     lines: &mut Lines<'_>,
 ) -> Result<Links, CertFault>
-    requires names { AreNames names.now }
-    requires count { length names.now ≡ length sig.now.kinds }
-    ensures { ReadsOne (links_format sig.now names.now count) lines.old result lines.new }
+    ensures { ReadsOne (links_format algebra.now.signature.now algebra.now.names.now count) lines.old result lines.new }
 {
     let mut links = Vec::new(alloc);
     for _ in 0..count {
-        let link = read_link(alloc, sig, names, lines)?;
+        let link = read_link(alloc, algebra, lines)?;
         links.push(link)?;
     }
     Ok(Links::from_vec(links))
@@ -381,33 +314,27 @@ fn read_links(
 // So many links, and a block that shows exactness.
 fn read_links_exact(
     alloc: Global,
-    sig: &Signature,
-    names: &Names,
+    algebra: &Algebra<'_>,
     count: usize,
     lines: &mut Lines<'_>,
 ) -> Result<(Links, ExactBlock), CertFault>
-    requires names { AreNames names.now }
-    requires count { length names.now ≡ length sig.now.kinds }
-    ensures { ReadsOne (links_exact sig.now names.now count) lines.old result lines.new }
+    ensures { ReadsOne (links_exact algebra.now.signature.now algebra.now.names.now count) lines.old result lines.new }
 {
-    let links = read_links(alloc, sig, names, count, lines)?;
-    let block = read_exact_part(alloc, sig, names, lines)?;
+    let links = read_links(alloc, algebra, count, lines)?;
+    let block = read_exact_part(alloc, algebra, lines)?;
     Ok((links, block))
 }
 
 // So many links, and an element with a block that shows that it lies outside.
 fn read_links_row(
     alloc: Global,
-    sig: &Signature,
-    names: &Names,
+    algebra: &Algebra<'_>,
     count: usize,
     lines: &mut Lines<'_>,
 ) -> Result<(Links, (Row, OutsideBlock)), CertFault>
-    requires names { AreNames names.now }
-    requires count { length names.now ≡ length sig.now.kinds }
-    ensures { ReadsOne (links_row sig.now names.now count) lines.old result lines.new }
+    ensures { ReadsOne (links_row algebra.now.signature.now algebra.now.names.now count) lines.old result lines.new }
 {
-    let links = read_links(alloc, sig, names, count, lines)?;
-    let rest = read_with_row(alloc, sig, names, b"element", lines)?;
+    let links = read_links(alloc, algebra, count, lines)?;
+    let rest = read_with_row(alloc, algebra, b"element", lines)?;
     Ok((links, rest))
 }

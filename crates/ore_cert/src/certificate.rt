@@ -1,8 +1,9 @@
 //! What certificates say.
 
 ghost use Rattle.std.specs.Prelude.{◌≡◌};
-ghost use Rattle.ore_cert.specs.KindWords.{kind_word};
+ghost use Rattle.ore_cert.specs.KindWords.{kind_of, kind_word};
 
+use crate::kind::Kind;
 use crate::report::Report;
 use ore_parts::{ExactBlock, Links, OutsideBlock};
 use ore_ring::Op;
@@ -86,22 +87,38 @@ pub enum Certificate {
 }
 
 impl Certificate {
+    /// Its kind, with what the second line of its text says besides.
+    pub fn kind(&self) -> Kind
+        ensures { result ≡ kind_of self.now }
+    {
+        match self {
+            Certificate::Controllable { .. } => Kind::Controllable,
+            Certificate::AutonomousElement { .. } => Kind::AutonomousElement,
+            Certificate::LeftInverse { .. } => Kind::LeftInverse,
+            Certificate::RightInverse { .. } => Kind::RightInverse,
+            Certificate::NoLeftInverse { .. } => Kind::NoLeftInverse,
+            Certificate::NoRightInverse { .. } => Kind::NoRightInverse,
+            Certificate::Kernel {
+                side: Side::Left,
+                ..
+            } => Kind::KernelLeft,
+            Certificate::Kernel {
+                side: Side::Right,
+                ..
+            } => Kind::KernelRight,
+            Certificate::Resolution { links } => Kind::Resolution { count: links.len() },
+            Certificate::ExtZero { links, .. } => Kind::ExtZero { count: links.len() },
+            Certificate::ExtNonzero { links, .. } => Kind::ExtNonzero { count: links.len() },
+            Certificate::Halted { report } => Kind::Halted {
+                cause: report.cause,
+            },
+        }
+    }
+
     /// The word of its kind, which begins the second line of its text, and with which a reply names it.
     pub fn word(&self) -> &'static [u8]
         ensures { result.now ≡ kind_word self.now }
     {
-        match self {
-            Certificate::Controllable { .. } => b"controllable",
-            Certificate::AutonomousElement { .. } => b"autonomous-element",
-            Certificate::LeftInverse { .. } => b"left-inverse",
-            Certificate::RightInverse { .. } => b"right-inverse",
-            Certificate::NoLeftInverse { .. } => b"no-left-inverse",
-            Certificate::NoRightInverse { .. } => b"no-right-inverse",
-            Certificate::Kernel { .. } => b"kernel",
-            Certificate::Resolution { .. } => b"resolution",
-            Certificate::ExtZero { .. } => b"ext-zero",
-            Certificate::ExtNonzero { .. } => b"ext-nonzero",
-            Certificate::Halted { .. } => b"halted",
-        }
+        self.kind().word()
     }
 }

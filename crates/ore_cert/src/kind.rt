@@ -1,10 +1,10 @@
 //! The line with the kind of a certificate.
 
-ghost use Rattle.std.specs.Prelude.{◌≡◌, ◌≢◌, ℕ, ◌≤◌, ◌++◌, ◌∷◌, [], codes, decimal, MatchOption};
-ghost use Rattle.std.specs.List.{join_with_byte};
+ghost use Rattle.std.specs.Prelude.{◌≡◌, ◌≤◌, ◌++◌, ◌∷◌, decimal, MatchOption};
 ghost use Rattle.ore_parts.specs.Formats.{ReadsOne, Spells};
-ghost use Rattle.ore_cert.specs.WholeText.{cause_words, IsWrittenCause, IsLength};
-ghost use Rattle.ore_cert.specs.KindFormat.{halted_words, kind_words, IsWrittenKind, kind_format, IsNoPlain, IsNoLinks};
+ghost use Rattle.ore_cert.specs.KindWords.{word_of, kind_words};
+ghost use Rattle.ore_cert.specs.WholeText.{IsWrittenCause, IsLength};
+ghost use Rattle.ore_cert.specs.KindFormat.{halted_words, IsWrittenKind, kind_format, IsNoPlain, IsNoLinks};
 
 use crate::report::Cause;
 use ore_parts::count::count_in;
@@ -29,6 +29,27 @@ pub enum Kind {
     ExtNonzero { count: usize },
     /// The report follows of a computation that stopped for this cause.
     Halted { cause: Cause },
+}
+
+impl Kind {
+    /// Its word, which begins the second line of a text, and with which a reply names a certificate.
+    pub fn word(self) -> &'static [u8]
+        ensures { result.now ≡ word_of self }
+    {
+        match self {
+            Kind::Controllable => b"controllable",
+            Kind::AutonomousElement => b"autonomous-element",
+            Kind::LeftInverse => b"left-inverse",
+            Kind::RightInverse => b"right-inverse",
+            Kind::NoLeftInverse => b"no-left-inverse",
+            Kind::NoRightInverse => b"no-right-inverse",
+            Kind::KernelLeft | Kind::KernelRight => b"kernel",
+            Kind::Resolution { count: _ } => b"resolution",
+            Kind::ExtZero { count: _ } => b"ext-zero",
+            Kind::ExtNonzero { count: _ } => b"ext-nonzero",
+            Kind::Halted { cause: _ } => b"halted",
+        }
+    }
 }
 
 /// The kind on the line that is due.

@@ -17,7 +17,8 @@
 //! that a count takes no memory by itself.
 //!
 //! The crate stands on `ore_parts` for the parts of a certificate, and passes on their types, readers and printers; on
-//! `ore_text` for operators, and on `ore_rows` for matrices and the choices of runs.
+//! `ore_text` for operators, on `ore_rows` for matrices and the choices of runs, and on `ore_course` for what a report is
+//! to a course (`specs/CourseReport.antt`).
 #![tactic(auto)]
 
 mod bodies;
@@ -31,6 +32,7 @@ mod report_lines;
 pub mod whole;
 
 pub use certificate::{Certificate, Side};
+pub use kind::Kind;
 pub use ore_parts::{
     CertFault, ExactBlock, Lines, Link, Links, OutsideBlock, PairEntry, Pairs, append_exact,
     append_matrix, append_outside, append_row_part, print_exact, print_matrix, print_outside,

@@ -1,14 +1,17 @@
 //! Prints certificates.
 
-ghost use Rattle.std.specs.Prelude.{◌≡◌, ◌++◌, ◌∷◌, [], length, decimal, codes, IfOk, OnOk};
-ghost use Rattle.std.specs.List.{All, flat_map};
-ghost use Rattle.ore_ring.specs.Belongs.{Belongs};
-ghost use Rattle.ore_parts.specs.BlockText.{line, place, matrix_part, row_part, exact_text, outside_text};
+ghost use Rattle.std.specs.Prelude.{◌≡◌, ◌++◌, ◌∷◌, [], length, codes, IfOk, OnOk};
+ghost use Rattle.std.specs.List.{flat_map};
+ghost use Rattle.ore_ring.specs.Belongs.{Belongs, AllBelong};
+ghost use Rattle.ore_text.specs.Lines.{line};
+ghost use Rattle.ore_parts.specs.BlockText.{place, matrix_part, row_part, exact_text, outside_text};
 ghost use Rattle.ore_parts.specs.OfSignature.{MatrixOf, IsExactOf, IsOutsideOf, IsLinkOf};
 ghost use Rattle.ore_cert.specs.CertificateOf.{AreLinksOf, IsCertificateOf};
-ghost use Rattle.ore_cert.specs.WholeText.{choice_text, run_text, cause_words, plan_words, stop_words, report_rest, side_word, generators_name, kind_text, link_text, operator_line, rest_text, certificate_text, brief_text};
+ghost use Rattle.ore_cert.specs.KindWords.{cause_words, kind_words};
+ghost use Rattle.ore_cert.specs.WholeText.{choice_text, run_text, plan_words, stop_words, report_rest, generators_name, link_text, operator_line, rest_text, certificate_text, brief_text};
 
 use crate::certificate::{Certificate, Side};
+use crate::kind::Kind;
 use crate::report::{Cause, Plan, Report, Stop};
 use ore_monomial::{NoMemory, Signature};
 use ore_parts::print_block::{append_count, append_one, append_skip, append_two};
@@ -18,10 +21,15 @@ use ore_parts::{
 };
 use ore_ring::Op;
 use ore_rows::{Choice, Choices, Matrix, Row, Runs};
-use ore_text::{Names, append_operator};
+use ore_text::{Algebra, Names, append_operator};
 use std::alloc::Global;
 
 /// The text of a certificate.
+///
+/// The certificate is of the signature, and there is one name for each variable.
+///
+/// # Errors
+/// Want of memory.
 pub fn print_certificate(
     alloc: Global,
     sig: &Signature,
@@ -32,16 +40,16 @@ pub fn print_certificate(
     requires names { length names.now ≡ length sig.now.kinds }
     ensures { IfOk result (λ text. text.items ≡ certificate_text names.now sig.now.order cert.now) }
 {
-    let mut text = Vec::new(alloc);
-    text.extend_from_slice(b"certificate 1\n")?;
-    append_kind(&mut text, cert)?;
-    append_rest(alloc, &mut text, sig, names, cert)?;
-    text.extend_from_slice(b"end\n")?;
-    Ok(text)
+    whole_text(alloc, &Algebra::new(sig, names), cert)
 }
 
 /// The kind of a certificate and what it claims, where it says that a module has no torsion, or has an element that is
 /// torsion; else the whole text.
+///
+/// The certificate is of the signature, and there is one name for each variable.
+///
+/// # Errors
+/// Want of memory.
 pub fn print_brief(
     alloc: Global,
     sig: &Signature,
@@ -52,84 +60,100 @@ pub fn print_brief(
     requires names { length names.now ≡ length sig.now.kinds }
     ensures { IfOk result (λ text. text.items ≡ brief_text names.now sig.now.order cert.now) }
 {
+    brief(alloc, &Algebra::new(sig, names), cert)
+}
+
+// The text of a certificate.
+fn whole_text(alloc: Global, algebra: &Algebra<'_>, cert: &Certificate) -> Result<Vec<u8>, NoMemory>
+    requires { IsCertificateOf algebra.now.signature.now cert.now }
+    ensures { IfOk result (λ text. text.items ≡ certificate_text algebra.now.names.now algebra.now.signature.now.order cert.now) }
+{
+    let mut text = Vec::new(alloc);
+    text.extend_from_slice(b"certificate 1\n")?;
+    append_kind(&mut text, cert.kind())?;
+    append_rest(alloc, &mut text, algebra, cert)?;
+    text.extend_from_slice(b"end\n")?;
+    Ok(text)
+}
+
+// What a verdict claims, and of another kind the whole text.
+fn brief(alloc: Global, algebra: &Algebra<'_>, cert: &Certificate) -> Result<Vec<u8>, NoMemory>
+    requires { IsCertificateOf algebra.now.signature.now cert.now }
+    ensures { IfOk result (λ text. text.items ≡ brief_text algebra.now.names.now algebra.now.signature.now.order cert.now) }
+{
     match cert {
-        Certificate::Controllable { q, .. } => {
-            print_controllable(alloc, sig, names, cert.word(), q)
-        }
+        Certificate::Controllable { q, .. } => print_controllable(alloc, algebra, cert.word(), q),
         Certificate::AutonomousElement {
             element,
             operator,
             ..
-        } => print_autonomous(alloc, sig, names, cert.word(), element, operator),
-        Certificate::LeftInverse { .. } => print_certificate(alloc, sig, names, cert),
-        Certificate::RightInverse { .. } => print_certificate(alloc, sig, names, cert),
-        Certificate::NoLeftInverse { .. } => print_certificate(alloc, sig, names, cert),
-        Certificate::NoRightInverse { .. } => print_certificate(alloc, sig, names, cert),
-        Certificate::Kernel { .. } => print_certificate(alloc, sig, names, cert),
-        Certificate::Resolution { .. } => print_certificate(alloc, sig, names, cert),
-        Certificate::ExtZero { .. } => print_certificate(alloc, sig, names, cert),
-        Certificate::ExtNonzero { .. } => print_certificate(alloc, sig, names, cert),
-        Certificate::Halted { .. } => print_certificate(alloc, sig, names, cert),
+        } => print_autonomous(alloc, algebra, cert.word(), element, operator),
+        Certificate::LeftInverse { .. } => whole_text(alloc, algebra, cert),
+        Certificate::RightInverse { .. } => whole_text(alloc, algebra, cert),
+        Certificate::NoLeftInverse { .. } => whole_text(alloc, algebra, cert),
+        Certificate::NoRightInverse { .. } => whole_text(alloc, algebra, cert),
+        Certificate::Kernel { .. } => whole_text(alloc, algebra, cert),
+        Certificate::Resolution { .. } => whole_text(alloc, algebra, cert),
+        Certificate::ExtZero { .. } => whole_text(alloc, algebra, cert),
+        Certificate::ExtNonzero { .. } => whole_text(alloc, algebra, cert),
+        Certificate::Halted { .. } => whole_text(alloc, algebra, cert),
     }
 }
 
 // The line of the word, and the matrix Q.
 fn print_controllable(
     alloc: Global,
-    sig: &Signature,
-    names: &Names,
+    algebra: &Algebra<'_>,
     word: &[u8],
     q: &Matrix,
 ) -> Result<Vec<u8>, NoMemory>
-    requires of { MatrixOf sig.now q.now }
-    requires names { length names.now ≡ length sig.now.kinds }
-    ensures { IfOk result (λ text. text.items ≡ line (word.now ∷ []) ++ matrix_part names.now sig.now.order (codes "Q") q.now) }
+    requires { MatrixOf algebra.now.signature.now q.now }
+    ensures { IfOk result (λ text. text.items ≡ line (word.now ∷ []) ++ matrix_part algebra.now.names.now algebra.now.signature.now.order (codes "Q") q.now) }
 {
     let mut text = Vec::new(alloc);
     append_word(&mut text, word)?;
-    append_matrix(&mut text, sig, names, b"Q", q)?;
+    append_matrix(&mut text, algebra, b"Q", q)?;
     Ok(text)
 }
 
 // The line of the word, the element and the operator.
 fn print_autonomous(
     alloc: Global,
-    sig: &Signature,
-    names: &Names,
+    algebra: &Algebra<'_>,
     word: &[u8],
     element: &Row,
     operator: &Op,
 ) -> Result<Vec<u8>, NoMemory>
-    requires element { All (Belongs sig.now) element.now }
-    requires operator { Belongs sig.now operator.now }
-    requires names { length names.now ≡ length sig.now.kinds }
-    ensures { IfOk result (λ text. text.items ≡ line (word.now ∷ []) ++ (row_part names.now sig.now.order (codes "element") element.now
-        ++ operator_line names.now sig.now.order (codes "operator") operator.now)) }
+    requires element { AllBelong algebra.now.signature.now element.now }
+    requires operator { Belongs algebra.now.signature.now operator.now }
+    ensures { IfOk result (λ text. text.items ≡ line (word.now ∷ []) ++ (row_part algebra.now.names.now algebra.now.signature.now.order (codes "element") element.now
+        ++ operator_line algebra.now.names.now algebra.now.signature.now.order (codes "operator") operator.now)) }
 {
     let mut text = Vec::new(alloc);
     append_word(&mut text, word)?;
-    append_row_part(&mut text, sig, names, b"element", element)?;
-    append_operator_line(&mut text, sig, names, b"operator", operator)?;
+    append_row_part(&mut text, algebra, b"element", element)?;
+    append_operator_line(&mut text, algebra, b"operator", operator)?;
     Ok(text)
 }
 
-// Appends the line of the kind of a certificate.
-fn append_kind(out: &mut Vec<u8>, cert: &Certificate) -> Result<(), NoMemory>
-    ensures { OnOk result (out.new.items ≡ out.old.items ++ kind_text cert.now) }
+// Appends the line of a kind.
+fn append_kind(out: &mut Vec<u8>, kind: Kind) -> Result<(), NoMemory>
+    ensures { OnOk result (out.new.items ≡ out.old.items ++ (kind_words kind ++ 10 ∷ [])) }
 {
-    let word = cert.word();
-    match cert {
-        Certificate::Controllable { .. } => append_word(out, word),
-        Certificate::AutonomousElement { .. } => append_word(out, word),
-        Certificate::LeftInverse { .. } => append_word(out, word),
-        Certificate::RightInverse { .. } => append_word(out, word),
-        Certificate::NoLeftInverse { .. } => append_word(out, word),
-        Certificate::NoRightInverse { .. } => append_word(out, word),
-        Certificate::Kernel { side, .. } => append_side(out, word, side),
-        Certificate::Resolution { links } => append_count(out, word, links.len()),
-        Certificate::ExtZero { links, .. } => append_count(out, word, links.len()),
-        Certificate::ExtNonzero { links, .. } => append_count(out, word, links.len()),
-        Certificate::Halted { report } => append_cause(out, word, &report.cause),
+    let word = kind.word();
+    match kind {
+        Kind::Controllable => append_word(out, word),
+        Kind::AutonomousElement => append_word(out, word),
+        Kind::LeftInverse => append_word(out, word),
+        Kind::RightInverse => append_word(out, word),
+        Kind::NoLeftInverse => append_word(out, word),
+        Kind::NoRightInverse => append_word(out, word),
+        Kind::KernelLeft => append_pair_of_words(out, word, b"left"),
+        Kind::KernelRight => append_pair_of_words(out, word, b"right"),
+        Kind::Resolution { count } => append_count(out, word, count),
+        Kind::ExtZero { count } => append_count(out, word, count),
+        Kind::ExtNonzero { count } => append_count(out, word, count),
+        Kind::Halted { cause } => append_cause(out, word, &cause),
     }
 }
 
@@ -142,58 +166,53 @@ fn append_word(out: &mut Vec<u8>, word: &[u8]) -> Result<(), NoMemory>
     Ok(())
 }
 
-// Appends the line of a word and a side.
-fn append_side(out: &mut Vec<u8>, word: &[u8], side: &Side) -> Result<(), NoMemory>
-    ensures { OnOk result (out.new.items ≡ out.old.items ++ line (word.now ∷ side_word side.now ∷ [])) }
+// Appends the line of two words.
+fn append_pair_of_words(out: &mut Vec<u8>, first: &[u8], second: &[u8]) -> Result<(), NoMemory>
+    ensures { OnOk result (out.new.items ≡ out.old.items ++ line (first.now ∷ second.now ∷ [])) }
 {
-    out.extend_from_slice(word)?;
-    match side {
-        Side::Left => out.extend_from_slice(b" left\n")?,
-        Side::Right => out.extend_from_slice(b" right\n")?,
-    }
-    Ok(())
+    out.extend_from_slice(first)?;
+    out.push(b' ')?;
+    append_word(out, second)
 }
 
 // Appends what stands between the line of the kind and the last line.
 fn append_rest(
     alloc: Global,
     out: &mut Vec<u8>,
-    sig: &Signature,
-    names: &Names,
+    algebra: &Algebra<'_>,
     cert: &Certificate,
 ) -> Result<(), NoMemory>
-    requires of { IsCertificateOf sig.now cert.now }
-    requires names { length names.now ≡ length sig.now.kinds }
-    ensures { OnOk result (out.new.items ≡ out.old.items ++ rest_text names.now sig.now.order cert.now) }
+    requires { IsCertificateOf algebra.now.signature.now cert.now }
+    ensures { OnOk result (out.new.items ≡ out.old.items ++ rest_text algebra.now.names.now algebra.now.signature.now.order cert.now) }
 {
     match cert {
         Certificate::Controllable { q, block } => {
-            append_with_exact(alloc, out, sig, names, b"Q", q, block)
+            append_with_exact(alloc, out, algebra, b"Q", q, block)
         }
         Certificate::AutonomousElement {
             element,
             operator,
             cofactor,
             block,
-        } => append_autonomous(alloc, out, sig, names, element, operator, cofactor, block),
-        Certificate::LeftInverse { s } => append_matrix(out, sig, names, b"S", s),
-        Certificate::RightInverse { s } => append_matrix(out, sig, names, b"S", s),
+        } => append_autonomous(alloc, out, algebra, element, operator, cofactor, block),
+        Certificate::LeftInverse { s } => append_matrix(out, algebra, b"S", s),
+        Certificate::RightInverse { s } => append_matrix(out, algebra, b"S", s),
         Certificate::NoLeftInverse { unit, block } | Certificate::NoRightInverse { unit, block } =>
-            { append_with_unit(alloc, out, sig, names, *unit, block) }
+            { append_with_unit(alloc, out, algebra, *unit, block) }
         Certificate::Kernel {
             side,
             generators,
             block,
-        } => append_generators(alloc, out, sig, names, side, generators, block),
-        Certificate::Resolution { links } => append_links(alloc, out, sig, names, links),
+        } => append_generators(alloc, out, algebra, side, generators, block),
+        Certificate::Resolution { links } => append_links(alloc, out, algebra, links),
         Certificate::ExtZero { links, block } => {
-            append_ext_zero(alloc, out, sig, names, links, block)
+            append_ext_zero(alloc, out, algebra, links, block)
         }
         Certificate::ExtNonzero {
             links,
             element,
             block,
-        } => append_ext_nonzero(alloc, out, sig, names, links, element, block),
+        } => append_ext_nonzero(alloc, out, algebra, links, element, block),
         Certificate::Halted { report } => append_report_rest(out, report),
     }
 }
@@ -202,80 +221,72 @@ fn append_rest(
 fn append_with_exact(
     alloc: Global,
     out: &mut Vec<u8>,
-    sig: &Signature,
-    names: &Names,
+    algebra: &Algebra<'_>,
     name: &[u8],
     matrix: &Matrix,
     block: &ExactBlock,
 ) -> Result<(), NoMemory>
-    requires matrix { MatrixOf sig.now matrix.now }
-    requires block { IsExactOf sig.now block.now }
-    requires names { length names.now ≡ length sig.now.kinds }
-    ensures { OnOk result (out.new.items ≡ out.old.items ++ (matrix_part names.now sig.now.order name.now matrix.now ++ exact_text names.now sig.now.order block.now)) }
+    requires matrix { MatrixOf algebra.now.signature.now matrix.now }
+    requires block { IsExactOf algebra.now.signature.now block.now }
+    ensures { OnOk result (out.new.items ≡ out.old.items ++ (matrix_part algebra.now.names.now algebra.now.signature.now.order name.now matrix.now ++ exact_text algebra.now.names.now algebra.now.signature.now.order block.now)) }
 {
-    append_matrix(out, sig, names, name, matrix)?;
-    append_exact(alloc, out, sig, names, block)
+    append_matrix(out, algebra, name, matrix)?;
+    append_exact(alloc, out, algebra, block)
 }
 
 // Appends an element, the operator and the cofactor row, and a block.
 fn append_autonomous(
     alloc: Global,
     out: &mut Vec<u8>,
-    sig: &Signature,
-    names: &Names,
+    algebra: &Algebra<'_>,
     element: &Row,
     operator: &Op,
     cofactor: &Row,
     block: &OutsideBlock,
 ) -> Result<(), NoMemory>
-    requires element { All (Belongs sig.now) element.now }
-    requires operator { Belongs sig.now operator.now }
-    requires cofactor { All (Belongs sig.now) cofactor.now }
-    requires block { IsOutsideOf sig.now block.now }
-    requires names { length names.now ≡ length sig.now.kinds }
-    ensures { OnOk result (out.new.items ≡ out.old.items ++ (row_part names.now sig.now.order (codes "element") element.now
-        ++ (operator_line names.now sig.now.order (codes "operator") operator.now ++ (row_part names.now sig.now.order (codes "cofactor") cofactor.now ++ outside_text names.now sig.now.order block.now)))) }
+    requires element { AllBelong algebra.now.signature.now element.now }
+    requires operator { Belongs algebra.now.signature.now operator.now }
+    requires cofactor { AllBelong algebra.now.signature.now cofactor.now }
+    requires block { IsOutsideOf algebra.now.signature.now block.now }
+    ensures { OnOk result (out.new.items ≡ out.old.items ++ (row_part algebra.now.names.now algebra.now.signature.now.order (codes "element") element.now
+        ++ (operator_line algebra.now.names.now algebra.now.signature.now.order (codes "operator") operator.now ++ (row_part algebra.now.names.now algebra.now.signature.now.order (codes "cofactor") cofactor.now ++ outside_text algebra.now.names.now algebra.now.signature.now.order block.now)))) }
 {
-    append_row_part(out, sig, names, b"element", element)?;
-    append_operator_line(out, sig, names, b"operator", operator)?;
-    append_row_part(out, sig, names, b"cofactor", cofactor)?;
-    append_outside(alloc, out, sig, names, block)
+    append_row_part(out, algebra, b"element", element)?;
+    append_operator_line(out, algebra, b"operator", operator)?;
+    append_row_part(out, algebra, b"cofactor", cofactor)?;
+    append_outside(alloc, out, algebra, block)
 }
 
 // Appends the place of the unit row, and a block.
 fn append_with_unit(
     alloc: Global,
     out: &mut Vec<u8>,
-    sig: &Signature,
-    names: &Names,
+    algebra: &Algebra<'_>,
     unit: usize,
     block: &OutsideBlock,
 ) -> Result<(), NoMemory>
-    requires of { IsOutsideOf sig.now block.now }
-    requires names { length names.now ≡ length sig.now.kinds }
-    ensures { OnOk result (out.new.items ≡ out.old.items ++ (line (codes "unit" ∷ place unit ∷ []) ++ outside_text names.now sig.now.order block.now)) }
+    requires { IsOutsideOf algebra.now.signature.now block.now }
+    ensures { OnOk result (out.new.items ≡ out.old.items ++ (line (codes "unit" ∷ place unit ∷ []) ++ outside_text algebra.now.names.now algebra.now.signature.now.order block.now)) }
 {
     append_one(out, b"unit", unit)?;
-    append_outside(alloc, out, sig, names, block)
+    append_outside(alloc, out, algebra, block)
 }
 
 // Appends the generators of a kernel, and a block.
 fn append_generators(
     alloc: Global,
     out: &mut Vec<u8>,
-    sig: &Signature,
-    names: &Names,
+    algebra: &Algebra<'_>,
     side: &Side,
     generators: &Matrix,
     block: &ExactBlock,
 ) -> Result<(), NoMemory>
-    requires generators { MatrixOf sig.now generators.now }
-    requires block { IsExactOf sig.now block.now }
-    requires names { length names.now ≡ length sig.now.kinds }
-    ensures { OnOk result (out.new.items ≡ out.old.items ++ (matrix_part names.now sig.now.order (generators_name side.now) generators.now ++ exact_text names.now sig.now.order block.now)) }
+    requires generators { MatrixOf algebra.now.signature.now generators.now }
+    requires block { IsExactOf algebra.now.signature.now block.now }
+    ensures { OnOk result (out.new.items ≡ out.old.items ++ (matrix_part algebra.now.names.now algebra.now.signature.now.order (generators_name side.now) generators.now ++ exact_text algebra.now.names.now algebra.now.signature.now.order block.now)) }
 {
     let name = generators_name(side);
-    append_with_exact(alloc, out, sig, names, name, generators, block)
+    append_with_exact(alloc, out, algebra, name, generators, block)
 }
 
 // The name of the generators of a kernel.
@@ -291,16 +302,14 @@ fn generators_name(side: &Side) -> &'static [u8]
 fn append_links(
     alloc: Global,
     out: &mut Vec<u8>,
-    sig: &Signature,
-    names: &Names,
+    algebra: &Algebra<'_>,
     links: &Links,
 ) -> Result<(), NoMemory>
-    requires of { AreLinksOf sig.now links.now }
-    requires names { length names.now ≡ length sig.now.kinds }
-    ensures { OnOk result (out.new.items ≡ out.old.items ++ flat_map (link_text names.now sig.now.order) links.now) }
+    requires { AreLinksOf algebra.now.signature.now links.now }
+    ensures { OnOk result (out.new.items ≡ out.old.items ++ flat_map (link_text algebra.now.names.now algebra.now.signature.now.order) links.now) }
 {
     for k in 0..links.len() {
-        append_link(alloc, out, sig, names, links.get(k))?;
+        append_link(alloc, out, algebra, links.get(k))?;
     }
     Ok(())
 }
@@ -308,72 +317,64 @@ fn append_links(
 fn append_link(
     alloc: Global,
     out: &mut Vec<u8>,
-    sig: &Signature,
-    names: &Names,
+    algebra: &Algebra<'_>,
     link: &Link,
 ) -> Result<(), NoMemory>
-    requires of { IsLinkOf sig.now link.now }
-    requires names { length names.now ≡ length sig.now.kinds }
-    ensures { OnOk result (out.new.items ≡ out.old.items ++ link_text names.now sig.now.order link.now) }
+    requires { IsLinkOf algebra.now.signature.now link.now }
+    ensures { OnOk result (out.new.items ≡ out.old.items ++ link_text algebra.now.names.now algebra.now.signature.now.order link.now) }
 {
-    append_with_exact(alloc, out, sig, names, b"L", &link.l, &link.block)
+    append_with_exact(alloc, out, algebra, b"L", &link.l, &link.block)
 }
 
 // Appends links, and a block.
 fn append_ext_zero(
     alloc: Global,
     out: &mut Vec<u8>,
-    sig: &Signature,
-    names: &Names,
+    algebra: &Algebra<'_>,
     links: &Links,
     block: &ExactBlock,
 ) -> Result<(), NoMemory>
-    requires links { AreLinksOf sig.now links.now }
-    requires block { IsExactOf sig.now block.now }
-    requires names { length names.now ≡ length sig.now.kinds }
-    ensures { OnOk result (out.new.items ≡ out.old.items ++ (flat_map (link_text names.now sig.now.order) links.now ++ exact_text names.now sig.now.order block.now)) }
+    requires links { AreLinksOf algebra.now.signature.now links.now }
+    requires block { IsExactOf algebra.now.signature.now block.now }
+    ensures { OnOk result (out.new.items ≡ out.old.items ++ (flat_map (link_text algebra.now.names.now algebra.now.signature.now.order) links.now ++ exact_text algebra.now.names.now algebra.now.signature.now.order block.now)) }
 {
-    append_links(alloc, out, sig, names, links)?;
-    append_exact(alloc, out, sig, names, block)
+    append_links(alloc, out, algebra, links)?;
+    append_exact(alloc, out, algebra, block)
 }
 
 // Appends links, an element, and a block.
 fn append_ext_nonzero(
     alloc: Global,
     out: &mut Vec<u8>,
-    sig: &Signature,
-    names: &Names,
+    algebra: &Algebra<'_>,
     links: &Links,
     element: &Row,
     block: &OutsideBlock,
 ) -> Result<(), NoMemory>
-    requires links { AreLinksOf sig.now links.now }
-    requires element { All (Belongs sig.now) element.now }
-    requires block { IsOutsideOf sig.now block.now }
-    requires names { length names.now ≡ length sig.now.kinds }
-    ensures { OnOk result (out.new.items ≡ out.old.items ++ (flat_map (link_text names.now sig.now.order) links.now
-        ++ (row_part names.now sig.now.order (codes "element") element.now ++ outside_text names.now sig.now.order block.now))) }
+    requires links { AreLinksOf algebra.now.signature.now links.now }
+    requires element { AllBelong algebra.now.signature.now element.now }
+    requires block { IsOutsideOf algebra.now.signature.now block.now }
+    ensures { OnOk result (out.new.items ≡ out.old.items ++ (flat_map (link_text algebra.now.names.now algebra.now.signature.now.order) links.now
+        ++ (row_part algebra.now.names.now algebra.now.signature.now.order (codes "element") element.now ++ outside_text algebra.now.names.now algebra.now.signature.now.order block.now))) }
 {
-    append_links(alloc, out, sig, names, links)?;
-    append_row_part(out, sig, names, b"element", element)?;
-    append_outside(alloc, out, sig, names, block)
+    append_links(alloc, out, algebra, links)?;
+    append_row_part(out, algebra, b"element", element)?;
+    append_outside(alloc, out, algebra, block)
 }
 
 // Appends the line of a word and an operator.
 fn append_operator_line(
     out: &mut Vec<u8>,
-    sig: &Signature,
-    names: &Names,
+    algebra: &Algebra<'_>,
     word: &[u8],
     operator: &Op,
 ) -> Result<(), NoMemory>
-    requires of { Belongs sig.now operator.now }
-    requires names { length names.now ≡ length sig.now.kinds }
-    ensures { OnOk result (out.new.items ≡ out.old.items ++ operator_line names.now sig.now.order word.now operator.now) }
+    requires { Belongs algebra.now.signature.now operator.now }
+    ensures { OnOk result (out.new.items ≡ out.old.items ++ operator_line algebra.now.names.now algebra.now.signature.now.order word.now operator.now) }
 {
     out.extend_from_slice(word)?;
     out.push(b' ')?;
-    append_operator(out, sig, names, operator)?;
+    append_operator(out, algebra, operator)?;
     out.push(b'\n')?;
     Ok(())
 }

@@ -1,6 +1,6 @@
 //! The lines of the report of a stopped computation.
 
-ghost use Rattle.std.specs.Prelude.{◌≡◌, ◌≢◌, ℕ, ◌++◌, ◌∷◌, length, codes, MatchOption};
+ghost use Rattle.std.specs.Prelude.{◌≡◌, ◌++◌, ◌∷◌, codes, MatchOption};
 ghost use Rattle.ore_parts.specs.BlockText.{place, is_place};
 ghost use Rattle.ore_parts.specs.Formats.{ReadsOne, items, Spells};
 ghost use Rattle.ore_cert.specs.WholeText.{IsWrittenChoice, IsWrittenPlan, IsWrittenStop};

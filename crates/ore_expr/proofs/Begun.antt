@@ -17,7 +17,7 @@ use Rattle.std.specs.declared.option.Option.{Option}
 use Rattle.std.specs.declared.option.Option.TheVariants.{None, Some}
 use mathlib.Core.List.{reverse_aux}
 use Rattle.ore_expr.specs.Tokens.{Token, Number, Close}
-use Rattle.ore_expr.specs.Grammar.{Expression, Single, Negated, Sum, Difference, Alone, Product, Factor, Plain, Power, Whole, Quotient, Variable, Group, expression_tokens, IsSentence, Begins}
+use Rattle.ore_expr.specs.Grammar.{Expression, Single, Negated, Sum, Difference, Alone, Product, Factor, Bare, Power, Whole, Quotient, Variable, Group, expression_tokens, IsSentence, Begins}
 use Rattle.ore_expr.proofs.PartialTrees.{Outer, outer, Place, WantsOperand, Ended, WantsDenominator, WantsExponent, WantsPower, Partial, partial, first, atom_of, factor_of, term_of, expression_of, whole_of, expression_before, factor_before, sum_before, product_before, place_before, outside_before, before, moves, where_some, run}
 use Rattle.ore_expr.proofs.Moves.{whole_before, Stands, moves-before, behind, ended, ended-behind, run-expression, turned-expression}
 
@@ -44,9 +44,9 @@ missing (WantsExponent name) = Number (49 ∷ []) ∷ []
 missing (WantsPower b) = Number (49 ∷ []) ∷ []
 
 abbrev completed : Place → Factor
-completed WantsOperand = Plain (Whole (49 ∷ []))
+completed WantsOperand = Bare (Whole (49 ∷ []))
 completed (Ended x) = factor_of x
-completed (WantsDenominator digits) = Plain (Quotient digits (49 ∷ []))
+completed (WantsDenominator digits) = Bare (Quotient digits (49 ∷ []))
 completed (WantsExponent name) = Power (Variable name) (49 ∷ [])
 completed (WantsPower b) = Power (atom_of b) (49 ∷ [])
 
@@ -63,13 +63,13 @@ closers (c ∷ cs) = closers cs ++ Close ∷ []
 
 abbrev closed : List Outer → Expression → Expression
 closed [] e = e
-closed (outer s p ∷ cs) e = closed cs (expression_of s (term_of p (Plain (Group e))))
+closed (outer s p ∷ cs) e = closed cs (expression_of s (term_of p (Bare (Group e))))
 
 closed-before : (cs : List Outer) (e : Expression) → expression_before (closed cs e) [] ≡ closers cs ++ expression_before e (outside_before cs)
 closed-before [] e = refl
 closed-before (outer s p ∷ cs) e =
-    closed-before cs (expression_of s (term_of p (Plain (Group e))))
-    ∙ ap (λ ts. closers cs ++ ts) (whole_before s p (Plain (Group e)) (outside_before cs))
+    closed-before cs (expression_of s (term_of p (Bare (Group e))))
+    ∙ ap (λ ts. closers cs ++ ts) (whole_before s p (Bare (Group e)) (outside_before cs))
     ∙ sym (append_assoc (closers cs) (Close ∷ []) (expression_before e (outside_before (outer s p ∷ cs))))
 
 -- the whole tree, and the tokens that it takes, the last one first

@@ -20,7 +20,7 @@ use Rattle.std.proofs.lemmas.Bool.Decides.{nat_tests}
 use Rattle.ore_rational.specs.Fraction.{Fraction}
 use Rattle.ore_ring.specs.Terms.{Term as OneTerm, Terms}
 use Rattle.ore_expr.specs.Tokens.{Token, Number, Name, Plus, Minus, Star, Slash, Caret, Lexeme, tokens_of}
-use Rattle.ore_expr.specs.Grammar.{Alone, Factor, Plain, Power, Whole, Quotient, Variable, expression_tokens, term_tokens, factor_tokens, atom_tokens}
+use Rattle.ore_expr.specs.Grammar.{Alone, Factor, Bare, Power, Whole, Quotient, Variable, expression_tokens, term_tokens, factor_tokens, atom_tokens}
 use Rattle.ore_expr.specs.declared.fault.TextFault.{TextFault}
 use Rattle.ore_expr.specs.declared.fault.TextFault.TheVariants.{NumberTooWide, ZeroDenominator, PowerTooLarge}
 use Rattle.ore_expr.specs.Faults.{greatest_number, greatest_exponent, index_of, number_fault, name_fault, own_fault, IsSound}
@@ -93,7 +93,7 @@ module _ (all : List (List ℕ)) where
   name_sound : (name : List ℕ) (x place : ℕ) → index_of all name ≡ Some x → name_fault place (index_of all name) ≡ None
   name_sound name x place e = ap (name_fault place) e
 
-  variable_sound : (name : List ℕ) (x : ℕ) → index_of all name ≡ Some x → FactorSound (Plain (Variable name))
+  variable_sound : (name : List ℕ) (x : ℕ) → index_of all name ≡ Some x → FactorSound (Bare (Variable name))
   unfolding factor_tokens atom_tokens
   variable_sound name x e rest s before = (λ place. name_sound name x place e, s (Name name ∷ before))
 
@@ -147,12 +147,12 @@ module _ (all : List (List ℕ)) where
   with_sound q [] h k a before rest t s = magnitude_sound q h k before rest t s
   with_sound q (f ∷ fs) h k a before rest t s = by (is_one q)
     where
-      by : (b : Bool) → AreSound before (term_tokens (if b then product_tree (Alone f) fs else product_tree (Alone (Plain (magnitude_tree q))) (f ∷ fs)) ++ rest)
+      by : (b : Bool) → AreSound before (term_tokens (if b then product_tree (Alone f) fs else product_tree (Alone (Bare (magnitude_tree q))) (f ∷ fs)) ++ rest)
       by true =
           subst (AreSound before) (sym (ap (λ us. us ++ rest) (product_tokens (Alone f) fs) ∙ append_assoc (factor_tokens f) (star_tokens fs) rest))
           (a.0 (star_tokens fs ++ rest) (stars_sound fs rest a.1 s) before)
       by false =
-          subst (AreSound before) (sym (ap (λ us. us ++ rest) (product_tokens (Alone (Plain (magnitude_tree q))) (f ∷ fs)) ∙ append_assoc (atom_tokens (magnitude_tree q)) (star_tokens (f ∷ fs)) rest))
+          subst (AreSound before) (sym (ap (λ us. us ++ rest) (product_tokens (Alone (Bare (magnitude_tree q))) (f ∷ fs)) ∙ append_assoc (atom_tokens (magnitude_tree q)) (star_tokens (f ∷ fs)) rest))
           (magnitude_sound q h k before (star_tokens (f ∷ fs) ++ rest) t (stars_sound (f ∷ fs) rest a s))
 
   -- ---- the whole tree

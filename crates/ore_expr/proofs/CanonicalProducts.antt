@@ -14,23 +14,23 @@ use Rattle.std.proofs.Math.Nat.{div-le_self}
 use native.Mathlib.Decide.{ℕ_discrete}
 use native.Mathlib.Nat.{one-dvd}
 use Rattle.std.proofs.lemmas.Nat.Gcd.{same_from_IsGcd, dvd_refl}
-use Rattle.ore_algebra.specs.Free.{none, single, plus}
-use Rattle.ore_algebra.specs.Limits.{Overflow, Degree, program, is_within, ◌>>=◌, where_test, fold_within}
+use Rattle.ore_algebra.specs.Free.{empty_sum, single, plus}
+use Rattle.ore_algebra.specs.Limits.{Overflow, Degree, program, is_within, ◌>>=◌, guard, fold_within}
 use Rattle.ore_algebra.proofs.Integers.{integers, times_one}
-use Rattle.ore_algebra.proofs.DomainLaws.{none_plus}
+use Rattle.ore_algebra.proofs.DomainLaws.{zero_plus}
 use Rattle.ore_rational.specs.Gcd.{gcd, gcd_is}
 use Rattle.ore_rational.specs.Fraction.{Fraction, whole, add}
 use Rattle.ore_rational.specs.Within.{sum_fits, sum_within, fits, product_within}
 use Rattle.ore_rational.proofs.FractionLaws.{rationals, one_apart}
 use Rattle.ore_monomial.specs.Monomial.{Monomial, exponent, degree, unit, with_exponent, product, plain_cmp}
 use Rattle.ore_monomial.specs.Signature.{Signature, kind_at, coordinate_of}
-use Rattle.ore_monomial.specs.Numbers.{numbers}
+use Rattle.ore_monomial.specs.Numbers.{numbers, numbers_within}
 use Rattle.ore_monomial.proofs.Monomials.{exponent-same, exponent-other, exponent-unit, same_exponents, exponent-product, degree-product}
 use Rattle.ore_monomial.proofs.Divisors.{degree-divides}
 use Rattle.ore_monomial.proofs.Signatures.{lawful}
 use Rattle.ore_monomial.proofs.Operators
 use Rattle.ore_ring.specs.Terms.{Terms}
-use Rattle.ore_ring.specs.Within.{add_term_within, degrees_fit, numbers_within, contribute, pair_within, row_within, times_within}
+use Rattle.ore_ring.specs.Within.{add_term_within, degrees_fit, contribute, pair_within, row_within, times_within}
 use Rattle.ore_ring.proofs.AdjointParts.{MeetsNone}
 use Rattle.ore_ring.proofs.PlainNumbers.{plain_numbers}
 use Rattle.ore_ring.proofs.Falls.{single_falling}
@@ -65,8 +65,8 @@ module _ (k : Fraction) (h : IsSmallFraction k) where
   none-times : (n : ℕ) → pos 0 *ℤ pos n ≡ pos 0
   none-times n = ap pos (zero-mul n)
 
-  none-plus : (n : ℕ) → (pos 0 *ℤ pos n) +ℤ (k.num *ℤ pos 1) ≡ k.num
-  none-plus n = (λ i. none-times n i +ℤ times_one k.num i) ∙ none_plus integers k.num
+  zero-plus : (n : ℕ) → (pos 0 *ℤ pos n) +ℤ (k.num *ℤ pos 1) ≡ k.num
+  zero-plus n = (λ i. none-times n i +ℤ times_one k.num i) ∙ zero_plus integers k.num
 
   sum_none : sum_fits program (whole (pos 0)) k ≡ true
   unfolding sum_fits
@@ -81,34 +81,34 @@ module _ (k : Fraction) (h : IsSmallFraction k) where
       ∙ all_four _ _ _ _
       (within_abs (pos 0 *ℤ pos (k.den / 1)) (pos 0) (none-times (k.den / 1)) (omega arith))
       (within_abs (k.num *ℤ pos 1) k.num (times_one k.num) h.numerator)
-      (within_abs ((pos 0 *ℤ pos (k.den / 1)) +ℤ (k.num *ℤ pos 1)) k.num (none-plus (k.den / 1)) h.numerator)
+      (within_abs ((pos 0 *ℤ pos (k.den / 1)) +ℤ (k.num *ℤ pos 1)) k.num (zero-plus (k.den / 1)) h.numerator)
       (within (1 * (k.den / rest)) (once_less (k.den / rest) k.den less h.denominator))
 
   product_one : product_within program k (whole (pos 1)) ≡ Ok k
   unfolding product_within
-  product_one = ap (λ c. where_test (fits program c) c Overflow) (rationals.times_one k) ∙ ap (λ b. where_test b k Overflow) fraction_fits
+  product_one = ap (λ c. guard (fits program c) c Overflow) (rationals.times_one k) ∙ ap (λ b. guard b k Overflow) fraction_fits
 
-  add_to_none : (p : Monomial) → add_term_within program (none rationals plain_cmp) p k ≡ Ok (single rationals plain_cmp p k)
+  add_to_none : (p : Monomial) → add_term_within program (empty_sum rationals plain_cmp) p k ≡ Ok (single rationals plain_cmp p k)
   unfolding add_term_within sum_within
   add_to_none p =
-      let f = plus rationals plain_cmp (none rationals plain_cmp) (single rationals plain_cmp p k) in
-      ap (λ x. sum_within program x k >>= λ y. Ok f) (Operators.coefficient-none rationals p)
-      ∙ ap (λ b. where_test b (add (whole (pos 0)) k) Overflow >>= λ y. Ok f) sum_none
-      ∙ ap Ok (Operators.none-plus rationals (single rationals plain_cmp p k))
+      let f = plus rationals plain_cmp (empty_sum rationals plain_cmp) (single rationals plain_cmp p k) in
+      ap (λ x. sum_within program x k >>= λ y. Ok f) (Operators.coefficient-empty_sum rationals p)
+      ∙ ap (λ b. guard b (add (whole (pos 0)) k) Overflow >>= λ y. Ok f) sum_none
+      ∙ ap Ok (Operators.zero-plus rationals (single rationals plain_cmp p k))
 
-  contributed : (p : Monomial) → contribute program k (none rationals plain_cmp) (p, pos 1) ≡ Ok (single rationals plain_cmp p k)
+  contributed : (p : Monomial) → contribute program k (empty_sum rationals plain_cmp) (p, pos 1) ≡ Ok (single rationals plain_cmp p k)
   unfolding contribute
-  contributed p = ap (λ r. r >>= λ c. add_term_within program (none rationals plain_cmp) p c) product_one ∙ add_to_none p
+  contributed p = ap (λ r. r >>= λ c. add_term_within program (empty_sum rationals plain_cmp) p c) product_one ∙ add_to_none p
 
   module _ (s : Signature) (m n : Monomial) (meets : MeetsNone integers s m n) where
-    pair : pair_within program s (m, k) (none rationals plain_cmp) (n, whole (pos 1)) ≡ Ok (single rationals plain_cmp (product m n) k)
+    pair : pair_within program s (m, k) (empty_sum rationals plain_cmp) (n, whole (pos 1)) ≡ Ok (single rationals plain_cmp (product m n) k)
     unfolding pair_within numbers_within
     pair =
-        ap (λ r. r >>= λ uv. numbers_within program (numbers s m n) >>= λ ks. fold_within (contribute program uv) (none rationals plain_cmp) ks) product_one
-        ∙ ap (λ ks. numbers_within program ks >>= λ ks. fold_within (contribute program k) (none rationals plain_cmp) ks) (plain_numbers s m n meets)
+        ap (λ r. r >>= λ uv. numbers_within program (numbers s m n) >>= λ ks. fold_within (contribute program uv) (empty_sum rationals plain_cmp) ks) product_one
+        ∙ ap (λ ks. numbers_within program ks >>= λ ks. fold_within (contribute program k) (empty_sum rationals plain_cmp) ks) (plain_numbers s m n meets)
         ∙ ap (λ r. r >>= λ f. Ok f) (contributed (product m n))
 
-    row : row_within program s ((n, whole (pos 1)) ∷ []) (none rationals plain_cmp) (m, k) ≡ Ok (single rationals plain_cmp (product m n) k)
+    row : row_within program s ((n, whole (pos 1)) ∷ []) (empty_sum rationals plain_cmp) (m, k) ≡ Ok (single rationals plain_cmp (product m n) k)
     unfolding row_within
     row = ap (λ r. r >>= λ f. Ok f) pair
 
@@ -119,9 +119,9 @@ module _ (k : Fraction) (h : IsSmallFraction k) where
     pub single_times : degree m + degree n ≤ 32767 → k ≢ whole (pos 0) → times_within program s (single rationals plain_cmp m k) (single rationals plain_cmp n (whole (pos 1))) ≡ Ok (single rationals plain_cmp (product m n) k)
     unfolding times_within
     single_times d a =
-        let value = λ (ts us : Terms). cond (degrees_fit program ts us) (fold_within (row_within program s us) (none rationals plain_cmp) ts) (Err Degree) in
+        let value = λ (ts us : Terms). cond (degrees_fit program ts us) (fold_within (row_within program s us) (empty_sum rationals plain_cmp) ts) (Err Degree) in
         (λ i. value (single_falling s.order m k a i) (single_falling s.order n (whole (pos 1)) one_apart i))
-        ∙ ap (λ b. cond b (fold_within (row_within program s ((n, whole (pos 1)) ∷ [])) (none rationals plain_cmp) ((m, k) ∷ [])) (Err Degree)) (small_degrees d)
+        ∙ ap (λ b. cond b (fold_within (row_within program s ((n, whole (pos 1)) ∷ [])) (empty_sum rationals plain_cmp) ((m, k) ∷ [])) (Err Degree)) (small_degrees d)
         ∙ ap (λ r. r >>= λ f. Ok f) row
 
 -- ---- parts of a monomial

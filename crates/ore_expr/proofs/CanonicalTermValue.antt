@@ -21,7 +21,7 @@ use Rattle.ore_monomial.proofs.Monomials.{exponent_past, product-unit}
 use Rattle.ore_ring.specs.Terms.{Term as OneTerm}
 use Rattle.ore_ring.specs.Within.{times_within}
 use Rattle.ore_ring.proofs.Falls.{left_true, right_true}
-use Rattle.ore_expr.specs.Grammar.{Term, Alone, Product, Factor, Plain, Power, Whole, Quotient, Variable}
+use Rattle.ore_expr.specs.Grammar.{Term, Alone, Product, Factor, Bare, Power, Whole, Quotient, Variable}
 use Rattle.ore_expr.specs.Faults.{index_of}
 use Rattle.ore_expr.specs.Values.{constant, power_of_variable, variable_index, term_value, factor_value, atom_value}
 use Rattle.ore_text.specs.CanonicalText.{is_one}
@@ -61,7 +61,7 @@ module _ (s : Signature) (all : List (List ℕ)) where
   abbrev value : Term → Result (Operator rationals) Cause
   value t = term_value program s all t
 
-  magnitude_value : (q : Fraction) → nat_abs q.num < 2 ^ 127 → q.den < 2 ^ 127 → value (Alone (Plain (magnitude_tree q))) ≡ Ok (single rationals plain_cmp unit (size q))
+  magnitude_value : (q : Fraction) → nat_abs q.num < 2 ^ 127 → q.den < 2 ^ 127 → value (Alone (Bare (magnitude_tree q))) ≡ Ok (single rationals plain_cmp unit (size q))
   unfolding term_value factor_value atom_value constant
   magnitude_value q h k = by (nat_eq q.den 1) refl
     where
@@ -77,7 +77,7 @@ module _ (s : Signature) (all : List (List ℕ)) where
   index_is : (name : List ℕ) (x : ℕ) → index_of all name ≡ Some x → variable_index all name ≡ x
   index_is name x e = ap (λ o. unwrap_or o 0) e
 
-  variable_gives : (name : List ℕ) (x : ℕ) → index_of all name ≡ Some x → FactorGives (Plain (Variable name)) x 1
+  variable_gives : (name : List ℕ) (x : ℕ) → index_of all name ≡ Some x → FactorGives (Bare (Variable name)) x 1
   unfolding FactorGives factor_value atom_value power_of_variable
   variable_gives name x e = ap (λ y. Ok (single rationals plain_cmp (with_exponent y 1 unit) (whole (pos 1)))) (index_is name x e)
 
@@ -130,7 +130,7 @@ module _ (s : Signature) (all : List (List ℕ)) where
       factors_give x (name ∷ names) (suc zero ∷ es) h m p t v =
           let l = in_range x _ 1 es h in
           let o = own x _ 1 es h in
-          factors_give (suc x) names es (left_next x name names 1 es h) (product m (with_exponent x 1 unit)) (part_more x M m 1 l o p) (Product t (Plain (Variable name))) (times_factor x m t (Plain (Variable name)) 1 l o p (variable_gives name x h.indexed.0) v)
+          factors_give (suc x) names es (left_next x name names 1 es h) (product m (with_exponent x 1 unit)) (part_more x M m 1 l o p) (Product t (Bare (Variable name))) (times_factor x m t (Bare (Variable name)) 1 l o p (variable_gives name x h.indexed.0) v)
       factors_give x (name ∷ names) (suc (suc e) ∷ es) h m p t v =
           let n = suc (suc e) in
           let l = in_range x _ n es h in
@@ -155,16 +155,16 @@ module _ (s : Signature) (all : List (List ℕ)) where
     start_gives x (name ∷ names) [] h p = tt
     start_gives x (name ∷ names) (zero ∷ es) h p = start_gives (suc x) names es (left_next x name names 0 es h) (part_skip x M unit (own x _ 0 es h) p)
     start_gives x (name ∷ names) (suc zero ∷ es) h p =
-        factors_give (whole (pos 1)) one_small one_apart (suc x) names es (left_next x name names 1 es h) (with_exponent x 1 unit) (first_part x 1 (in_range x _ 1 es h) (own x _ 1 es h) p) (Alone (Plain (Variable name))) (variable_gives name x h.indexed.0)
+        factors_give (whole (pos 1)) one_small one_apart (suc x) names es (left_next x name names 1 es h) (with_exponent x 1 unit) (first_part x 1 (in_range x _ 1 es h) (own x _ 1 es h) p) (Alone (Bare (Variable name))) (variable_gives name x h.indexed.0)
     start_gives x (name ∷ names) (suc (suc e) ∷ es) h p =
         let n = suc (suc e) in
         factors_give (whole (pos 1)) one_small one_apart (suc x) names es (left_next x name names n es h) (with_exponent x n unit) (first_part x n (in_range x _ n es h) (own x _ n es h) p) (Alone (Power (Variable name) (decimal n))) (power_gives name x n (head_small n es h.total).0 h.indexed.0)
 
-    with_gives : (q : Fraction) (fs : List Factor) → value (product_tree (Alone (Plain (magnitude_tree q))) fs) ≡ Ok (single rationals plain_cmp M (size q)) → StartGives fs → value (with_trees q fs) ≡ Ok (single rationals plain_cmp M (size q))
+    with_gives : (q : Fraction) (fs : List Factor) → value (product_tree (Alone (Bare (magnitude_tree q))) fs) ≡ Ok (single rationals plain_cmp M (size q)) → StartGives fs → value (with_trees q fs) ≡ Ok (single rationals plain_cmp M (size q))
     with_gives q [] v w = v
     with_gives q (f ∷ fs) v w = by (is_one q) refl
       where
-        by : (b : Bool) → is_one q ≡ b → value (if b then product_tree (Alone f) fs else product_tree (Alone (Plain (magnitude_tree q))) (f ∷ fs)) ≡ Ok (single rationals plain_cmp M (size q))
+        by : (b : Bool) → is_one q ≡ b → value (if b then product_tree (Alone f) fs else product_tree (Alone (Bare (magnitude_tree q))) (f ∷ fs)) ≡ Ok (single rationals plain_cmp M (size q))
         by true e = w ∙ ap (λ p. Ok (single rationals plain_cmp M p)) (size_one q e)
         by false e = v
 
@@ -179,5 +179,5 @@ module _ (s : Signature) (all : List (List ℕ)) where
         total = small_sum t h.degree;
       } in
       with_gives t.0 of h.degree t.1 (factor_trees all t.0.exponents)
-      (factors_give t.0 of h.degree (size t.1) (size_small t.1 h.numerator h.denominator) (size_apart t.1 n) 0 all t.0.exponents left unit (part_unit t.0) (Alone (Plain (magnitude_tree t.1))) (magnitude_value t.1 h.numerator h.denominator))
+      (factors_give t.0 of h.degree (size t.1) (size_small t.1 h.numerator h.denominator) (size_apart t.1 n) 0 all t.0.exponents left unit (part_unit t.0) (Alone (Bare (magnitude_tree t.1))) (magnitude_value t.1 h.numerator h.denominator))
       (start_gives t.0 of h.degree 0 all t.0.exponents left (part_unit t.0))

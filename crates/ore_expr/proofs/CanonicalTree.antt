@@ -23,7 +23,7 @@ use Rattle.ore_rational.specs.Fraction.{Fraction}
 use Rattle.ore_monomial.specs.Monomial.{degree}
 use Rattle.ore_ring.specs.Terms.{Term as OneTerm, Terms}
 use Rattle.ore_expr.specs.Tokens.{IsName, Token, Number, Name, Plus, Minus, Star, Slash, Caret, token_at, more_bytes, lexemes_from, lexemes, tokens_of}
-use Rattle.ore_expr.specs.Grammar.{Expression, Single, Negated, Sum, Difference, Term, Alone, Product, Factor, Plain, Power, Atom, Whole, Quotient, Variable, expression_tokens, term_tokens, factor_tokens, atom_tokens}
+use Rattle.ore_expr.specs.Grammar.{Expression, Single, Negated, Sum, Difference, Term, Alone, Product, Factor, Bare, Power, Atom, Whole, Quotient, Variable, expression_tokens, term_tokens, factor_tokens, atom_tokens}
 use Rattle.ore_text.specs.CanonicalText.{factor_texts, magnitude_text, is_one, with_factors, sign_text, term_text, later_text, terms_text}
 use Rattle.ore_expr.specs.Laws.{IsStorableTerm}
 use Rattle.ore_expr.proofs.CanonicalTokens.{Spells, Stops, Piece, spells_none, spells_space, spells_token, piece_number, piece_name, piece_between}
@@ -32,7 +32,7 @@ use Rattle.ore_expr.proofs.CanonicalTokens.{Spells, Stops, Piece, spells_none, s
 
 abbrev pub power_trees : List ℕ → ℕ → List Factor
 power_trees name zero = []
-power_trees name (suc zero) = Plain (Variable name) ∷ []
+power_trees name (suc zero) = Bare (Variable name) ∷ []
 power_trees name e = Power (Variable name) (decimal e) ∷ []
 
 abbrev pub factor_trees : List (List ℕ) → List ℕ → List Factor
@@ -47,8 +47,8 @@ abbrev pub magnitude_tree : Fraction → Atom
 magnitude_tree q = if nat_eq q.den 1 then Whole (decimal (nat_abs q.num)) else Quotient (decimal (nat_abs q.num)) (decimal q.den)
 
 abbrev pub with_trees : Fraction → List Factor → Term
-with_trees q [] = Alone (Plain (magnitude_tree q))
-with_trees q (f ∷ fs) = if is_one q then product_tree (Alone f) fs else product_tree (Alone (Plain (magnitude_tree q))) (f ∷ fs)
+with_trees q [] = Alone (Bare (magnitude_tree q))
+with_trees q (f ∷ fs) = if is_one q then product_tree (Alone f) fs else product_tree (Alone (Bare (magnitude_tree q))) (f ∷ fs)
 
 abbrev pub term_tree : List (List ℕ) → OneTerm → Term
 term_tree names t = with_trees t.1 (factor_trees names t.0.exponents)
@@ -66,7 +66,7 @@ later_tree names e [] = e
 later_tree names e (t ∷ ts) = later_tree names (next_tree t.1.num e (term_tree names t)) ts
 
 abbrev pub canonical_tree : List (List ℕ) → Terms → Expression
-canonical_tree names [] = Single (Alone (Plain (Whole (codes "0"))))
+canonical_tree names [] = Single (Alone (Bare (Whole (codes "0"))))
 canonical_tree names (t ∷ ts) = later_tree names (first_tree t.1.num (term_tree names t)) ts
 
 -- ---- tokens
@@ -120,7 +120,7 @@ numeral n h = decimal_is_IsNumeral_wide n (small_numeral n h)
 abbrev FactorPiece : List ℕ → Factor → Type 0
 FactorPiece text f = Piece text (factor_tokens f)
 
-name_piece : (name : List ℕ) → IsName name → FactorPiece name (Plain (Variable name))
+name_piece : (name : List ℕ) → IsName name → FactorPiece name (Bare (Variable name))
 unfolding factor_tokens atom_tokens
 name_piece name h = piece_name name h
 
@@ -165,9 +165,9 @@ with_piece q [] (f ∷ fs) p h = absurd h
 with_piece q (text ∷ texts) [] p h = absurd h
 with_piece q (text ∷ texts) (f ∷ fs) p h = by (is_one q)
   where
-    by : (b : Bool) → Piece (join_with_byte 42 (if b then text ∷ texts else magnitude_text q ∷ text ∷ texts)) (term_tokens (if b then product_tree (Alone f) fs else product_tree (Alone (Plain (magnitude_tree q))) (f ∷ fs)))
+    by : (b : Bool) → Piece (join_with_byte 42 (if b then text ∷ texts else magnitude_text q ∷ text ∷ texts)) (term_tokens (if b then product_tree (Alone f) fs else product_tree (Alone (Bare (magnitude_tree q))) (f ∷ fs)))
     by true = subst (Piece (join_with_byte 42 (text ∷ texts))) (sym (product_tokens (Alone f) fs)) (joined_piece text texts (factor_tokens f) fs h.0 h.1)
-    by false = subst (Piece (join_with_byte 42 (magnitude_text q ∷ text ∷ texts))) (sym (product_tokens (Alone (Plain (magnitude_tree q))) (f ∷ fs))) (joined_piece (magnitude_text q) (text ∷ texts) (atom_tokens (magnitude_tree q)) (f ∷ fs) p h)
+    by false = subst (Piece (join_with_byte 42 (magnitude_text q ∷ text ∷ texts))) (sym (product_tokens (Alone (Bare (magnitude_tree q))) (f ∷ fs))) (joined_piece (magnitude_text q) (text ∷ texts) (atom_tokens (magnitude_tree q)) (f ∷ fs) p h)
 
 pub small_sum : (t : OneTerm) → degree t.0 ≤ 32767 → sum t.0.exponents ≤ 32767
 unfolding degree

@@ -14,10 +14,10 @@ use Rattle.std.specs.FinMap.Entries.{below_all}
 use Rattle.std.specs.declared.result.Result.{Result}
 use Rattle.std.specs.declared.result.Result.TheVariants.{Ok}
 use Rattle.std.specs.List.{AllByRecursion}
-use Rattle.ore_algebra.specs.Free.{none, single, plus, collect, terms, coefficient, sum_at}
-use Rattle.ore_algebra.specs.Limits.{Cause, Overflow, program, where_test, ◌>>=◌}
+use Rattle.ore_algebra.specs.Free.{empty_sum, single, plus, collect, terms, coefficient, sum_at}
+use Rattle.ore_algebra.specs.Limits.{Cause, Overflow, program, guard, ◌>>=◌}
 use Rattle.ore_algebra.proofs.FreeLaws
-use Rattle.ore_algebra.proofs.DomainLaws.{none_plus}
+use Rattle.ore_algebra.proofs.DomainLaws.{zero_plus}
 use Rattle.ore_rational.specs.Fraction.{Fraction, whole, neg, add}
 use Rattle.ore_rational.specs.Within.{sum_fits}
 use Rattle.ore_rational.proofs.FractionLaws.{rationals, fraction_discrete, same_parts, neg-num, neg-den}
@@ -33,13 +33,11 @@ use Rattle.ore_ring.specs.Within.{shared_fits, all_shared_fit, plus_within, oppo
 use Rattle.ore_ring.proofs.AllTerms.{all_of_passes, distinct-terms, apart-terms}
 use Rattle.ore_ring.proofs.Falls.{first, second, less_of}
 use Rattle.ore_ring.proofs.OpSums.{minus_one_times}
+use Rattle.ore_ring.proofs.TermLaws.{C}
 use Rattle.ore_expr.specs.Grammar.{Expression, Term}
 use Rattle.ore_expr.specs.Values.{zero_operator, constant, expression_value, term_value, factor_value, atom_value}
 use Rattle.ore_expr.proofs.CanonicalTree.{term_tree, first_tree, next_tree, later_tree, canonical_tree}
 use Rattle.ore_expr.proofs.CanonicalTermValue.{size}
-
-abbrev C : Terms → Operator rationals
-C = collect rationals plain_cmp
 
 abbrev one_of : Monomial → Fraction → Operator rationals
 one_of = single rationals plain_cmp
@@ -71,15 +69,15 @@ at-cons : (t : OneTerm) (ts : Terms) (m : Monomial) → at (C (t ∷ ts)) m ≡ 
 at-cons t ts m = ap (λ f. at f m) (Operators.collect_more rationals t.0 t.1 ts) ∙ Operators.coefficient-plus rationals (one_of t.0 t.1) (C ts) m
 
 at-none : (m : Monomial) → at (C []) m ≡ whole (pos 0)
-unfolding none
-at-none m = Operators.coefficient-none rationals m
+unfolding empty_sum
+at-none m = Operators.coefficient-empty_sum rationals m
 
 at_lacks : (m : Monomial) (ts : Terms) → AllByRecursion (λ (u : OneTerm). u.0 ≢ m) ts → at (C ts) m ≡ whole (pos 0)
 at_lacks m [] h = at-none m
 at_lacks m (t ∷ ts) h =
     at-cons t ts m
     ∙ (λ i. add (Operators.coefficient-other rationals t.0 t.1 m (λ e. h.0 (sym e)) i) (at_lacks m ts h.1 i))
-    ∙ none_plus rationals (whole (pos 0))
+    ∙ zero_plus rationals (whole (pos 0))
 
 abbrev pub Owns : Terms → Terms → Type 0
 Owns all ts = AllByRecursion (λ (u : OneTerm). at (C all) u.0 ≡ u.1) ts
@@ -89,7 +87,7 @@ owns_more t all [] h k = tt
 owns_more t all (u ∷ ts) h k = (
   at-cons t all u.0
       ∙ ap (λ x. add x (at (C all) u.0)) (Operators.coefficient-other rationals t.0 t.1 u.0 h.0)
-      ∙ none_plus rationals (at (C all) u.0)
+      ∙ zero_plus rationals (at (C all) u.0)
       ∙ k.0,
   owns_more t all ts h.1 k.1,
 )
@@ -99,7 +97,7 @@ own_terms [] h = tt
 own_terms (t ∷ ts) h = (
   at-cons t ts t.0
       ∙ (λ i. add (Operators.coefficient-own rationals t.0 t.1 i) (at_lacks t.0 ts h.0 i))
-      ∙ rationals.plus_none t.1,
+      ∙ rationals.plus_zero t.1,
   owns_more t ts ts h.0 (own_terms ts h.1),
 )
 
@@ -116,7 +114,7 @@ shared_lacks x y e = by (fraction_discrete y (whole (pos 0)))
 pub plus_apart : (f : Operator rationals) (m : Monomial) (k : Fraction) → at f m ≡ whole (pos 0) → plus_within program f (one_of m k) ≡ Ok (plus rationals plain_cmp f (one_of m k))
 unfolding plus_within all_shared_fit
 plus_apart f m k e =
-    ap (λ b. where_test b (plus rationals plain_cmp f (one_of m k)) Overflow)
+    ap (λ b. guard b (plus rationals plain_cmp f (one_of m k)) Overflow)
     (all_of_passes _ (terms rationals plain_cmp f) (distinct-terms f) (apart-terms plain_cmp f)
     (λ q n. shared_lacks (sum_at rationals plain_cmp q (terms rationals plain_cmp f)) (at (one_of m k) q)
     (Operators.coefficient-other rationals m k q (λ d. n (FreeLaws.sum_at-terms rationals plain_cmp_total plain_cmp_apart f q ∙ ap (at f) d ∙ e)))))
@@ -152,8 +150,8 @@ module _ (s : Signature) (all : List (List ℕ)) where
       by (pos n) e = g ∙ ap (λ q. Ok (one_of t.0 q)) (size_positive t.1 n e)
       by (negsuc n) e =
           ap (λ r. r >>= λ h. minus_within program zero_operator h) g
-          ∙ minus_apart zero_operator t.0 (size t.1) (Operators.coefficient-none rationals t.0)
-          ∙ ap Ok (Operators.none-plus rationals (one_of t.0 (neg (size t.1))))
+          ∙ minus_apart zero_operator t.0 (size t.1) (Operators.coefficient-empty_sum rationals t.0)
+          ∙ ap Ok (Operators.zero-plus rationals (one_of t.0 (neg (size t.1))))
           ∙ ap (λ q. Ok (one_of t.0 q)) (size_negative t.1 n e)
 
   next_value : (e : Expression) (f : Operator rationals) (t : OneTerm) → value e ≡ Ok f → TermGives t → at f t.0 ≡ whole (pos 0) → value (next_tree t.1.num e (term_tree all t)) ≡ Ok (plus rationals plain_cmp f (one_of t.0 t.1))
@@ -181,13 +179,13 @@ module _ (s : Signature) (all : List (List ℕ)) where
   lacks_more f t (u ∷ ts) h k = (
     Operators.coefficient-plus rationals f (one_of t.0 t.1) u.0
         ∙ (λ i. add (k.0 i) (Operators.coefficient-other rationals t.0 t.1 u.0 h.0 i))
-        ∙ none_plus rationals (whole (pos 0)),
+        ∙ zero_plus rationals (whole (pos 0)),
     lacks_more f t ts h.1 k.1,
   )
 
   later_value : (e : Expression) (f : Operator rationals) (ts : Terms) → AreOwn ts → Lacks f ts → AllByRecursion TermGives ts → value e ≡ Ok f → value (later_tree all e ts) ≡ Ok (plus rationals plain_cmp f (C ts))
-  unfolding none
-  later_value e f [] o l g v = v ∙ ap Ok (sym (Operators.plus_none rationals f))
+  unfolding empty_sum
+  later_value e f [] o l g v = v ∙ ap Ok (sym (Operators.plus_zero rationals f))
   later_value e f (t ∷ ts) o l g v =
       later_value (next_tree t.1.num e (term_tree all t)) (plus rationals plain_cmp f (one_of t.0 t.1)) ts o.1 (lacks_more f t ts o.0 l.1) g.1 (next_value e f t v g.0 l.0)
       ∙ ap Ok (Operators.plus_assoc rationals f (one_of t.0 t.1) (C ts) ∙ ap (plus rationals plain_cmp f) (sym (Operators.collect_more rationals t.0 t.1 ts)))
@@ -197,8 +195,8 @@ module _ (s : Signature) (all : List (List ℕ)) where
   lacks_first t (u ∷ ts) h = (Operators.coefficient-other rationals t.0 t.1 u.0 h.0, lacks_first t ts h.1)
 
   pub canonical_value : (ts : Terms) → AreOwn ts → AllByRecursion TermGives ts → value (canonical_tree all ts) ≡ Ok (C ts)
-  unfolding expression_value term_value factor_value atom_value constant none
-  canonical_value [] o g = ap Ok (Operators.single_none rationals _)
+  unfolding expression_value term_value factor_value atom_value constant empty_sum
+  canonical_value [] o g = ap Ok (Operators.single_zero rationals _)
   canonical_value (t ∷ ts) o g =
       later_value (first_tree t.1.num (term_tree all t)) (one_of t.0 t.1) ts o.1 (lacks_first t ts o.0) g.1 (first_value t g.0)
       ∙ ap Ok (sym (Operators.collect_more rationals t.0 t.1 ts))

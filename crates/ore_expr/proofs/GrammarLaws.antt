@@ -24,7 +24,8 @@ use Rattle.ore_expr.specs.Grammar.{Expression, expression_tokens}
 use Rattle.ore_expr.specs.Faults.{own_fault, IsSoundAt, IsSound, IsFirstFault, IsExpression, IsFault}
 use Rattle.ore_expr.specs.Values.{expression_value}
 use Rattle.ore_expr.specs.Evaluation.{expression_code, value_of}
-use Rattle.ore_expr.specs.Parsing.{◌>>=◌, follow, ends, parse}
+use Rattle.ore_expr.specs.Parsing.{follow, ends, parse}
+use Rattle.ore_algebra.specs.Results.{◌>>=◌}
 use Rattle.ore_expr.specs.Laws.{ReadsExpressions, FindsFaults}
 use Rattle.ore_expr.proofs.PartialTrees.{Partial, first, before, moves}
 use Rattle.ore_expr.proofs.Moves.{ended}

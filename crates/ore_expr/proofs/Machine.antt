@@ -20,7 +20,7 @@ use Rattle.ore_monomial.proofs.Operators
 use Rattle.ore_ring.specs.Within.{plus_within, minus_within, times_within}
 use Rattle.ore_expr.specs.declared.instruction.Instruction.{Instruction}
 use Rattle.ore_expr.specs.declared.instruction.Instruction.TheVariants as code
-use Rattle.ore_expr.specs.Grammar.{Expression, Single, Negated, Sum, Difference, Term, Alone, Product, Factor, Plain, Power, Atom, Whole, Quotient, Variable, Group}
+use Rattle.ore_expr.specs.Grammar.{Expression, Single, Negated, Sum, Difference, Term, Alone, Product, Factor, Bare, Power, Atom, Whole, Quotient, Variable, Group}
 use Rattle.ore_expr.specs.Values.{zero_operator, constant, power_within, expression_value, term_value, factor_value, atom_value}
 use Rattle.ore_expr.specs.Evaluation.{expression_code, term_code, factor_code, atom_code, applied, top, value_of}
 
@@ -31,7 +31,7 @@ onward (Err e) k o next h = refl
 
 pub constant_zero : constant (whole (pos 0)) ≡ zero_operator
 unfolding constant
-constant_zero = Operators.single_none rationals unit
+constant_zero = Operators.single_zero rationals unit
 
 module _ (l : Limits) (s : Signature) where
   abbrev pub run : List (Operator rationals) → List Instruction → Result (List (Operator rationals)) Cause
@@ -90,7 +90,7 @@ module _ (l : Limits) (s : Signature) where
       leaves_term (Product t f) = leaves_both (term_code names t) (factor_code names f) (term_value l s names t) (factor_value l s names f) code.Multiply (times_within l s) (λ f g fs. refl) (leaves_term t) (leaves_factor f)
 
       pub leaves_factor : (f : Factor) → Leaves (factor_code names f) (factor_value l s names f)
-      leaves_factor (Plain a) = leaves_atom a
+      leaves_factor (Bare a) = leaves_atom a
       leaves_factor (Power (Variable name) digits) = λ fs rest. refl
       leaves_factor (Power (Whole others) digits) = raised (Whole others) digits (leaves_atom (Whole others))
       leaves_factor (Power (Quotient others more) digits) = raised (Quotient others more) digits (leaves_atom (Quotient others more))

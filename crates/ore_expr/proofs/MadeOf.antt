@@ -24,7 +24,8 @@ use Rattle.ore_expr.specs.declared.parser.Waiting.{Waiting}
 use Rattle.ore_expr.specs.declared.parser.Waiting.TheVariants as waiting
 use Rattle.ore_expr.specs.Evaluation.{IsOf}
 use Rattle.ore_expr.specs.Faults.{greatest_number, greatest_exponent, index_of}
-use Rattle.ore_expr.specs.Parsing.{State, start, no_level, goes_on, ends_atom, ends_factor, ends_sum, ends_product, ends_term, has_value, wants_atom, fault_where, taken_where, number_atom, takes_number, takes_name, takes_sum, takes_minus, takes_slash, takes_caret, takes_open, takes_close, takes_token, follow, ends, parse, is_empty, ◌>>=◌}
+use Rattle.ore_expr.specs.Parsing.{State, start, no_level, goes_on, ends_atom, ends_factor, ends_sum, ends_product, ends_term, has_value, wants_atom, fault_where, taken_where, number_atom, takes_number, takes_name, takes_sum, takes_minus, takes_slash, takes_caret, takes_open, takes_close, takes_token, follow, ends, parse, is_empty}
+use Rattle.ore_algebra.specs.Results.{◌>>=◌}
 use Rattle.ore_expr.specs.Reading.{Reads}
 use Rattle.ore_expr.specs.Tokens.{Token, Number, Name, Plus, Minus, Star, Slash, Caret, Open, Close, Stray, Lexeme, lexemes}
 
@@ -42,8 +43,8 @@ bind-ok : {A B : Type 0} (P : A → Type 0) (Q : B → Type 0) (r : Result A Tex
 bind-ok P Q (Ok a) g h step = step a h
 bind-ok P Q (Err e) g h step = tt
 
-at_most : (n limit : ℕ) → nat_lt limit n ≡ false → n ≤ limit
-at_most n limit h = grind (arith, nat_tests)
+nat_lt_false : (n limit : ℕ) → nat_lt limit n ≡ false → n ≤ limit
+nat_lt_false n limit h = grind (arith, nat_tests)
 
 -- ---- names
 
@@ -111,7 +112,7 @@ module _ (count : ℕ) where
         (λ above. fault_where-ok IsStateOf _ _ (goes_on s AfterAtom (s.made ++ code.Constant (reduce m n) ∷ [])) (λ small. record { due = tt; made = All-push (IsOf count) s.made (code.Constant _) of.made tt }))
     takes_number-of place n (Exponent x) h =
         fault_where-ok IsStateOf _ _ (goes_on s AfterFactor (s.made ++ code.Power x n ∷ []))
-        (λ small. record { due = tt; made = All-push (IsOf count) s.made (code.Power x n) of.made (h, at_most n greatest_exponent small) })
+        (λ small. record { due = tt; made = All-push (IsOf count) s.made (code.Power x n) of.made (h, nat_lt_false n greatest_exponent small) })
     takes_number-of place n Power h = fault_where-ok IsStateOf _ _ (goes_on s AfterFactor (s.made ++ code.Raise n ∷ [])) (λ small. record { due = tt; made = All-push (IsOf count) s.made (code.Raise n) of.made tt })
     takes_number-of place n (AfterNumber m) h = tt
     takes_number-of place n (AfterName x) h = tt

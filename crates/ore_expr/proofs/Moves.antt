@@ -10,7 +10,7 @@ use Rattle.std.specs.declared.option.Option.{Option}
 use Rattle.std.specs.declared.option.Option.TheVariants.{None, Some}
 use mathlib.Core.List.{reverse_aux}
 use Rattle.ore_expr.specs.Tokens.{Token, Number, Name, Plus, Minus, Star, Slash, Caret, Open, Close, Stray}
-use Rattle.ore_expr.specs.Grammar.{Expression, Single, Negated, Sum, Difference, Term, Alone, Product, Factor, Plain, Power, Atom, Whole, Quotient, Variable, Group, expression_tokens, term_tokens, factor_tokens, atom_tokens}
+use Rattle.ore_expr.specs.Grammar.{Expression, Single, Negated, Sum, Difference, Term, Alone, Product, Factor, Bare, Power, Atom, Whole, Quotient, Variable, Group, expression_tokens, term_tokens, factor_tokens, atom_tokens}
 use Rattle.ore_expr.proofs.PartialTrees.{SumSide, NoTerm, Negative, SumWith, DifferenceWith, ProductSide, NoFactor, ProductWith, Outer, outer, QuotientBase, GroupBase, Ending, NumberEnds, NameEnds, BaseEnds, FactorEnds, WantsOperand, Ended, WantsDenominator, WantsExponent, WantsPower, Partial, partial, factor_of, term_of, expression_of, whole_of, expression_before, term_before, factor_before, atom_before, sum_before, product_before, outside_before, before, moves_sign, moves, where_some, run}
 
 term_of-before : (p : ProductSide) (f : Factor) (others : List Token) → term_before (term_of p f) others ≡ factor_before f (product_before p others)
@@ -70,10 +70,10 @@ moves-before (partial cs s p place) (Stray b) = tt
 -- ---- where a tree ends
 
 abbrev pub ending_of : Factor → Ending
-ending_of (Plain (Whole digits)) = NumberEnds digits
-ending_of (Plain (Quotient digits others)) = BaseEnds (QuotientBase digits others)
-ending_of (Plain (Variable name)) = NameEnds name
-ending_of (Plain (Group e)) = BaseEnds (GroupBase e)
+ending_of (Bare (Whole digits)) = NumberEnds digits
+ending_of (Bare (Quotient digits others)) = BaseEnds (QuotientBase digits others)
+ending_of (Bare (Variable name)) = NameEnds name
+ending_of (Bare (Group e)) = BaseEnds (GroupBase e)
 ending_of (Power a digits) = FactorEnds (Power a digits)
 
 abbrev pub behind_factor : List Outer → SumSide → ProductSide → Factor → Partial
@@ -90,16 +90,16 @@ behind cs (Sum e t) = behind_term cs (SumWith e) t
 behind cs (Difference e t) = behind_term cs (DifferenceWith e) t
 
 factor_of-ending_of : (f : Factor) → factor_of (ending_of f) ≡ f
-factor_of-ending_of (Plain (Whole digits)) = refl
-factor_of-ending_of (Plain (Quotient digits others)) = refl
-factor_of-ending_of (Plain (Variable name)) = refl
-factor_of-ending_of (Plain (Group e)) = refl
+factor_of-ending_of (Bare (Whole digits)) = refl
+factor_of-ending_of (Bare (Quotient digits others)) = refl
+factor_of-ending_of (Bare (Variable name)) = refl
+factor_of-ending_of (Bare (Group e)) = refl
 factor_of-ending_of (Power a digits) = refl
 
 -- any expression where none ends
 abbrev pub ended : Partial → Expression
 ended (partial cs s p (Ended x)) = whole_of s p x
-ended z = Single (Alone (Plain (Whole [])))
+ended z = Single (Alone (Bare (Whole [])))
 
 ended-behind_term : (cs : List Outer) (s : SumSide) (t : Term) → ended (behind_term cs s t) ≡ expression_of s t
 ended-behind_term cs s (Alone f) = ap (λ g. expression_of s (Alone g)) (factor_of-ending_of f)
@@ -148,7 +148,7 @@ close-behind cs s p (Sum e t) = close-behind_term cs s p (SumWith e) t
 close-behind cs s p (Difference e t) = close-behind_term cs s p (DifferenceWith e) t
 
 power-tail : (a : Atom) (digits : List ℕ) (cs : List Outer) (s : SumSide) (p : ProductSide) (ts : List Token) →
-    run (behind_factor cs s p (Plain a)) (Caret ∷ Number digits ∷ ts) ≡ run (behind_factor cs s p (Power a digits)) ts
+    run (behind_factor cs s p (Bare a)) (Caret ∷ Number digits ∷ ts) ≡ run (behind_factor cs s p (Power a digits)) ts
 power-tail (Whole n) digits cs s p ts = refl
 power-tail (Quotient n m) digits cs s p ts = refl
 power-tail (Variable n) digits cs s p ts = refl
@@ -183,13 +183,13 @@ mutual
       ∙ run-factor f cs s (ProductWith t) ts
 
   run-factor : (f : Factor) (cs : List Outer) (s : SumSide) (p : ProductSide) (ts : List Token) → run (partial cs s p WantsOperand) (factor_tokens f ++ ts) ≡ run (behind_factor cs s p f) ts
-  run-factor (Plain a) cs s p ts = run-atom a cs s p ts
+  run-factor (Bare a) cs s p ts = run-atom a cs s p ts
   run-factor (Power a digits) cs s p ts =
       ap (run (partial cs s p WantsOperand)) (append_assoc (atom_tokens a) (Caret ∷ Number digits ∷ []) ts)
       ∙ run-atom a cs s p (Caret ∷ Number digits ∷ ts)
       ∙ power-tail a digits cs s p ts
 
-  run-atom : (a : Atom) (cs : List Outer) (s : SumSide) (p : ProductSide) (ts : List Token) → run (partial cs s p WantsOperand) (atom_tokens a ++ ts) ≡ run (behind_factor cs s p (Plain a)) ts
+  run-atom : (a : Atom) (cs : List Outer) (s : SumSide) (p : ProductSide) (ts : List Token) → run (partial cs s p WantsOperand) (atom_tokens a ++ ts) ≡ run (behind_factor cs s p (Bare a)) ts
   run-atom (Whole digits) cs s p ts = refl
   run-atom (Quotient digits others) cs s p ts = refl
   run-atom (Variable name) cs s p ts = refl
@@ -223,7 +223,7 @@ mutual
       ∙ ap (reverse_aux ks) (sym (append_assoc (term_tokens t) (Star ∷ factor_tokens f) ts))
 
   turned-factor : (f : Factor) (ks ts : List Token) → reverse_aux (factor_before f ks) ts ≡ reverse_aux ks (factor_tokens f ++ ts)
-  turned-factor (Plain a) ks ts = turned-atom a ks ts
+  turned-factor (Bare a) ks ts = turned-atom a ks ts
   turned-factor (Power a digits) ks ts =
       turned-atom a ks (Caret ∷ Number digits ∷ ts) ∙ ap (reverse_aux ks) (sym (append_assoc (atom_tokens a) (Caret ∷ Number digits ∷ []) ts))
 

@@ -23,7 +23,7 @@ use Rattle.std.specs.Prelude.{ℕ, List, [], ◌∷◌}
 use Rattle.std.specs.declared.option.Option.{Option}
 use Rattle.std.specs.declared.option.Option.TheVariants.{None, Some}
 use Rattle.ore_expr.specs.Tokens.{Token, Number, Name, Plus, Minus, Star, Slash, Caret, Open, Close, Stray}
-use Rattle.ore_expr.specs.Grammar.{Expression, Single, Negated, Sum, Difference, Term, Alone, Product, Factor, Plain, Power, Atom, Whole, Quotient, Variable, Group}
+use Rattle.ore_expr.specs.Grammar.{Expression, Single, Negated, Sum, Difference, Term, Alone, Product, Factor, Bare, Power, Atom, Whole, Quotient, Variable, Group}
 
 pub data SumSide : Type 0 where
   NoTerm : SumSide
@@ -71,9 +71,9 @@ atom_of (QuotientBase digits others) = Quotient digits others
 atom_of (GroupBase e) = Group e
 
 abbrev pub factor_of : Ending → Factor
-factor_of (NumberEnds digits) = Plain (Whole digits)
-factor_of (NameEnds name) = Plain (Variable name)
-factor_of (BaseEnds b) = Plain (atom_of b)
+factor_of (NumberEnds digits) = Bare (Whole digits)
+factor_of (NameEnds name) = Bare (Variable name)
+factor_of (BaseEnds b) = Bare (atom_of b)
 factor_of (FactorEnds f) = f
 
 abbrev pub term_of : ProductSide → Factor → Term
@@ -103,7 +103,7 @@ abbrev mutual
   term_before (Product t f) others = factor_before f (Star ∷ term_before t others)
 
   pub factor_before : Factor → List Token → List Token
-  factor_before (Plain a) others = atom_before a others
+  factor_before (Bare a) others = atom_before a others
   factor_before (Power a digits) others = Number digits ∷ Caret ∷ atom_before a others
 
   pub atom_before : Atom → List Token → List Token

@@ -28,7 +28,7 @@ use Rattle.ore_expr.specs.declared.parser.Waiting.{Waiting}
 use Rattle.ore_expr.specs.declared.parser.Waiting.TheVariants as waiting
 use Rattle.ore_expr.specs.declared.parser.Level.{Level}
 use Rattle.ore_expr.specs.Tokens.{Token, Number, Name, Plus, Minus, Star, Slash, Caret, Open, Close, Stray}
-use Rattle.ore_expr.specs.Grammar.{Expression, Single, Negated, Sum, Difference, Term, Alone, Product, Factor, Plain, Power, Atom, Whole, Quotient, Variable, Group}
+use Rattle.ore_expr.specs.Grammar.{Expression, Single, Negated, Sum, Difference, Term, Alone, Product, Factor, Bare, Power, Atom, Whole, Quotient, Variable, Group}
 use Rattle.ore_expr.specs.Faults.{greatest_number, greatest_exponent, greatest_power, greatest_depth, index_of, open_count, power_limit, number_fault, name_fault, own_fault}
 use Rattle.ore_expr.specs.Values.{variable_index}
 use Rattle.ore_expr.specs.Evaluation.{expression_code, term_code, factor_code, atom_code}
@@ -100,7 +100,7 @@ mutual
   open_count-term (Product t f) others = open_count-factor f (Star ∷ term_before t others) ∙ open_count-term t others
 
   open_count-factor : (f : Factor) (others : List Token) → open_count (factor_before f others) ≡ open_count others
-  open_count-factor (Plain a) others = open_count-atom a others
+  open_count-factor (Bare a) others = open_count-atom a others
   open_count-factor (Power a digits) others = open_count-atom a others
 
   open_count-atom : (a : Atom) (others : List Token) → open_count (atom_before a others) ≡ open_count others

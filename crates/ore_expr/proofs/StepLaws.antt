@@ -2,19 +2,19 @@
 --     rest-skipped, rest-space, rest-token      what a byte does that is passed over, that is a space, that begins a token
 --     front-slice                               the text from a place on
 --     rest-taken, rest-faulty                   the token is taken, or has a fault
---     FaultReads-bind                           a fault of the first part is a fault of the whole
 --     parse-ends                                what is left to do behind the last byte
 --     parse-fault                               a fault of the rest is that of the text
 use Rattle.std.proofs.Common.{◌≡◌, ◌≢◌, ◌≤◌, ℕ, zero, suc, ◌+◌, ◌-◌, ◌<◌, true, false, nat_eq, if◌then◌else◌, List, [], ◌∷◌, length, take, drop, get_or, Ok, Err, refl, sym, ap, subst, ◌∙◌, arith, add-one, drop-cons}
 use Rattle.std.specs.declared.result.Result.{Result}
 use Rattle.std.proofs.lemmas.List.{drop_all, take_all, length-drop}
 use Rattle.std.proofs.lemmas.Bool.Decides.{Decides-eqb, nat_tests}
-use Rattle.ore_monomial.specs.declared.stop.RingStop.TheVariants as stop
+use Rattle.ore_algebra.proofs.ResultLaws.{refused_on}
 use Rattle.ore_expr.specs.declared.fault.TextFault.{TextFault}
 use Rattle.ore_expr.specs.declared.fault.TextFault.TheVariants as fault
 use Rattle.ore_expr.specs.Tokens.{Token, token_at, more_bytes, lexemes_from, lexemes}
-use Rattle.ore_expr.specs.Parsing.{State, start, takes_token, follow, ends, parse, ◌>>=◌}
-use Rattle.ore_expr.specs.Reading.{FaultReads}
+use Rattle.ore_expr.specs.Parsing.{State, start, takes_token, follow, ends, parse}
+use Rattle.ore_algebra.specs.Results.{◌>>=◌}
+use Rattle.ore_expr.specs.Reading.{told, FaultReads}
 use Rattle.ore_expr.specs.ReadStep.{rest_read}
 
 lexemes-skipped : (k place b : ℕ) (bs : List ℕ) → lexemes_from (suc k) place (b ∷ bs) ≡ lexemes_from k (suc place) bs
@@ -37,17 +37,6 @@ lexemes-token place b bs e =
 
 other : (a b : ℕ) → a ≢ b → nat_eq a b ≡ false
 other a b differs = grind (arith, nat_tests)
-
-pub FaultReads-bind : {A B : Type 0} (f : TextFault) (r : Result A TextFault) (g : A → Result B TextFault) → FaultReads f r → FaultReads f (r >>= g)
-FaultReads-bind {A} {B} (fault.Syntax n) r g h = subst (λ r. (r >>= g) ≡ Err (fault.Syntax n)) (sym h) refl
-FaultReads-bind (fault.UnknownName n) r g h = subst (λ r. (r >>= g) ≡ Err (fault.UnknownName n)) (sym h) refl
-FaultReads-bind (fault.NumberTooWide n) r g h = subst (λ r. (r >>= g) ≡ Err (fault.NumberTooWide n)) (sym h) refl
-FaultReads-bind (fault.ZeroDenominator n) r g h = subst (λ r. (r >>= g) ≡ Err (fault.ZeroDenominator n)) (sym h) refl
-FaultReads-bind (fault.PowerTooLarge n) r g h = subst (λ r. (r >>= g) ≡ Err (fault.PowerTooLarge n)) (sym h) refl
-FaultReads-bind (fault.TooDeep n) r g h = subst (λ r. (r >>= g) ≡ Err (fault.TooDeep n)) (sym h) refl
-FaultReads-bind (fault.Stop stop.Overflow) r g h = subst (λ r. (r >>= g) ≡ Err (fault.Stop stop.Overflow)) (sym h) refl
-FaultReads-bind (fault.Stop stop.Degree) r g h = subst (λ r. (r >>= g) ≡ Err (fault.Stop stop.Degree)) (sym h) refl
-FaultReads-bind (fault.Stop stop.Memory) r g h = tt
 
 module _ (names : List (List ℕ)) (text : List ℕ) (place : ℕ) (within : place < length text) where
   front : drop place text ≡ get_or text place 0 ∷ drop (suc place) text
@@ -84,7 +73,7 @@ module _ (names : List (List ℕ)) (text : List ℕ) (place : ℕ) (within : pla
 
     -- a token has a fault
     pub rest-faulty : (f : TextFault) → FaultReads f (takes_token names s place token) → FaultReads f (rest_read names text s k place)
-    rest-faulty f faulty = subst (FaultReads f) (sym rest-token) (FaultReads-bind f _ (λ t. rest_read names text t (more_bytes token) (place + 1)) faulty)
+    rest-faulty f faulty = subst (FaultReads f) (sym rest-token) (refused_on (Unit {0}) (told f) _ (λ t. rest_read names text t (more_bytes token) (place + 1)) faulty)
 
 module _ (names : List (List ℕ)) (text : List ℕ) where
   pub parse-ends : (s : State) (skipped place : ℕ) → place ≡ length text → rest_read names text s skipped place ≡ follow names start (lexemes text) → parse names text ≡ ends (length text) s
@@ -94,4 +83,4 @@ module _ (names : List (List ℕ)) (text : List ℕ) where
       ap (λ r. r >>= ends (length text)) (sym read ∙ rest)
 
   pub parse-fault : (s : State) (skipped place : ℕ) (f : TextFault) → rest_read names text s skipped place ≡ follow names start (lexemes text) → FaultReads f (rest_read names text s skipped place) → FaultReads f (parse names text)
-  parse-fault s skipped place f read faulty = FaultReads-bind f (follow names start (lexemes text)) (ends (length text)) (subst (FaultReads f) read faulty)
+  parse-fault s skipped place f read faulty = refused_on (Unit {0}) (told f) (follow names start (lexemes text)) (ends (length text)) (subst (FaultReads f) read faulty)

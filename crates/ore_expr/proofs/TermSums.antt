@@ -21,8 +21,8 @@ use Rattle.std.proofs.lemmas.Nat.Gcd.{same_from_IsGcd}
 use Rattle.std.proofs.Math.Nat.{div-one}
 use Rattle.std.proofs.Math.IntN.{one, *ℤ-one, +ℤ_idl}
 use native.Mathlib.Nat.{one-dvd}
-use Rattle.ore_algebra.specs.Free.{coefficient, none, plus, single, sum_at, terms}
-use Rattle.ore_algebra.specs.Limits.{Limits, Cause, Overflow, program, is_within, ◌>>=◌, where_test}
+use Rattle.ore_algebra.specs.Free.{coefficient, empty_sum, plus, single, sum_at, terms}
+use Rattle.ore_algebra.specs.Limits.{Limits, Cause, Overflow, program, is_within, ◌>>=◌, guard}
 use Rattle.ore_algebra.proofs.FreeLaws
 use Rattle.ore_rational.specs.Fraction.{Fraction, whole, add}
 use Rattle.ore_rational.specs.Gcd.{gcd, gcd_is}
@@ -40,9 +40,10 @@ use Rattle.ore_ring.specs.Ordered.{Ordered}
 use Rattle.ore_ring.specs.Terms.{Term, Terms, falling, AreApart, IsFalling}
 use Rattle.ore_ring.specs.Within.{shared_fits, all_shared_fit, plus_within, add_term_within}
 use Rattle.ore_ring.proofs.AllTerms.{AreDistinct, sorted_distinct, falls-falling, at_skip, at_own, distinct-terms, apart-terms, passes_of_all, all_of_passes}
-use Rattle.ore_ring.proofs.TermLaws.{back_order, back_apart}
+use Rattle.ore_monomial.proofs.FallingTerms.{back_order, back_apart}
 use Rattle.ore_ring.proofs.OpSums.{plus_belongs}
-use Rattle.ore_ring.proofs.MergeIs.{C, shared_none, shared_some}
+use Rattle.ore_ring.proofs.MergeIs.{shared_none, shared_some}
+use Rattle.ore_ring.proofs.TermLaws.{C}
 
 -- ---- the sum with 0
 
@@ -67,13 +68,13 @@ unfolding sum_fits
 fits_alone c n d =
     let g = gcd 1 c.den in
     let e = one_gcd c.den in
-    let none : 0 * (c.den / g) ≡ 0 = zero-mul (c.den / g) in
+    let empty_sum : 0 * (c.den / g) ≡ 0 = zero-mul (c.den / g) in
     let product : c.num *ℤ pos (1 / g) ≡ c.num = ap (λ k. c.num *ℤ pos (1 / k)) e ∙ times_one c.num in
-    let total : pos (0 * (c.den / g)) +ℤ (c.num *ℤ pos (1 / g)) ≡ c.num = (λ i. pos (none i) +ℤ product i) ∙ +ℤ_idl c.num in
+    let total : pos (0 * (c.den / g)) +ℤ (c.num *ℤ pos (1 / g)) ≡ c.num = (λ i. pos (empty_sum i) +ℤ product i) ∙ +ℤ_idl c.num in
     let num = sum_num (whole (pos 0)) c in
     let last : (1 / g) * (c.den / gcd (nat_abs num) g) ≡ c.den =
     (λ i. (1 / e i) * (c.den / gcd (nat_abs num) (e i))) ∙ ap (λ k. 1 * (c.den / k)) (gcd_one (nat_abs num)) ∙ one-mul (c.den / 1) ∙ div-one c.den in
-    let first_in : nat_le (0 * (c.den / g)) most ≡ true = ap (λ k. nat_le k most) none in
+    let first_in : nat_le (0 * (c.den / g)) most ≡ true = ap (λ k. nat_le k most) empty_sum in
     let second_in : nat_le (nat_abs (c.num *ℤ pos (1 / g))) most ≡ true = ap (λ z. nat_le (nat_abs z) most) product ∙ in_range (nat_abs c.num) n in
     let third_in : nat_le (nat_abs num) most ≡ true = ap (λ z. nat_le (nat_abs z) most) total ∙ in_range (nat_abs c.num) n in
     let last_in : nat_le ((1 / g) * (c.den / gcd (nat_abs num) g)) most ≡ true = ap (λ k. nat_le k most) last ∙ in_range c.den d in
@@ -128,7 +129,7 @@ module _ (l : Limits) where
   kept_elsewhere f t q e =
       Operators.coefficient-plus rationals f (single rationals plain_cmp t.0 t.1) q
       ∙ ap (add (at f q)) (Operators.coefficient-other rationals t.0 t.1 q (λ same. true≢false (sym (ap (λ m. eq_by_cmp plain_cmp m t.0) same ∙ own_key t.0) ∙ e)))
-      ∙ rationals.plus_none (at f q)
+      ∙ rationals.plus_zero (at f q)
 
   module _ (f : Operator rationals) (t : Term) (ts : Terms) (d : AreDistinct (t ∷ ts)) (n : t.1 ≢ whole (pos 0)) where
     later_passes : PassesWith f (C (t ∷ ts)) → PassesWith (with_term f t) (C ts)
@@ -171,12 +172,12 @@ module _ (l : Limits) where
 
     goes_on : sum_fits l (at f t.0) t.1 ≡ true → plus_within l (with_term f t) (C ts) ≡ plus_within l f (C (t ∷ ts))
     unfolding plus_within
-    goes_on fit = λ i. where_test (same_tests fit i) (same_value i) Overflow
+    goes_on fit = λ i. guard (same_tests fit i) (same_value i) Overflow
 
     -- where the first term doesn't fit, the operator has its monomial
     stops_here : sum_fits l (whole (pos 0)) t.1 ≡ true → sum_fits l (at f t.0) t.1 ≡ false → plus_within l f (C (t ∷ ts)) ≡ Err Overflow
     unfolding plus_within PassesWith
-    stops_here alone fit = ap (λ b. where_test b (plus rationals plain_cmp f (C (t ∷ ts))) Overflow) (by _ refl)
+    stops_here alone fit = ap (λ b. guard b (plus rationals plain_cmp f (C (t ∷ ts))) Overflow) (by _ refl)
       where
         by : (b : Bool) → all_shared_fit l (C (t ∷ ts)) (terms rationals plain_cmp f) ≡ b → all_shared_fit l (C (t ∷ ts)) (terms rationals plain_cmp f) ≡ false
         by false e = e
@@ -186,10 +187,10 @@ module _ (l : Limits) where
 
   -- what adding the first term does to the sum
   module _ (f : Operator rationals) (t : Term) (ts : Terms) (d : AreDistinct (t ∷ ts)) (n : t.1 ≢ whole (pos 0)) (alone : sum_fits l (whole (pos 0)) t.1 ≡ true) where
-    first_step : (b : Bool) → sum_fits l (at f t.0) t.1 ≡ b → add_term_within l f t.0 t.1 ≡ where_test b (with_term f t) Overflow
+    first_step : (b : Bool) → sum_fits l (at f t.0) t.1 ≡ b → add_term_within l f t.0 t.1 ≡ guard b (with_term f t) Overflow
     unfolding add_term_within sum_within
-    first_step true e = ap (λ b. where_test b (add (at f t.0) t.1) Overflow >>= λ s. Ok (with_term f t)) e
-    first_step false e = ap (λ b. where_test b (add (at f t.0) t.1) Overflow >>= λ s. Ok (with_term f t)) e
+    first_step true e = ap (λ b. guard b (add (at f t.0) t.1) Overflow >>= λ s. Ok (with_term f t)) e
+    first_step false e = ap (λ b. guard b (add (at f t.0) t.1) Overflow >>= λ s. Ok (with_term f t)) e
 
     pub term_added : (h : Operator rationals) → add_term_within l f t.0 t.1 ≡ Ok h → plus_within l h (C ts) ≡ plus_within l f (C (t ∷ ts))
     term_added h e = by (sum_fits l (at f t.0) t.1) refl
@@ -206,16 +207,16 @@ module _ (l : Limits) where
         by false fit = stops_here f t ts d n alone fit ∙ sym (first_step false fit) ∙ e
 
   pub no_term : (f : Operator rationals) → plus_within l f (C []) ≡ Ok f
-  unfolding plus_within PassesWith none sum_at
+  unfolding plus_within PassesWith empty_sum sum_at
   no_term f =
-      ap (λ b. where_test b (plus rationals plain_cmp f (C [])) Overflow) (passes_all f (C []) (λ q n. shared_none l DegLex _ _ (Operators.coefficient-collect rationals [] q)))
-      ∙ ap Ok (Operators.plus_none rationals f)
+      ap (λ b. guard b (plus rationals plain_cmp f (C [])) Overflow) (passes_all f (C []) (λ q n. shared_none l DegLex _ _ (Operators.coefficient-collect rationals [] q)))
+      ∙ ap Ok (Operators.plus_zero rationals f)
 
-  pub to_none : (g : Operator rationals) → plus_within l (none rationals plain_cmp) g ≡ Ok g
-  unfolding plus_within PassesWith none sum_at
+  pub to_none : (g : Operator rationals) → plus_within l (empty_sum rationals plain_cmp) g ≡ Ok g
+  unfolding plus_within PassesWith empty_sum sum_at
   to_none g =
-      ap (λ b. where_test b (plus rationals plain_cmp (C []) g) Overflow) (passes_all (C []) g (λ q n. absurd (n (Operators.coefficient-collect rationals [] q))))
-      ∙ ap Ok (Operators.none-plus rationals g)
+      ap (λ b. guard b (plus rationals plain_cmp (C []) g) Overflow) (passes_all (C []) g (λ q n. absurd (n (Operators.coefficient-collect rationals [] q))))
+      ∙ ap Ok (Operators.zero-plus rationals g)
 
 -- ---- the terms of a stored operator, from a place on
 
@@ -261,7 +262,7 @@ module _ (v : Ordered) (k : ℕ) (t : Term) (e : Some t ≡ slice_get (falling v
 
 -- ---- all terms of an operator, added to zero
 
-module _ (op start : Ordered) (o : Order) (s : start ≡ record { by = o; sum = none rationals plain_cmp }) (oe : o ≡ op.by) where
+module _ (op start : Ordered) (o : Order) (s : start ≡ record { by = o; sum = empty_sum rationals plain_cmp }) (oe : o ≡ op.by) where
   whole_sum : plus_within program start.sum op.sum ≡ Ok op.sum
   whole_sum = ap (λ (v : Ordered). plus_within program v.sum op.sum) s ∙ to_none program op.sum
 

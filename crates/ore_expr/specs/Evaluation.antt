@@ -16,7 +16,7 @@ use Rattle.ore_monomial.specs.LetterRule.{Operator}
 use Rattle.ore_ring.specs.Within.{plus_within, minus_within, times_within}
 use Rattle.ore_expr.specs.declared.instruction.Instruction.{Instruction}
 use Rattle.ore_expr.specs.declared.instruction.Instruction.TheVariants as code
-use Rattle.ore_expr.specs.Grammar.{Expression, Single, Negated, Sum, Difference, Term, Alone, Product, Factor, Plain, Power, Atom, Whole, Quotient, Variable, Group}
+use Rattle.ore_expr.specs.Grammar.{Expression, Single, Negated, Sum, Difference, Term, Alone, Product, Factor, Bare, Power, Atom, Whole, Quotient, Variable, Group}
 use Rattle.ore_expr.specs.Faults.{greatest_exponent}
 use Rattle.ore_expr.specs.Values.{zero_operator, constant, power_of_variable, variable_index, power_within}
 
@@ -36,7 +36,7 @@ module _ (names : List (List ℕ)) where
 
     -- a power of a name is one instruction, and that of another atom raises the value of the atom
     pub factor_code : Factor → List Instruction
-    factor_code (Plain a) = atom_code a
+    factor_code (Bare a) = atom_code a
     factor_code (Power (Variable name) digits) = code.Power (variable_index names name) (digits_value 10 digits) ∷ []
     factor_code (Power a digits) = atom_code a ++ code.Raise (digits_value 10 digits) ∷ []
 

@@ -25,7 +25,7 @@ mutual
 
   -- an atom, or an atom and the digits of its power
   pub data Factor : Type 0 where
-    Plain : Atom → Factor
+    Bare : Atom → Factor
     Power : Atom → List ℕ → Factor
 
   -- the digits of a number, those of numerator and denominator, the bytes of a name, or what stands in parentheses
@@ -50,7 +50,7 @@ unfoldable mutual
 
   -- `^` stands before the power
   pub factor_tokens : Factor → List Token
-  factor_tokens (Plain a) = atom_tokens a
+  factor_tokens (Bare a) = atom_tokens a
   factor_tokens (Power a digits) = atom_tokens a ++ Caret ∷ Number digits ∷ []
 
   -- `/` stands before the denominator, and `(` and `)` around an expression

@@ -11,7 +11,6 @@
 --     takes_name, takes_sum, takes_minus, takes_product, takes_slash, takes_caret, takes_open, takes_close
 --                        the state after a name, a sum, a minus, a product and so on
 --     takes_token, takes                     the state after a token, after a lexeme
---     ◌>>=◌              go on with the value, or keep the fault
 --     follow             the state after some lexemes
 --     is_empty           no parenthesis is open
 --     ends               the instructions where the text ends here
@@ -22,6 +21,7 @@ use Rattle.std.specs.declared.option.Option.TheVariants.{None, Some}
 use Rattle.std.specs.declared.result.Result.{Result}
 use Rattle.std.specs.declared.result.Result.TheVariants.{Ok, Err}
 use Rattle.std.specs.Str.Parse.{digits_value}
+use Rattle.ore_algebra.specs.Results.{◌>>=◌}
 use Rattle.ore_rational.specs.Fraction.{whole, reduce}
 use Rattle.ore_expr.specs.declared.fault.TextFault.{TextFault}
 use Rattle.ore_expr.specs.declared.fault.TextFault.TheVariants as fault
@@ -176,12 +176,6 @@ abbrev pub takes : List (List ℕ) → State → Lexeme → Result State TextFau
 takes names s x = takes_token names s x.place x.token
 
 -- ---- texts
-
-infixl 10 ◌>>=◌
--- with the value to the next step; a fault stays
-abbrev pub ◌>>=◌ : {A B : Type 0} → Result A TextFault → (A → Result B TextFault) → Result B TextFault
-(Ok x) >>= f = f x
-(Err e) >>= f = Err e
 
 -- the lexemes are taken in order, up to the first fault
 abbrev pub follow : List (List ℕ) → State → List Lexeme → Result State TextFault

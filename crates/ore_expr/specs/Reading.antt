@@ -1,14 +1,18 @@
 -- What reading a text of an operator answers.
+--     told             a fault, but for want of memory
 --     FaultReads       the fault that a call answers is that which is given
 --     Reads            a call answered what a reading function gives, unless memory ran out
 --     stop_of          a cause of a stop as a fault of a text
 --     IsValue          the text is an expression, and its value is this, or it stops with this cause
 --     IsRead           what a text of an operator is read as, or its fault
 use Rattle.std.specs.Prelude.{◌≡◌, ℕ, List}
+use Rattle.std.specs.declared.option.Option.{Option}
+use Rattle.std.specs.declared.option.Option.TheVariants.{None, Some}
 use Rattle.std.specs.declared.result.Result.{Result}
 use Rattle.std.specs.declared.result.Result.TheVariants.{Ok, Err}
 use Rattle.ore_algebra.specs.Limits.{Cause, program}
 use Rattle.ore_algebra.specs.Limits as cause
+use Rattle.ore_algebra.specs.Results.{RefusedBy, GivesBy}
 use Rattle.ore_rational.proofs.FractionLaws.{rationals}
 use Rattle.ore_monomial.specs.Signature.{Signature}
 use Rattle.ore_monomial.specs.LetterRule.{Operator}
@@ -20,15 +24,17 @@ use Rattle.ore_expr.specs.Grammar.{Expression}
 use Rattle.ore_expr.specs.Faults.{IsExpression, IsFault}
 use Rattle.ore_expr.specs.Values.{expression_value}
 
+abbrev pub told : TextFault → Option TextFault
+told (fault.Stop stop.Memory) = None
+told f = Some f
+
 -- of want of memory it says nothing
 abbrev pub FaultReads : {Y : Type 0} → TextFault → Result Y TextFault → Type 0
-FaultReads (fault.Stop stop.Memory) given = Unit {0}
-FaultReads f given = given ≡ Err f
+FaultReads = RefusedBy told
 
 -- a value, seen through the view, is what is given, and so is a fault but want of memory
 abbrev pub Reads : {X Y : Type 0} → (X → Y) → Result X TextFault → Result Y TextFault → Type 0
-Reads view (Ok x) given = given ≡ Ok (view x)
-Reads view (Err f) given = FaultReads f given
+Reads = GivesBy FaultReads
 
 -- the stop of an operation that has the same cause
 abbrev pub stop_of : Cause → TextFault

@@ -10,7 +10,7 @@ use Rattle.std.specs.Option.{unwrap_or}
 use Rattle.std.specs.declared.result.Result.{Result}
 use Rattle.std.specs.declared.result.Result.TheVariants.{Ok}
 use Rattle.std.specs.Str.Parse.{digits_value}
-use Rattle.ore_algebra.specs.Free.{none, single}
+use Rattle.ore_algebra.specs.Free.{empty_sum, single}
 use Rattle.ore_algebra.specs.Limits.{Limits, Cause, ◌>>=◌}
 use Rattle.ore_rational.specs.Fraction.{Fraction, whole, reduce}
 use Rattle.ore_rational.proofs.FractionLaws.{rationals}
@@ -18,12 +18,12 @@ use Rattle.ore_monomial.specs.Monomial.{unit, with_exponent, plain_cmp}
 use Rattle.ore_monomial.specs.Signature.{Signature}
 use Rattle.ore_monomial.specs.LetterRule.{Operator}
 use Rattle.ore_ring.specs.Within.{plus_within, minus_within, times_within}
-use Rattle.ore_expr.specs.Grammar.{Expression, Single, Negated, Sum, Difference, Term, Alone, Product, Factor, Plain, Power, Atom, Whole, Quotient, Variable, Group}
+use Rattle.ore_expr.specs.Grammar.{Expression, Single, Negated, Sum, Difference, Term, Alone, Product, Factor, Bare, Power, Atom, Whole, Quotient, Variable, Group}
 use Rattle.ore_expr.specs.Faults.{index_of}
 
 -- the operator without terms
 abbrev pub zero_operator : Operator rationals
-zero_operator = none rationals plain_cmp
+zero_operator = empty_sum rationals plain_cmp
 
 -- the number times the monomial 1
 unfoldable pub constant : Fraction → Operator rationals
@@ -73,7 +73,7 @@ module _ (l : Limits) (s : Signature) (names : List (List ℕ)) where
 
     -- a power of a name is one monomial, and that of another atom is multiplied out
     pub factor_value : Factor → Result (Operator rationals) Cause
-    factor_value (Plain a) = atom_value a
+    factor_value (Bare a) = atom_value a
     factor_value (Power (Variable name) digits) = Ok (power_of_variable (variable_index names name) (digits_value 10 digits))
     factor_value (Power a digits) = do
       f ← atom_value a

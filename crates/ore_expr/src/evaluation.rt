@@ -4,7 +4,7 @@ ghost use Rattle.std.specs.Prelude.{◌≡◌, ◌<◌, ◌≤◌, ◌++◌, [],
 ghost use Rattle.std.specs.List.{All};
 ghost use Rattle.ore_algebra.specs.Limits.{program};
 ghost use Rattle.ore_monomial.specs.Gives.{Gives, Turns};
-ghost use Rattle.ore_ring.specs.Belongs.{Belongs};
+ghost use Rattle.ore_ring.specs.Belongs.{Belongs, AllBelong};
 ghost use Rattle.ore_ring.specs.Within.{opposite as opposite_of, times_within};
 ghost use Rattle.ore_expr.specs.declared.instruction.Instruction.TheVariants as code;
 ghost use Rattle.ore_expr.specs.Evaluation.{IsOf, applied, value_of};
@@ -38,9 +38,9 @@ pub fn evaluate<R: OreRing>(
     alloc: Global,
     instructions: &[Instruction],
 ) -> Result<Op, RingStop>
-    requires { All (IsOf (length (R.signature_of ring.now).kinds)) instructions.now }
-    ensures gives { Gives (λ f. f.sum) result (value_of program (R.signature_of ring.now) instructions.now) }
-    ensures of { IfOk result (Belongs (R.signature_of ring.now)) }
+    requires { All (IsOf (length (R.sig ring.now).kinds)) instructions.now }
+    ensures gives { Gives (λ f. f.sum) result (value_of program (R.sig ring.now) instructions.now) }
+    ensures of { IfOk result (Belongs (R.sig ring.now)) }
 {
     let mut stack = Vec::new(alloc);
     for instruction in instructions {
@@ -59,10 +59,10 @@ fn apply<R: OreRing>(
     stack: &mut Vec<Operand>,
     instruction: Instruction,
 ) -> Result<(), RingStop>
-    requires instruction_of { IsOf (length (R.signature_of ring.now).kinds) instruction }
-    requires stack_of { All (Belongs (R.signature_of ring.now)) stack.old.items }
-    ensures turns { Turns result (values_of stack.new.items) (applied program (R.signature_of ring.now) (values_of stack.old.items) instruction) }
-    ensures of { IfOk result (λ _. All (Belongs (R.signature_of ring.now)) stack.new.items) }
+    requires instruction_of { IsOf (length (R.sig ring.now).kinds) instruction }
+    requires stack_of { AllBelong (R.sig ring.now) stack.old.items }
+    ensures turns { Turns result (values_of stack.new.items) (applied program (R.sig ring.now) (values_of stack.old.items) instruction) }
+    ensures of { IfOk result (λ _. AllBelong (R.sig ring.now) stack.new.items) }
 {
     match instruction {
         Instruction::Constant(number) => push_constant(ring, alloc, stack, number),
@@ -83,9 +83,9 @@ fn push_constant<R: OreRing>(
     stack: &mut Vec<Operand>,
     number: Rational,
 ) -> Result<(), RingStop>
-    requires { All (Belongs (R.signature_of ring.now)) stack.old.items }
-    ensures turns { Turns result (values_of stack.new.items) (applied program (R.signature_of ring.now) (values_of stack.old.items) (code.Constant number)) }
-    ensures of { IfOk result (λ _. All (Belongs (R.signature_of ring.now)) stack.new.items) }
+    requires { AllBelong (R.sig ring.now) stack.old.items }
+    ensures turns { Turns result (values_of stack.new.items) (applied program (R.sig ring.now) (values_of stack.old.items) (code.Constant number)) }
+    ensures of { IfOk result (λ _. AllBelong (R.sig ring.now) stack.new.items) }
 {
     stack.push(Operand::finished(constant(ring, alloc, number)?))?;
     Ok(())
@@ -99,11 +99,11 @@ fn push_power<R: OreRing>(
     variable: usize,
     exponent: u16,
 ) -> Result<(), RingStop>
-    requires variable_of { variable < length (R.signature_of ring.now).kinds }
+    requires variable_of { variable < length (R.sig ring.now).kinds }
     requires within { exponent ≤ 32767 }
-    requires stack_of { All (Belongs (R.signature_of ring.now)) stack.old.items }
-    ensures turns { Turns result (values_of stack.new.items) (applied program (R.signature_of ring.now) (values_of stack.old.items) (code.Power variable exponent)) }
-    ensures of { IfOk result (λ _. All (Belongs (R.signature_of ring.now)) stack.new.items) }
+    requires stack_of { AllBelong (R.sig ring.now) stack.old.items }
+    ensures turns { Turns result (values_of stack.new.items) (applied program (R.sig ring.now) (values_of stack.old.items) (code.Power variable exponent)) }
+    ensures of { IfOk result (λ _. AllBelong (R.sig ring.now) stack.new.items) }
 {
     stack.push(Operand::finished(power_of_variable(ring, alloc, variable, exponent)?))?;
     Ok(())
@@ -116,9 +116,9 @@ fn join<R: OreRing>(
     stack: &mut Vec<Operand>,
     operation: Operation,
 ) -> Result<(), RingStop>
-    requires { All (Belongs (R.signature_of ring.now)) stack.old.items }
-    ensures turns { Turns result (values_of stack.new.items) (applied program (R.signature_of ring.now) (values_of stack.old.items) (instruction_of operation)) }
-    ensures of { IfOk result (λ _. All (Belongs (R.signature_of ring.now)) stack.new.items) }
+    requires { AllBelong (R.sig ring.now) stack.old.items }
+    ensures turns { Turns result (values_of stack.new.items) (applied program (R.sig ring.now) (values_of stack.old.items) (instruction_of operation)) }
+    ensures of { IfOk result (λ _. AllBelong (R.sig ring.now) stack.new.items) }
 {
     let Some((f, g)) = pop_two(stack) else {
         return Ok(())
@@ -135,10 +135,10 @@ fn outcome<R: OreRing>(
     f: Operand,
     g: Operand,
 ) -> Result<Operand, RingStop>
-    requires f_of { Belongs (R.signature_of ring.now) f }
-    requires g_of { Belongs (R.signature_of ring.now) g }
-    ensures gives { Gives (λ f. f.sum) result (outcome_of program (R.signature_of ring.now) operation f.sum g.sum) }
-    ensures of { IfOk result (Belongs (R.signature_of ring.now)) }
+    requires f_of { Belongs (R.sig ring.now) f }
+    requires g_of { Belongs (R.sig ring.now) g }
+    ensures gives { Gives (λ f. f.sum) result (outcome_of program (R.sig ring.now) operation f.sum g.sum) }
+    ensures of { IfOk result (Belongs (R.sig ring.now)) }
 {
     let g = g.finish(alloc)?;
     match operation {
@@ -153,9 +153,9 @@ fn outcome<R: OreRing>(
 
 // The operator with each fraction negated.
 fn opposite<R: OreRing>(ring: &R, alloc: Global, g: &Op) -> Result<Op, RingStop>
-    requires { Belongs (R.signature_of ring.now) g.now }
+    requires { Belongs (R.sig ring.now) g.now }
     ensures gives { Gives (λ f. f.sum) result (Ok (opposite_of g.now.sum)) }
-    ensures of { IfOk result (Belongs (R.signature_of ring.now)) }
+    ensures of { IfOk result (Belongs (R.sig ring.now)) }
 {
     let nothing = Op::zero(alloc, ring.signature().order());
     ring.sub(alloc, &nothing, g)
@@ -163,10 +163,10 @@ fn opposite<R: OreRing>(ring: &R, alloc: Global, g: &Op) -> Result<Op, RingStop>
 
 // The product of two operators.
 fn product<R: OreRing>(ring: &R, alloc: Global, f: Operand, g: &Op) -> Result<Operand, RingStop>
-    requires f_of { Belongs (R.signature_of ring.now) f }
-    requires g_of { Belongs (R.signature_of ring.now) g.now }
-    ensures gives { Gives (λ f. f.sum) result (times_within program (R.signature_of ring.now) f.sum g.now.sum) }
-    ensures of { IfOk result (Belongs (R.signature_of ring.now)) }
+    requires f_of { Belongs (R.sig ring.now) f }
+    requires g_of { Belongs (R.sig ring.now) g.now }
+    ensures gives { Gives (λ f. f.sum) result (times_within program (R.sig ring.now) f.sum g.now.sum) }
+    ensures of { IfOk result (Belongs (R.sig ring.now)) }
 {
     let f = f.finish(alloc)?;
     Ok(Operand::finished(ring.mul(alloc, &f, g)?))
@@ -179,9 +179,9 @@ fn raise<R: OreRing>(
     stack: &mut Vec<Operand>,
     count: u16,
 ) -> Result<(), RingStop>
-    requires { All (Belongs (R.signature_of ring.now)) stack.old.items }
-    ensures turns { Turns result (values_of stack.new.items) (applied program (R.signature_of ring.now) (values_of stack.old.items) (code.Raise count)) }
-    ensures of { IfOk result (λ _. All (Belongs (R.signature_of ring.now)) stack.new.items) }
+    requires { AllBelong (R.sig ring.now) stack.old.items }
+    ensures turns { Turns result (values_of stack.new.items) (applied program (R.sig ring.now) (values_of stack.old.items) (code.Raise count)) }
+    ensures of { IfOk result (λ _. AllBelong (R.sig ring.now) stack.new.items) }
 {
     let Some(f) = stack.pop() else { return Ok(()) };
     stack.push(raised(ring, alloc, f, count)?)?;
@@ -190,9 +190,9 @@ fn raise<R: OreRing>(
 
 // The product of so many factors.
 fn raised<R: OreRing>(ring: &R, alloc: Global, f: Operand, count: u16) -> Result<Operand, RingStop>
-    requires { Belongs (R.signature_of ring.now) f }
-    ensures gives { Gives (λ f. f.sum) result (power_within program (R.signature_of ring.now) count f.sum) }
-    ensures of { IfOk result (Belongs (R.signature_of ring.now)) }
+    requires { Belongs (R.sig ring.now) f }
+    ensures gives { Gives (λ f. f.sum) result (power_within program (R.sig ring.now) count f.sum) }
+    ensures of { IfOk result (Belongs (R.sig ring.now)) }
 {
     let f = f.finish(alloc)?;
     Ok(Operand::finished(power(ring, alloc, &f, count)?))
@@ -213,7 +213,7 @@ fn pop_two(stack: &mut Vec<Operand>) -> Option<(Operand, Operand)>
 // A number as an operator.
 fn constant<R: OreRing>(ring: &R, alloc: Global, number: Rational) -> Result<Op, RingStop>
     ensures gives { Gives (λ f. f.sum) result (Ok (constant_of number)) }
-    ensures of { IfOk result (Belongs (R.signature_of ring.now)) }
+    ensures of { IfOk result (Belongs (R.sig ring.now)) }
 {
     Ok(Op::term(alloc, ring.signature().order(), Exps::zero(), number)?)
 }
@@ -225,10 +225,10 @@ fn power_of_variable<R: OreRing>(
     variable: usize,
     exponent: u16,
 ) -> Result<Op, RingStop>
-    requires variable_of { variable < length (R.signature_of ring.now).kinds }
+    requires variable_of { variable < length (R.sig ring.now).kinds }
     requires within { exponent ≤ 32767 }
     ensures gives { Gives (λ f. f.sum) result (Ok (power_of variable exponent)) }
-    ensures of { IfOk result (Belongs (R.signature_of ring.now)) }
+    ensures of { IfOk result (Belongs (R.sig ring.now)) }
 {
     let signature = ring.signature();
     let mut exponents = [0; 12];
@@ -239,9 +239,9 @@ fn power_of_variable<R: OreRing>(
 
 // The product of so many factors, from the left.
 fn power<R: OreRing>(ring: &R, alloc: Global, f: &Op, count: u16) -> Result<Op, RingStop>
-    requires { Belongs (R.signature_of ring.now) f.now }
-    ensures gives { Gives (λ f. f.sum) result (power_within program (R.signature_of ring.now) count f.now.sum) }
-    ensures of { IfOk result (Belongs (R.signature_of ring.now)) }
+    requires { Belongs (R.sig ring.now) f.now }
+    ensures gives { Gives (λ f. f.sum) result (power_within program (R.sig ring.now) count f.now.sum) }
+    ensures of { IfOk result (Belongs (R.sig ring.now)) }
 {
     if count == 0 {
         return constant(ring, alloc, Rational::one());

@@ -14,7 +14,6 @@ use crate::fault::TextFault;
 use crate::instruction::Instruction;
 use crate::parser::Parser;
 use crate::token::token_at;
-use ore_monomial::RingStop;
 use ore_ring::{Op, OreRing};
 use ore_text::Names;
 use std::alloc::Global;
@@ -71,9 +70,9 @@ pub fn read_operator<R: OreRing>(
     names: &Names,
     text: &[u8],
 ) -> Result<Op, TextFault>
-    requires { length names.now ≡ length (R.signature_of ring.now).kinds }
-    ensures read { IsRead (R.signature_of ring.now) names.now text.now result }
-    ensures of { IfOk result (Belongs (R.signature_of ring.now)) }
+    requires { length names.now ≡ length (R.sig ring.now).kinds }
+    ensures read { IsRead (R.sig ring.now) names.now text.now result }
+    ensures of { IfOk result (Belongs (R.sig ring.now)) }
 {
     let instructions = parse(alloc, names, text)?;
     let value = evaluate(ring, alloc, &instructions)?;

@@ -1,6 +1,6 @@
 //! The tokens of an expression.
 
-ghost use Rattle.std.specs.Prelude.{◌≡◌, ℕ, ◌<◌, List, ◌∷◌, length, take_while, IsTrue};
+ghost use Rattle.std.specs.Prelude.{◌≡◌, ℕ, ◌<◌, List, ◌∷◌, length, take_while};
 ghost use Rattle.std.specs.Char.{is_ascii_digit};
 ghost use Rattle.ore_expr.specs.Tokens.{is_name_byte as is_name_byte_of, symbol as symbol_of, token_at as token_from, more_bytes as more_bytes_of};
 ghost use Rattle.ore_expr.specs.TokenView.{token_of, IsNumeric};

@@ -12,7 +12,7 @@ use Rattle.std.specs.List.{All, AllByRecursion, flat_map}
 use Rattle.std.proofs.lemmas.List.{length-map}
 use Rattle.std.proofs.lemmas.List.Elements.{All-nil, All-cons, All-head, All-tail, All-replicate}
 use Rattle.std.proofs.lemmas.List.Folds.{flat_map-map}
-use Rattle.ore_algebra.specs.Free.{none}
+use Rattle.ore_algebra.specs.Free.{empty_sum}
 use Rattle.ore_rational.proofs.FractionLaws.{rationals}
 use Rattle.ore_monomial.specs.Monomial.{plain_cmp}
 use Rattle.ore_monomial.specs.Signature.{Signature}
@@ -43,14 +43,14 @@ module _ (s : Signature) (names : List (List ℕ)) (are : AreNames names) (fit :
   -- ---- a row
 
   abbrev zero_entry : Ordered
-  zero_entry = record { by = s.order; sum = none rationals plain_cmp }
+  zero_entry = record { by = s.order; sum = empty_sum rationals plain_cmp }
 
   zero_belongs : Belongs s zero_entry
   zero_belongs = record { order = refl; variables = of_none rationals s }
 
   sums-zeros : (n : ℕ) → zeros n ≡ sums_of (replicate n zero_entry)
   sums-zeros zero = refl
-  sums-zeros (suc n) = ap (λ r. none rationals plain_cmp ∷ r) (sums-zeros n)
+  sums-zeros (suc n) = ap (λ r. empty_sum rationals plain_cmp ∷ r) (sums-zeros n)
 
   some_row : (cols : ℕ) → (stored_row_format s names cols).may (replicate cols zero_entry)
   some_row cols = (subst (IsRowOf s names cols) (sums-zeros cols) (zero_fits s names are fit 1 cols).0, All-replicate (Belongs s) cols zero_entry zero_belongs)
@@ -69,15 +69,15 @@ module _ (s : Signature) (names : List (List ℕ)) (are : AreNames names) (fit :
 
   -- no line is left
   pub no_row_left : (cols : ℕ) (u new : Unread) (line : ℕ) → line ≡ u.at → LacksByte 10 u.left × (new ≡ u) → IsStartFault (IsTextOf (stored_row_format s names cols)) u (Malformed line)
-  no_row_left cols u new line at none =
-      line_fault (stored_row_format s names cols) (stored_row_is cols) (λ r h. row_line r) u line at (λ r rest h e. no_line (row_text names s.order (sums_of r)) rest u.left (row_line r) none.0 e)
+  no_row_left cols u new line at empty_sum =
+      line_fault (stored_row_format s names cols) (stored_row_is cols) (λ r h. row_line r) u line at (λ r rest h e. no_line (row_text names s.order (sums_of r)) rest u.left (row_line r) empty_sum.0 e)
 
   -- the line is that of no row
   pub other_row : (cols : ℕ) (u new : Unread) (line : ℕ) (due : List ℕ) → line ≡ u.at → IsLine due × (u.left ≡ due ++ new.left) × (new.at ≡ u.at + 1)
       → ((r : Row rationals) → AllByRecursion (IsPrintable s names) r → length r ≡ cols → due ≡ row_text names s.order r → ⊥) → IsStartFault (IsTextOf (stored_row_format s names cols)) u (Malformed line)
-  other_row cols u new line due at taken none =
+  other_row cols u new line due at taken empty_sum =
       line_fault (stored_row_format s names cols) (stored_row_is cols) (λ r h. row_line r) u line at
-      (λ r rest h e. none (sums_of r) h.0.entries h.0.width (line_cancel due (row_text names s.order (sums_of r)) new.left rest taken.0 (row_line r) (sym taken.1 ∙ e)).0)
+      (λ r rest h e. empty_sum (sums_of r) h.0.entries h.0.width (line_cancel due (row_text names s.order (sums_of r)) new.left rest taken.0 (row_line r) (sym taken.1 ∙ e)).0)
 
   pub row_found : (cols : ℕ) (old new : Unread) (due : List ℕ) (r : List Ordered) → IsLine due × (old.left ≡ due ++ new.left) × (new.at ≡ old.at + 1)
       → AllByRecursion (IsPrintable s names) (sums_of r) × (length r ≡ cols) × (due ≡ row_text names s.order (sums_of r)) → All (Belongs s) r → Finds (stored_row_format s names cols) old r new

@@ -12,7 +12,7 @@ use Rattle.std.proofs.Common.{◌≡◌, ℕ, zero, suc, ◌+◌, ◌<◌, Bool,
 use Rattle.std.specs.Prelude.{nat_eq, codes, decimal}
 use Rattle.std.specs.List.{list_all, flat_map, AllByRecursion}
 use Rattle.std.proofs.lemmas.List.{append_cancel_left, append_cancel_right, length-replicate}
-use Rattle.ore_algebra.specs.Free.{none, terms}
+use Rattle.ore_algebra.specs.Free.{empty_sum, terms}
 use Rattle.ore_rational.proofs.FractionLaws.{rationals}
 use Rattle.ore_monomial.specs.declared.order.Order.{Order}
 use Rattle.ore_monomial.specs.declared.order.Order.TheVariants.{DegLex}
@@ -123,11 +123,11 @@ empty : (ts : List Term) → list_all (λ _. false) ts ≡ true → ts ≡ []
 empty [] e = refl
 empty (t ∷ ts) e = absurd (true≢false (sym e))
 
-terms-none : terms rationals plain_cmp (none rationals plain_cmp) ≡ []
-unfolding none
-terms-none = empty (terms rationals plain_cmp (none rationals plain_cmp)) (all_terms (λ _. false) DegLex [] (falls_none DegLex))
+terms-none : terms rationals plain_cmp (empty_sum rationals plain_cmp) ≡ []
+unfolding empty_sum
+terms-none = empty (terms rationals plain_cmp (empty_sum rationals plain_cmp)) (all_terms (λ _. false) DegLex [] (falls_none DegLex))
 
-pub none_printable : (s : Signature) (names : List (List ℕ)) → AreNames names → length names ≡ length s.kinds → IsPrintable s names (none rationals plain_cmp)
+pub none_printable : (s : Signature) (names : List (List ℕ)) → AreNames names → length names ≡ length s.kinds → IsPrintable s names (empty_sum rationals plain_cmp)
 none_printable s names are count = record {
   names_fit = are;
   count = count;
@@ -140,13 +140,13 @@ all_same P x zero h = tt
 all_same P x (suc n) h = (h, all_same P x n h)
 
 abbrev pub zeros : ℕ → Row rationals
-zeros cols = replicate cols (none rationals plain_cmp)
+zeros cols = replicate cols (empty_sum rationals plain_cmp)
 
 abbrev pub zero_rows : ℕ → ℕ → List (Row rationals)
 zero_rows count cols = replicate count (zeros cols)
 
 pub zero_fits : (s : Signature) (names : List (List ℕ)) → AreNames names → length names ≡ length s.kinds → (count cols : ℕ) → AllByRecursion (IsRowOf s names cols) (zero_rows count cols)
 zero_fits s names are fit count cols = all_same (IsRowOf s names cols) (zeros cols) count (record {
-  width = length-replicate cols (none rationals plain_cmp);
-  entries = all_same (IsPrintable s names) (none rationals plain_cmp) cols (none_printable s names are fit);
+  width = length-replicate cols (empty_sum rationals plain_cmp);
+  entries = all_same (IsPrintable s names) (empty_sum rationals plain_cmp) cols (none_printable s names are fit);
 })

@@ -20,7 +20,7 @@ abbrev terms_of : Ordered → Terms
 terms_of g = falling g.by g.sum
 
 abbrev IsTermOf : Ordered → Term → Type 0
-IsTermOf g t = ¬ (t.1 ≡ rationals.none) × (g.sum ≡ single rationals plain_cmp t.0 t.1)
+IsTermOf g t = ¬ (t.1 ≡ rationals.zero) × (g.sum ≡ single rationals plain_cmp t.0 t.1)
 
 one : (g : Ordered) (ts : Terms) → terms_of g ≡ ts → AreApart ts → length ts ≡ 1 → IfSome (slice_get ts 0) (IsTermOf g)
 one g [] is apart l = absurd (let z : ⊥ = omega arith in z)
@@ -31,16 +31,16 @@ term_found : (g : Ordered) (n : ℕ) (r : Option Term) → n ≡ length (terms_o
 term_found g n r count e is = subst (λ r. IfSome r (IsTermOf g)) (sym is) (one g (terms_of g) (λ i. terms_of g) (falls-falling g.by g.sum).apart (sym count ∙ e))
 
 module _ (g : Ordered) (m : Monomial) (x : Fraction) where
-  the_terms : ¬ (x ≡ rationals.none) → g.sum ≡ single rationals plain_cmp m x → terms_of g ≡ (m, x) ∷ []
+  the_terms : ¬ (x ≡ rationals.zero) → g.sum ≡ single rationals plain_cmp m x → terms_of g ≡ (m, x) ∷ []
   the_terms n e = ap (falling g.by) e ∙ single_falling g.by m x n
 
-  pub one_long : ¬ (x ≡ rationals.none) → g.sum ≡ single rationals plain_cmp m x → length (terms_of g) ≡ 1
+  pub one_long : ¬ (x ≡ rationals.zero) → g.sum ≡ single rationals plain_cmp m x → length (terms_of g) ≡ 1
   one_long n e = ap length (the_terms n e)
 
-  term_only : (r : Option Term) → ¬ (x ≡ rationals.none) → g.sum ≡ single rationals plain_cmp m x → r ≡ slice_get (terms_of g) 0 → MatchOption r ⊥ (λ t. (t.0 ≡ m) × (t.1 ≡ x))
+  term_only : (r : Option Term) → ¬ (x ≡ rationals.zero) → g.sum ≡ single rationals plain_cmp m x → r ≡ slice_get (terms_of g) 0 → MatchOption r ⊥ (λ t. (t.0 ≡ m) × (t.1 ≡ x))
   term_only r n e is = subst (λ r. MatchOption r ⊥ (λ (t : Term). (t.0 ≡ m) × (t.1 ≡ x))) (sym (is ∙ ap (λ ts. slice_get ts 0) (the_terms n e))) (λ i. m, λ i. x)
 
 pub term_or_none : (g : Ordered) (n : ℕ) (r : Option Term) → n ≡ length (terms_of g) → n ≡ 1 → r ≡ slice_get (terms_of g) 0
-    → MatchOption r ((m : Monomial) (x : Fraction) → ¬ (x ≡ rationals.none) → g.sum ≡ single rationals plain_cmp m x → ⊥) (IsTermOf g)
+    → MatchOption r ((m : Monomial) (x : Fraction) → ¬ (x ≡ rationals.zero) → g.sum ≡ single rationals plain_cmp m x → ⊥) (IsTermOf g)
 term_or_none g n None count e is = λ m x h k. term_only g m x None h k is
 term_or_none g n (Some t) count e is = term_found g n (Some t) count e is

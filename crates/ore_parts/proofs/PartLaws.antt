@@ -164,7 +164,7 @@ module _ (s : Signature) (names : List (List ℕ)) (are : AreNames names) (fit :
   step_lacks t = LacksByte-append 10 (codes "step ") (place t.index ++ 32 ∷ operator_text names s.order (step_operator rationals t)) refl (spaced_lacks (suc t.index) (operator_text names s.order (step_operator rationals t)) (operator_lacks_end names s.order are (step_operator rationals t)))
 
   -- one term is that of one monomial and one number
-  pub same_term : (m q : Monomial) (x y : Fraction) → ¬ (x ≡ rationals.none) → ¬ (y ≡ rationals.none) → single rationals plain_cmp m x ≡ single rationals plain_cmp q y → (m ≡ q) × (x ≡ y)
+  pub same_term : (m q : Monomial) (x y : Fraction) → ¬ (x ≡ rationals.zero) → ¬ (y ≡ rationals.zero) → single rationals plain_cmp m x ≡ single rationals plain_cmp q y → (m ≡ q) × (x ≡ y)
   same_term m q x y h k e = first (m, x) (q, y) (sym (single_falling s.order m x h) ∙ ap (falling s.order) e ∙ single_falling s.order q y k)
     where
       first : (t u : Term) → t ∷ [] ≡ u ∷ [] → (t.0 ≡ u.0) × (t.1 ≡ u.1)

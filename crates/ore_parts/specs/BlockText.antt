@@ -1,5 +1,4 @@
 -- The texts of the parts of a certificate. Words have one space between, and places count from 1.
---     line                   some words and the end of their line
 --     place                  a place as it is written
 --     step_text              a step: the place of the basis row, and a term
 --     entry_text, pairs_text      a pair with its steps, or skipped; all pairs
@@ -11,13 +10,14 @@
 --                            numbers are in their ranges, and operators are of the signature
 --     written, IsWrittenExact, IsWrittenOutside     so it is with each part of a block
 use Rattle.std.specs.Prelude.{◌≢◌, ℕ, suc, ◌<◌, List, [], ◌∷◌, ◌++◌, length, codes, decimal}
-use Rattle.std.specs.List.{All, flat_map, join_with_byte}
+use Rattle.std.specs.List.{All, flat_map}
 use Rattle.ore_rational.proofs.FractionLaws.{rationals}
 use Rattle.ore_monomial.specs.declared.order.Order.{Order}
 use Rattle.ore_monomial.specs.Signature.{Signature}
 use Rattle.ore_ring.specs.Belongs.{Belongs}
 use Rattle.ore_ring.specs.Ordered.{Ordered}
 use Rattle.ore_text.specs.CanonicalText.{operator_text}
+use Rattle.ore_text.specs.Lines.{line}
 use Rattle.ore_text.specs.Printable.{IsPrintable}
 use Rattle.ore_rows.specs.Reduction.{Step, step_operator}
 use Rattle.ore_rows.specs.Stored.{OperatorMatrix, sums_of, rows_of}
@@ -27,10 +27,6 @@ use Rattle.ore_parts.specs.declared.block.PairEntry.{PairEntry}
 use Rattle.ore_parts.specs.declared.block.PairEntry.TheVariants.{Pair, Skip}
 use Rattle.ore_parts.specs.declared.block.ExactBlock.{ExactBlock}
 use Rattle.ore_parts.specs.declared.block.OutsideBlock.{OutsideBlock}
-
--- the words with a space between each two, and the line end, the byte 10
-abbrev pub line : List (List ℕ) → List ℕ
-line words = join_with_byte 32 words ++ 10 ∷ []
 
 -- a place counts from 0 where it is stored, and from 1 where it is written
 abbrev pub place : ℕ → List ℕ
@@ -80,7 +76,7 @@ module _ (s : Signature) (names : List (List ℕ)) where
   -- the place may be written, the fraction isn't zero, and the term is of the signature and in the program's ranges
   pub record IsWrittenStep (t : Step rationals) : Type 0 where
     pub index : is_place t.index
-    pub number : t.number ≢ rationals.none
+    pub number : t.number ≢ rationals.zero
     pub term : IsPrintable s names (step_operator rationals t)
 
   -- fewer than 2^63 steps, each of which may be written

@@ -1,7 +1,6 @@
 //! The pairs of a basis, each with its steps.
 
-ghost use Rattle.std.specs.Prelude.{◌≡◌, ◌≢◌, ℕ, ◌<◌, ◌∷◌, ◌++◌, length, MatchOption, codes, decimal};
-ghost use Rattle.ore_text.specs.Names.{AreNames};
+ghost use Rattle.std.specs.Prelude.{◌≡◌, ◌≢◌, ℕ, ◌<◌, ◌∷◌, ◌++◌, MatchOption, codes, decimal};
 ghost use Rattle.ore_parts.specs.BlockText.{place, is_place};
 ghost use Rattle.ore_parts.specs.CertificateText.{number_bound};
 ghost use Rattle.ore_parts.specs.Formats.{ReadsOne, Spells, items};
@@ -13,8 +12,7 @@ use crate::fault::CertFault;
 use crate::lines::Lines;
 use crate::sizes::{number_in, place_in, places_in};
 use crate::step_lines::read_steps;
-use ore_monomial::Signature;
-use ore_text::Names;
+use ore_text::Algebra;
 use std::alloc::Global;
 
 /// The line of a pair. Places count from 0.
@@ -26,40 +24,34 @@ pub enum EntryLine {
     SkipLine { i: usize, j: usize, via: usize },
 }
 
-/// The pairs behind a line with their number. There is a name for each variable of the signature.
+/// The pairs behind a line with their number.
 ///
 /// # Errors
 /// The faulty line of the text that is left, whatever were to follow; and want of memory. Then the lines may stand
 /// anywhere.
 pub fn read_pairs(
     alloc: Global,
-    sig: &Signature,
-    names: &Names,
+    algebra: &Algebra<'_>,
     lines: &mut Lines<'_>,
 ) -> Result<Pairs, CertFault>
-    requires names { AreNames names.now }
-    requires count { length names.now ≡ length sig.now.kinds }
-    ensures { ReadsOne (pairs_format sig.now names.now) lines.old result lines.new }
+    ensures { ReadsOne (pairs_format algebra.now.signature.now algebra.now.names.now) lines.old result lines.new }
 {
     let count = read_count(lines, b"pairs")?;
-    read_entries(alloc, sig, names, count, lines)
+    read_entries(alloc, algebra, count, lines)
 }
 
 // So many pairs.
 fn read_entries(
     alloc: Global,
-    sig: &Signature,
-    names: &Names,
+    algebra: &Algebra<'_>,
     count: usize,
     lines: &mut Lines<'_>,
 ) -> Result<Pairs, CertFault>
-    requires names { AreNames names.now }
-    requires count { length names.now ≡ length sig.now.kinds }
-    ensures { ReadsOne (items (entry_format sig.now names.now) count) lines.old result lines.new }
+    ensures { ReadsOne (items (entry_format algebra.now.signature.now algebra.now.names.now) count) lines.old result lines.new }
 {
     let mut entries = Vec::new(alloc);
     for _ in 0..count {
-        let entry = read_entry(alloc, sig, names, lines)?;
+        let entry = read_entry(alloc, algebra, lines)?;
         entries.push(entry)?;
     }
     Ok(Pairs::from_vec(entries))
@@ -68,17 +60,14 @@ fn read_entries(
 // A pair with its steps, or skipped.
 fn read_entry(
     alloc: Global,
-    sig: &Signature,
-    names: &Names,
+    algebra: &Algebra<'_>,
     lines: &mut Lines<'_>,
 ) -> Result<PairEntry, CertFault>
-    requires names { AreNames names.now }
-    requires count { length names.now ≡ length sig.now.kinds }
-    ensures { ReadsOne (entry_format sig.now names.now) lines.old result lines.new }
+    ensures { ReadsOne (entry_format algebra.now.signature.now algebra.now.names.now) lines.old result lines.new }
 {
     match read_entry_line(lines)? {
         EntryLine::PairLine { i, j, count } => {
-            let steps = read_steps(alloc, sig, names, count, lines)?;
+            let steps = read_steps(alloc, algebra, count, lines)?;
             Ok(PairEntry::Pair { i, j, steps })
         }
         EntryLine::SkipLine { i, j, via } => Ok(PairEntry::Skip { i, j, via }),

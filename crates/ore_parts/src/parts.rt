@@ -1,7 +1,6 @@
 //! The blocks of a certificate, read from its lines.
 
 ghost use Rattle.std.specs.Prelude.{◌≡◌, length, IfOk, IfErr};
-ghost use Rattle.ore_text.specs.Names.{AreNames};
 ghost use Rattle.ore_parts.specs.Formats.{ReadsOne};
 ghost use Rattle.ore_parts.specs.OfSignature.{IsExactOf, IsOutsideOf};
 ghost use Rattle.ore_parts.specs.PartFormats.{exact_format, outside_format};
@@ -14,7 +13,7 @@ use crate::pairs::read_pairs;
 use crate::row::read_row_part;
 use crate::step_lines::read_quotients;
 use ore_monomial::Signature;
-use ore_text::Names;
+use ore_text::{Algebra, Names};
 use std::alloc::Global;
 
 /// The exact block whose text begins where the lines are, going past it. There is a name for each variable of the
@@ -29,14 +28,13 @@ pub fn read_exact(
     names: &Names,
     lines: &mut Lines<'_>,
 ) -> Result<ExactBlock, CertFault>
-    requires names { AreNames names.now }
-    requires count { length names.now ≡ length sig.now.kinds }
+    requires { length names.now ≡ length sig.now.kinds }
     ensures reads { ReadsOne (exact_format sig.now names.now) lines.old result lines.new }
     ensures of { IfOk result (IsExactOf sig.now) }
     ensures kept { IfErr result (λ _. lines.new ≡ lines.old) }
 {
     let mut ahead = lines.again();
-    let block = read_exact_part(alloc, sig, names, &mut ahead)?;
+    let block = read_exact_part(alloc, &Algebra::new(sig, names), &mut ahead)?;
     *lines = ahead;
     Ok(block)
 }
@@ -53,39 +51,35 @@ pub fn read_outside(
     names: &Names,
     lines: &mut Lines<'_>,
 ) -> Result<OutsideBlock, CertFault>
-    requires names { AreNames names.now }
-    requires count { length names.now ≡ length sig.now.kinds }
+    requires { length names.now ≡ length sig.now.kinds }
     ensures reads { ReadsOne (outside_format sig.now names.now) lines.old result lines.new }
     ensures of { IfOk result (IsOutsideOf sig.now) }
     ensures kept { IfErr result (λ _. lines.new ≡ lines.old) }
 {
     let mut ahead = lines.again();
-    let block = read_outside_part(alloc, sig, names, &mut ahead)?;
+    let block = read_outside_part(alloc, &Algebra::new(sig, names), &mut ahead)?;
     *lines = ahead;
     Ok(block)
 }
 
-/// An exact block. There is a name for each variable of the signature.
+/// An exact block.
 ///
 /// # Errors
 /// The faulty line of the text that is left, whatever were to follow; and want of memory. Then the lines may stand
 /// anywhere.
 pub fn read_exact_part(
     alloc: Global,
-    sig: &Signature,
-    names: &Names,
+    algebra: &Algebra<'_>,
     lines: &mut Lines<'_>,
 ) -> Result<ExactBlock, CertFault>
-    requires names { AreNames names.now }
-    requires count { length names.now ≡ length sig.now.kinds }
-    ensures { ReadsOne (exact_format sig.now names.now) lines.old result lines.new }
+    ensures { ReadsOne (exact_format algebra.now.signature.now algebra.now.names.now) lines.old result lines.new }
 {
     lines.expect(b"block exact\n")?;
-    let basis = read_matrix_part(alloc, sig, names, lines, b"basis")?;
-    let from = read_matrix_part(alloc, sig, names, lines, b"from")?;
-    let to = read_matrix_part(alloc, sig, names, lines, b"to")?;
-    let pairs = read_pairs(alloc, sig, names, lines)?;
-    let inside = read_matrix_part(alloc, sig, names, lines, b"inside")?;
+    let basis = read_matrix_part(alloc, algebra, lines, b"basis")?;
+    let from = read_matrix_part(alloc, algebra, lines, b"from")?;
+    let to = read_matrix_part(alloc, algebra, lines, b"to")?;
+    let pairs = read_pairs(alloc, algebra, lines)?;
+    let inside = read_matrix_part(alloc, algebra, lines, b"inside")?;
     Ok(ExactBlock {
         basis,
         from,
@@ -95,27 +89,24 @@ pub fn read_exact_part(
     })
 }
 
-/// An outside block. There is a name for each variable of the signature.
+/// An outside block.
 ///
 /// # Errors
 /// The faulty line of the text that is left, whatever were to follow; and want of memory. Then the lines may stand
 /// anywhere.
 pub fn read_outside_part(
     alloc: Global,
-    sig: &Signature,
-    names: &Names,
+    algebra: &Algebra<'_>,
     lines: &mut Lines<'_>,
 ) -> Result<OutsideBlock, CertFault>
-    requires names { AreNames names.now }
-    requires count { length names.now ≡ length sig.now.kinds }
-    ensures { ReadsOne (outside_format sig.now names.now) lines.old result lines.new }
+    ensures { ReadsOne (outside_format algebra.now.signature.now algebra.now.names.now) lines.old result lines.new }
 {
     lines.expect(b"block outside\n")?;
-    let basis = read_matrix_part(alloc, sig, names, lines, b"basis")?;
-    let from = read_matrix_part(alloc, sig, names, lines, b"from")?;
-    let pairs = read_pairs(alloc, sig, names, lines)?;
-    let quotients = read_quotients(alloc, sig, names, lines)?;
-    let rest = read_row_part(alloc, sig, names, lines, b"rest")?;
+    let basis = read_matrix_part(alloc, algebra, lines, b"basis")?;
+    let from = read_matrix_part(alloc, algebra, lines, b"from")?;
+    let pairs = read_pairs(alloc, algebra, lines)?;
+    let quotients = read_quotients(alloc, algebra, lines)?;
+    let rest = read_row_part(alloc, algebra, lines, b"rest")?;
     Ok(OutsideBlock {
         basis,
         from,

@@ -2,7 +2,7 @@
 
 ghost use Rattle.std.specs.Prelude.{◌≡◌, length, IfOk};
 ghost use Rattle.std.specs.List.{All};
-ghost use Rattle.ore_ring.specs.Belongs.{Belongs};
+ghost use Rattle.ore_ring.specs.Belongs.{AllBelong};
 ghost use Rattle.ore_parts.specs.BlockText.{matrix_part, exact_text, outside_text};
 ghost use Rattle.ore_parts.specs.OfSignature.{IsExactOf, IsOutsideOf};
 
@@ -11,7 +11,7 @@ use crate::matrix::append_matrix;
 use crate::print_block::{append_exact, append_outside};
 use ore_monomial::{NoMemory, Signature};
 use ore_rows::Matrix;
-use ore_text::Names;
+use ore_text::{Algebra, Names};
 use std::alloc::Global;
 
 /// The text of a matrix with this name: a line with its sizes, rows before columns, and a line for each row.
@@ -25,12 +25,12 @@ pub fn print_matrix(
     name: &[u8],
     m: &Matrix,
 ) -> Result<Vec<u8>, NoMemory>
-    requires of { All (All (Belongs sig.now)) m.now.rows }
+    requires of { All (AllBelong sig.now) m.now.rows }
     requires names { length names.now ≡ length sig.now.kinds }
     ensures { IfOk result (λ text. text.items ≡ matrix_part names.now sig.now.order name.now m.now) }
 {
     let mut text = Vec::new(alloc);
-    append_matrix(&mut text, sig, names, name, m)?;
+    append_matrix(&mut text, &Algebra::new(sig, names), name, m)?;
     Ok(text)
 }
 
@@ -49,7 +49,7 @@ pub fn print_exact(
     ensures { IfOk result (λ text. text.items ≡ exact_text names.now sig.now.order block.now) }
 {
     let mut text = Vec::new(alloc);
-    append_exact(alloc, &mut text, sig, names, block)?;
+    append_exact(alloc, &mut text, &Algebra::new(sig, names), block)?;
     Ok(text)
 }
 
@@ -68,6 +68,6 @@ pub fn print_outside(
     ensures { IfOk result (λ text. text.items ≡ outside_text names.now sig.now.order block.now) }
 {
     let mut text = Vec::new(alloc);
-    append_outside(alloc, &mut text, sig, names, block)?;
+    append_outside(alloc, &mut text, &Algebra::new(sig, names), block)?;
     Ok(text)
 }

@@ -42,10 +42,12 @@ use Rattle.ore_problem.specs.declared.fault.ProblemReason.{ProblemReason}
 use Rattle.ore_problem.specs.declared.fault.ProblemReason.TheVariants as reason
 use Rattle.ore_problem.specs.Lines.{Cursor, content, is_comment, words}
 use Rattle.ore_problem.specs.Declarations.{Declared, is_name, is_digits, no_coordinate, coordinate_index, step_value, named, two_words, three_words, four_words, declared_by, fault_of}
-use Rattle.ore_problem.specs.Problems.{Read, ◌>>=◌, found_or, fault_or, Frame, with_declared, declared_frame, is_matrix, Declarations, declarations_of}
+use Rattle.ore_problem.specs.Problems.{Read, found_or, fault_or, Frame, with_declared, declared_frame, is_matrix, Declarations, declarations_of}
+use Rattle.ore_algebra.specs.Results.{◌>>=◌}
 use Rattle.ore_problem.specs.Accepted.{Declares, AllDeclare}
 use Rattle.ore_problem.proofs.AcceptedLines.{Goes, GoesFrom, cursor}
-use Rattle.ore_problem.proofs.AcceptedWords.{same_ok, same_some, name_test, name_tested}
+use Rattle.ore_problem.proofs.AcceptedWords.{same_some, name_test, name_tested}
+use Rattle.ore_algebra.proofs.ResultLaws.{same_ok}
 
 -- ---- faults of kinds
 

@@ -21,11 +21,13 @@ use Rattle.ore_rows.specs.Rows.{Row}
 use Rattle.ore_problem.specs.declared.fault.ProblemReason.TheVariants as reason
 use Rattle.ore_problem.specs.Lines.{Cursor, at_start, raw_lines, words}
 use Rattle.ore_problem.specs.ProblemText.{order_word}
-use Rattle.ore_problem.specs.Problems.{System, Read, ◌>>=◌, Frame, accepted_where, found_or, are_words, line_due, header_after, order_of, order_after, is_matrix, Declarations, declarations_after, sizes_of, rows_after, end_after, prefix_of, ends_there, problem_of}
+use Rattle.ore_problem.specs.Problems.{System, Read, Frame, accepted_where, found_or, are_words, line_due, header_after, order_of, order_after, is_matrix, Declarations, declarations_after, sizes_of, rows_after, end_after, prefix_of, ends_there, problem_of}
+use Rattle.ore_algebra.specs.Results.{◌>>=◌}
 use Rattle.ore_problem.specs.Accepted.{counted, LastCounts, AllDeclare, IsRow, Accepted}
 use Rattle.ore_problem.specs.Laws.{IsReadExactly}
 use Rattle.ore_problem.proofs.AcceptedLines.{GoesFrom, goes_same, cursor, arrived, stays, due, due_back, over, goes_over, goes_all}
-use Rattle.ore_problem.proofs.AcceptedWords.{bound, found, passed_test, same_ok, same_words, order_words, order_of-words, AreSizes, sizes_of-words, size_words}
+use Rattle.ore_problem.proofs.AcceptedWords.{found, passed_test, same_words, order_words, order_of-words, AreSizes, sizes_of-words, size_words}
+use Rattle.ore_algebra.proofs.ResultLaws.{bound, same_ok}
 use Rattle.ore_problem.proofs.AcceptedDeclarations.{Found, declarations_back, declarations_due, same_frame}
 use Rattle.ore_problem.proofs.AcceptedRows.{frame_of, rows_back, rows_due}
 

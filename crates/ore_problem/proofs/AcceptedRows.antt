@@ -31,10 +31,12 @@ use Rattle.ore_expr.proofs.Machine.{value_of-expression_code}
 use Rattle.ore_rows.specs.Rows.{Row}
 use Rattle.ore_problem.specs.declared.fault.ProblemReason.TheVariants as reason
 use Rattle.ore_problem.specs.Lines.{Cursor, split_at}
-use Rattle.ore_problem.specs.Problems.{System, ◌>>=◌, Frame, fault_at, accepted_where, is_space, begins_with_space, is_row, text_read, value_read, parsed, evaluated, entries_of, line_due, row_after, rows_after}
+use Rattle.ore_problem.specs.Problems.{System, Frame, fault_at, accepted_where, is_space, begins_with_space, is_row, text_read, value_read, parsed, evaluated, entries_of, line_due, row_after, rows_after}
+use Rattle.ore_algebra.specs.Results.{◌>>=◌}
 use Rattle.ore_problem.specs.Accepted.{AreEntries, IsRow}
 use Rattle.ore_problem.proofs.AcceptedLines.{GoesFrom, goes_same, due, due_back}
-use Rattle.ore_problem.proofs.AcceptedWords.{bound, passed_test, same_ok}
+use Rattle.ore_problem.proofs.AcceptedWords.{passed_test}
+use Rattle.ore_algebra.proofs.ResultLaws.{bound, same_ok}
 
 abbrev pub frame_of : System → Frame
 frame_of p = record { names = p.names; signature = p.signature }

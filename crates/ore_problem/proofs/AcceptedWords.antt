@@ -1,6 +1,5 @@
 -- What the tests of the reader show, one at a time.
---     bound                               what a reading that goes on found first
---     same_ok, same_some                  values that are equal under Ok, and under Some, are equal
+--     same_some                           values that are equal under Some are equal
 --     passed_test, found                  a test that was passed; a value that was found
 --     same_words                          words that pass the test are these
 --     deg_lex_words, deg_rev_lex_words    the words of the second line, for each order
@@ -25,6 +24,7 @@ use Rattle.std.proofs.lemmas.Bool.{le-leb, leb-true}
 use Rattle.std.proofs.lemmas.Bool.Decides.{nat_tests}
 use Rattle.std.proofs.lemmas.Fmt.{decimal-digits_value, decimal_is_IsNumeral}
 use Rattle.std.proofs.lemmas.Str.Parse.{numerals_by_value, tells_digits}
+use Rattle.ore_algebra.proofs.ResultLaws.{same_ok}
 use Rattle.ore_monomial.specs.declared.order.Order.{Order}
 use Rattle.ore_monomial.specs.declared.order.Order.TheVariants.{DegLex, DegRevLex}
 use Rattle.ore_ring.proofs.Falls.{left_true, right_true}
@@ -33,17 +33,11 @@ use Rattle.ore_problem.specs.declared.fault.ProblemReason.{ProblemReason}
 use Rattle.ore_problem.specs.declared.fault.ProblemReason.TheVariants as reason
 use Rattle.ore_problem.specs.Lines.{Cursor}
 use Rattle.ore_problem.specs.Declarations.{is_name, is_digits, is_count}
-use Rattle.ore_problem.specs.Problems.{Read, ◌>>=◌, accepted_where, fault_at, found_or, are_words, order_of, is_matrix, sizes_of}
+use Rattle.ore_problem.specs.Problems.{Read, accepted_where, fault_at, found_or, are_words, order_of, is_matrix, sizes_of}
+use Rattle.ore_algebra.specs.Results.{◌>>=◌}
 use Rattle.ore_problem.specs.ProblemText.{order_word}
 
 -- ---- readings
-
-pub bound : {A B : Type 0} (r : Read A) (f : A → Read B) (y : B) → (r >>= f) ≡ Ok y → (x : A) × (r ≡ Ok x) × (f x ≡ Ok y)
-bound (Ok x) f y e = (x, refl, e)
-bound (Err g) f y e = cc
-
-pub same_ok : {A : Type 0} (x y : A) → ◌≡◌ {A = Read A} (Ok x) (Ok y) → x ≡ y
-same_ok x y e = cc
 
 pub same_some : {A : Type 0} (x y : A) → Some x ≡ Some y → x ≡ y
 same_some x y e = cc

@@ -6,7 +6,8 @@ use Rattle.std.proofs.Common.{◌≡◌, ℕ, suc, ◌+◌, Bool, true, false, c
 use Rattle.std.specs.declared.result.Result.TheVariants.{Ok, Err}
 use Rattle.ore_problem.specs.declared.fault.ProblemFault.{ProblemFault}
 use Rattle.ore_problem.specs.Lines.{Cursor, is_comment, words}
-use Rattle.ore_problem.specs.Problems.{Frame, Declarations, Read, ◌>>=◌, line_due, is_matrix, declared_frame, declarations_of}
+use Rattle.ore_problem.specs.Problems.{Frame, Declarations, Read, line_due, is_matrix, declared_frame, declarations_of}
+use Rattle.ore_algebra.specs.Results.{◌>>=◌}
 use Rattle.ore_problem.proofs.LineLemmas.{line_due-comment, line_due-line, line_due_none}
 
 abbrev pub declared_words : Frame → Cursor → List (List ℕ) → Read Declarations

@@ -14,12 +14,13 @@ use Rattle.ore_text.proofs.FaultyLines.{stray_faulty, one_faulty_line}
 use Rattle.ore_problem.specs.declared.fault.ProblemFault.{ProblemFault}
 use Rattle.ore_problem.specs.declared.fault.ProblemReason.TheVariants.{AfterEnd}
 use Rattle.ore_problem.specs.Lines.{Cursor, raw_lines, onto_first, is_line_end, content}
-use Rattle.ore_problem.specs.Problems.{System, Read, ◌>>=◌, fault_at, prefix_of, ends_there, problem_of}
+use Rattle.ore_problem.specs.Problems.{System, Read, fault_at, prefix_of, ends_there, problem_of}
+use Rattle.ore_algebra.specs.Results.{◌>>=◌}
 use Rattle.ore_problem.specs.Laws.{lines_of, IsProblemText, BeginsWithProblem, FindsFirstFaultyLine}
 use Rattle.ore_problem.proofs.AgainBytes.{Lacks, all_append}
 use Rattle.ore_problem.proofs.AgainLines.{raw_lines-append, lacks_append}
 use Rattle.ore_problem.proofs.LineLemmas.{content-crlf}
-use Rattle.ore_problem.proofs.AcceptedWords.{bound}
+use Rattle.ore_algebra.proofs.ResultLaws.{bound, same_err}
 use Rattle.ore_problem.proofs.AcceptedReads.{accepted_prefix, reads_exactly}
 use Rattle.ore_problem.proofs.FrontReads.{prefix_reads_exactly}
 use Rattle.ore_problem.proofs.LineMachine.{Due, First, Closing, run, faulty}
@@ -97,12 +98,9 @@ abbrev whole_closes : System → ℕ → List (List ℕ) → Read System
 whole_closes p line [] = Ok p
 whole_closes p line (x ∷ ls) = fault_at (suc line) AfterEnd
 
-same_error : (x y : ProblemFault) → ◌≡◌ {A = Read System} (Err x) (Err y) → x ≡ y
-same_error x y e = cc
-
 whole_fault : (p : System) (line : ℕ) (ls : List (List ℕ)) (f : ProblemFault) → whole_closes p line ls ≡ Err f → (f.line ≡ suc line) × ((ys : List (List ℕ)) → take 1 ls ≡ take 1 ys → whole_closes p line ys ≡ Err f)
 whole_fault p line [] f e = cc
-whole_fault p line (x ∷ ls) f e = (ap (λ (g : ProblemFault). g.line) (sym (same_error (record { line = suc line; reason = AfterEnd }) f e)), by)
+whole_fault p line (x ∷ ls) f e = (ap (λ (g : ProblemFault). g.line) (sym (same_err {A = System} (record { line = suc line; reason = AfterEnd }) f e)), by)
   where
     by : (ys : List (List ℕ)) → x ∷ [] ≡ take 1 ys → whole_closes p line ys ≡ Err f
     by [] h = cc
@@ -157,10 +155,7 @@ sizes_behind x = Ok (x.0, (x.1.used, x.1.line))
 
 sizes_fault : (r : Read (System × Cursor)) (f : ProblemFault) → (r >>= sizes_behind) ≡ Err f → (r >>= front_behind) ≡ Err f
 sizes_fault (Ok x) f e = cc
-sizes_fault (Err g) f e = ap Err (sizes_same g f e)
-  where
-    sizes_same : (x y : ProblemFault) → ◌≡◌ {A = Read (System × (ℕ × ℕ))} (Err x) (Err y) → x ≡ y
-    sizes_same x y e = cc
+sizes_fault (Err g) f e = ap Err (same_err {A = System × (ℕ × ℕ)} g f e)
 
 -- ---- the law
 

@@ -11,11 +11,12 @@ use Rattle.std.proofs.Common.{◌≡◌, ℕ, suc, ◌+◌, Bool, true, false, L
 use Rattle.std.specs.Prelude.{if◌then◌else◌, nat_eq}
 use Rattle.std.specs.declared.result.Result.TheVariants.{Ok}
 use Rattle.ore_problem.specs.Lines.{Cursor, at_start, raw_lines, onto_first, content, is_comment}
-use Rattle.ore_problem.specs.Problems.{System, Read, ◌>>=◌, prefix_of, prefix_sizes}
+use Rattle.ore_problem.specs.Problems.{System, Read, prefix_of, prefix_sizes}
+use Rattle.ore_algebra.specs.Results.{◌>>=◌}
 use Rattle.ore_problem.specs.Accepted.{counted, LastCounts}
 use Rattle.ore_problem.specs.Laws.{HasFront, IsPrefixReadExactly}
 use Rattle.ore_problem.proofs.AcceptedLines.{cursor, Goes, over}
-use Rattle.ore_problem.proofs.AcceptedWords.{bound, same_ok}
+use Rattle.ore_algebra.proofs.ResultLaws.{bound, same_ok}
 use Rattle.ore_problem.proofs.AcceptedReads.{prefix_stands, accepted_prefix, lines_accepted}
 
 -- ---- the cursor behind some lines

@@ -16,6 +16,7 @@ use Rattle.std.specs.declared.option.Option.TheVariants.{None, Some}
 use Rattle.std.specs.declared.result.Result.{Result}
 use Rattle.std.specs.declared.result.Result.TheVariants.{Ok, Err}
 use Rattle.std.specs.List.{AllByRecursion, list_all}
+use Rattle.ore_algebra.proofs.ResultLaws.{same_err}
 use Rattle.ore_algebra.specs.Limits.{Cause, program}
 use Rattle.ore_rational.proofs.FractionLaws.{rationals}
 use Rattle.ore_rational.specs.Fraction.{whole}
@@ -37,7 +38,8 @@ use Rattle.ore_problem.specs.declared.fault.ProblemReason.{ProblemReason}
 use Rattle.ore_problem.specs.declared.fault.ProblemReason.TheVariants as reason
 use Rattle.ore_problem.specs.Lines.{split_at, is_comment, words}
 use Rattle.ore_problem.specs.Declarations.{declared_by, fault_of, is_count}
-use Rattle.ore_problem.specs.Problems.{System, Read, ◌>>=◌, Frame, fault_at, found_or, fault_or, are_words, order_of, is_matrix, declared_frame, with_declared, sizes_of, is_space, is_row, text_read, value_read, parsed, evaluated, entries_of}
+use Rattle.ore_problem.specs.Problems.{System, Read, Frame, fault_at, found_or, fault_or, are_words, order_of, is_matrix, declared_frame, with_declared, sizes_of, is_space, is_row, text_read, value_read, parsed, evaluated, entries_of}
+use Rattle.ore_algebra.specs.Results.{◌>>=◌}
 use Rattle.ore_problem.proofs.AgainBytes.{Lacks}
 use Rattle.ore_problem.proofs.AcceptedReads.{header, system}
 
@@ -91,18 +93,15 @@ pub record Closing : Type 0 where
 abbrev HasLine : {A : Type 0} → Read A → ℕ → Type 0
 HasLine r line = (f : ProblemFault) → r ≡ Err f → f.line ≡ line
 
-same_fault : {A : Type 0} (x y : ProblemFault) → ◌≡◌ {A = Read A} (Err x) (Err y) → x ≡ y
-same_fault x y e = cc
-
 line_at : {A : Type 0} (line : ℕ) (r : ProblemReason) → HasLine {A = A} (fault_at line r) line
-line_at {A = A} line r f e = ap (λ (g : ProblemFault). g.line) (sym (same_fault {A = A} (record { line = line; reason = r }) f e))
+line_at {A = A} line r f e = ap (λ (g : ProblemFault). g.line) (sym (same_err {A = A} (record { line = line; reason = r }) f e))
 
 line_ok : {A : Type 0} (x : A) (line : ℕ) → HasLine {A = A} (Ok x) line
 line_ok x line f e = cc
 
 line_then : {A B : Type 0} (r : Read A) (g : A → Read B) (line : ℕ) → HasLine r line → ((x : A) → HasLine (g x) line) → HasLine (r >>= g) line
 line_then {A} {B} (Ok x) g line h k f e = k x f e
-line_then {A} {B} (Err y) g line h k f e = ap (λ (z : ProblemFault). z.line) (sym (same_fault {A = B} y f e)) ∙ h y refl
+line_then {A} {B} (Err y) g line h k f e = ap (λ (z : ProblemFault). z.line) (sym (same_err {A = B} y f e)) ∙ h y refl
 
 line_found : {A : Type 0} (o : Option A) (line : ℕ) (r : ProblemReason) → HasLine (found_or o line r) line
 line_found {A} None line r = line_at {A = A} line r
@@ -388,7 +387,7 @@ module _ (K : Closing) where
         differs = c.1;
       }
   faulty (Due s) line [] f e =
-      let same = same_fault {A = System} (record { line = suc line; reason = reason.NoEnd }) f e in
+      let same = same_err {A = System} (record { line = suc line; reason = reason.NoEnd }) f e in
       faulty_line s line [] f (ap (λ (g : ProblemFault). g.line) (sym same)) (λ ys h. no_line s line ys h ∙ e)
   faulty (Due s) line (x ∷ ls) f e = by (is_comment x) refl (step s (suc line) x) refl e (λ t h. faulty t (suc line) ls f h)
     where
@@ -397,6 +396,6 @@ module _ (K : Closing) where
       by true c r h e more = passed_line s line x ls (Due s) f (λ ys. ap (λ c. if c then run (Due s) (suc line) ys else (step s (suc line) x >>= λ t. run t (suc line) ys)) c) (more (Due s) e)
       by false c (Ok t) h e more = passed_line s line x ls t f (λ ys i. if c i then run (Due s) (suc line) ys else (h i >>= λ t. run t (suc line) ys)) (more t e)
       by false c (Err g) h e more =
-          let same = same_fault {A = System} g f e in
+          let same = same_err {A = System} g f e in
           let here : step s (suc line) x ≡ Err f = h ∙ ap Err same in
           faulty_line s line (x ∷ ls) f (step_line s (suc line) x f here) (this_line s line x f c here)

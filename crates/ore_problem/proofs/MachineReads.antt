@@ -1,6 +1,5 @@
 -- A text is read as its lines are, one after another.
 --     comment_same             a line is a comment with its end where it is one without
---     regroup                  readings in a row may be grouped either way
 --     contents                 the lines that are left, without their ends
 --     Behind                   what is done with a problem and the cursor behind it closes the text
 --     due_runs                 the line that is due is the next that is no comment
@@ -11,12 +10,14 @@ use Rattle.std.specs.declared.option.Option.{Option}
 use Rattle.std.specs.declared.option.Option.TheVariants.{None, Some}
 use Rattle.std.specs.declared.result.Result.TheVariants.{Ok, Err}
 use Rattle.std.proofs.lemmas.Bool.Decides.{nat_tests}
+use Rattle.ore_algebra.proofs.ResultLaws.{bind_assoc}
 use Rattle.ore_rational.proofs.FractionLaws.{rationals}
 use Rattle.ore_monomial.specs.declared.order.Order.{Order}
 use Rattle.ore_rows.specs.Rows.{Row}
 use Rattle.ore_problem.specs.declared.fault.ProblemReason.TheVariants as reason
 use Rattle.ore_problem.specs.Lines.{Cursor, at_start, raw_lines, is_line_end, content, is_comment, words}
-use Rattle.ore_problem.specs.Problems.{System, Read, ◌>>=◌, Frame, Declarations, found_or, accepted_where, line_due, are_words, header_after, order_of, order_after, is_matrix, declared_frame, declarations_of, sizes_of, is_row, entries_of, row_after, rows_after, end_after, prefix_of}
+use Rattle.ore_problem.specs.Problems.{System, Read, Frame, Declarations, found_or, accepted_where, line_due, are_words, header_after, order_of, order_after, is_matrix, declared_frame, declarations_of, sizes_of, is_row, entries_of, row_after, rows_after, end_after, prefix_of}
+use Rattle.ore_algebra.specs.Results.{◌>>=◌}
 use Rattle.ore_problem.proofs.AcceptedLines.{cursor}
 use Rattle.ore_problem.proofs.AcceptedReads.{header, system, end_read, rows_read, sizes_read, declarations_read, order_read}
 use Rattle.ore_problem.proofs.LineLemmas.{line_due-comment, line_due-line, line_due_none}
@@ -41,10 +42,6 @@ comment_same (b ∷ bs) = by (is_line_end (b ∷ bs)) refl
     by : (t : Bool) → is_line_end (b ∷ bs) ≡ t → is_comment (if t then [] else b ∷ content bs) ≡ nat_eq b 35
     by true t = sym (first_is_end b bs t)
     by false t = refl
-
-regroup : {A B C : Type 0} (r : Read A) (f : A → Read B) (g : B → Read C) → ((r >>= f) >>= g) ≡ (r >>= λ x. f x >>= g)
-regroup (Ok x) f g = refl
-regroup (Err e) f g = refl
 
 abbrev contents : Cursor → List (List ℕ)
 contents c = map content c.left
@@ -80,8 +77,8 @@ module _ (K : Closing) (behind : System × Cursor → Read System) (Behind : (p 
   ended_runs : (f : Frame) (cols : ℕ) (rows : List (Row rationals)) (c : Cursor) → Runs (InRows f cols 0 rows) c (end_read f cols rows c >>= behind)
   unfolding end_after
   ended_runs f cols rows c =
-      regroup (end_after c) (λ e. Ok (system f cols rows, e)) behind
-      ∙ regroup (line_due c) (λ x. accepted_where (are_words (words x.0) (codes "end" ∷ [])) x.1 reason.NoEnd x.1) (λ e. behind (system f cols rows, e))
+      bind_assoc (end_after c) (λ e. Ok (system f cols rows, e)) behind
+      ∙ bind_assoc (line_due c) (λ x. accepted_where (are_words (words x.0) (codes "end" ∷ [])) x.1 reason.NoEnd x.1) (λ e. behind (system f cols rows, e))
       ∙ due_runs (InRows f cols 0 rows) (λ x. accepted_where (are_words (words x.0) (codes "end" ∷ [])) x.1 reason.NoEnd x.1 >>= λ e. behind (system f cols rows, e)) (λ x d. by (are_words (words x) (codes "end" ∷ [])) d) c
     where
       by : (b : Bool) (d : Cursor) → (accepted_where b d reason.NoEnd d >>= λ e. behind (system f cols rows, e)) ≡ (ended_read b f cols rows d.line >>= λ t. run K t d.line (contents d))
@@ -114,13 +111,13 @@ module _ (K : Closing) (behind : System × Cursor → Read System) (Behind : (p 
   unfolding rows_after row_after
   rows_run f cols zero rows c = ap (λ rs. end_read f cols rs c >>= behind) (append-nil rows) ∙ ended_runs f cols rows c
   rows_run f cols (suc n) rows c =
-      regroup (row_after f cols c) (rows_found f cols n) (rows_then f cols rows)
-      ∙ regroup (line_due c) (row_found f cols) (found_then f cols n rows)
+      bind_assoc (row_after f cols c) (rows_found f cols n) (rows_then f cols rows)
+      ∙ bind_assoc (line_due c) (row_found f cols) (found_then f cols n rows)
       ∙ due_runs (InRows f cols (suc n) rows) (λ x. row_found f cols x >>= found_then f cols n rows) (λ x d. by (is_row x) (drop 3 x) d (λ r. rows_run f cols n (rows ++ r ∷ []) d)) c
     where
       entries : (e : Read (Row rationals)) (d : Cursor) → ((r : Row rationals) → Runs (InRows f cols n (rows ++ r ∷ [])) d (rows_after f cols n d >>= rows_then f cols (rows ++ r ∷ [])))
           → ((e >>= λ r. with_cursor d r) >>= found_then f cols n rows) ≡ ((e >>= λ r. Ok (Due (InRows f cols n (rows ++ r ∷ [])))) >>= λ t. run K t d.line (contents d))
-      entries (Ok r) d more = regroup (rows_after f cols n d) (λ rs. Ok (r ∷ rs.0, rs.1)) (rows_then f cols rows) ∙ row_then f cols n rows r d (more r)
+      entries (Ok r) d more = bind_assoc (rows_after f cols n d) (λ rs. Ok (r ∷ rs.0, rs.1)) (rows_then f cols rows) ∙ row_then f cols n rows r d (more r)
       entries (Err g) d more = refl
 
       by : (b : Bool) (rest : List ℕ) (d : Cursor) → ((r : Row rationals) → Runs (InRows f cols n (rows ++ r ∷ [])) d (rows_after f cols n d >>= rows_then f cols (rows ++ r ∷ [])))
@@ -135,7 +132,7 @@ module _ (K : Closing) (behind : System × Cursor → Read System) (Behind : (p 
   sizes_run f line used left ws = by (sizes_of line ws)
     where
       by : (r : Read (ℕ × ℕ)) → ((r >>= λ n. rows_read f n (cursor line used left)) >>= behind) ≡ ((r >>= λ n. Ok (Due (InRows f n.1 n.0 []))) >>= λ t. run K t line (map content left))
-      by (Ok n) = regroup (rows_after f n.1 n.0 (cursor line used left)) (λ r. end_read f n.1 r.0 r.1) behind ∙ rows_run f n.1 n.0 [] (cursor line used left)
+      by (Ok n) = bind_assoc (rows_after f n.1 n.0 (cursor line used left)) (λ r. end_read f n.1 r.0 r.1) behind ∙ rows_run f n.1 n.0 [] (cursor line used left)
       by (Err g) = refl
 
   abbrev declared_then : Declarations → Read System
@@ -178,19 +175,19 @@ module _ (K : Closing) (behind : System × Cursor → Read System) (Behind : (p 
   order_runs : (c : Cursor) → Runs Second c (order_read c >>= behind)
   unfolding order_after
   order_runs c =
-      regroup (order_after c) (λ o. declarations_read o.0 o.1) behind
-      ∙ regroup (line_due c) order_found order_then
+      bind_assoc (order_after c) (λ o. declarations_read o.0 o.1) behind
+      ∙ bind_assoc (line_due c) order_found order_then
       ∙ due_runs Second (λ x. order_found x >>= order_then) (λ x d. by (order_of (words x)) d) c
     where
       by : (o : Option Order) (d : Cursor) → ((found_or o d.line reason.Header >>= λ o. with_cursor d o) >>= order_then) ≡ ((found_or o d.line reason.Header >>= λ o. Ok (Due (Declaring (no_names o)))) >>= λ t. run K t d.line (contents d))
       by None d = refl
-      by (Some o) d = regroup (declarations_of (no_names o) d.line d.used d.left) sizes_read behind ∙ declarations_run (no_names o) d.line d.used d.left
+      by (Some o) d = bind_assoc (declarations_of (no_names o) d.line d.used d.left) sizes_read behind ∙ declarations_run (no_names o) d.line d.used d.left
 
   header_runs : (c : Cursor) → Runs First c ((header_after c >>= order_read) >>= behind)
   unfolding header_after
   header_runs c =
-      regroup (header_after c) order_read behind
-      ∙ regroup (line_due c) (λ x. accepted_where (are_words (words x.0) header) x.1 reason.Header x.1) (λ d. order_read d >>= behind)
+      bind_assoc (header_after c) order_read behind
+      ∙ bind_assoc (line_due c) (λ x. accepted_where (are_words (words x.0) header) x.1 reason.Header x.1) (λ d. order_read d >>= behind)
       ∙ due_runs First (λ x. accepted_where (are_words (words x.0) header) x.1 reason.Header x.1 >>= λ d. order_read d >>= behind) (λ x d. by (are_words (words x) header) d) c
     where
       by : (b : Bool) (d : Cursor) → (accepted_where b d reason.Header d >>= λ d. order_read d >>= behind) ≡ (header_read b d.line >>= λ t. run K t d.line (contents d))

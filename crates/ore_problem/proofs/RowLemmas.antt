@@ -16,7 +16,8 @@ use Rattle.ore_expr.specs.Parsing.{parse}
 use Rattle.ore_rows.specs.Rows.{Row}
 use Rattle.ore_problem.specs.declared.fault.ProblemFault.{ProblemFault}
 use Rattle.ore_problem.specs.Lines.{Cursor}
-use Rattle.ore_problem.specs.Problems.{Frame, Read, ◌>>=◌, text_read, value_read, parsed, evaluated, row_after, rows_after}
+use Rattle.ore_problem.specs.Problems.{Frame, Read, text_read, value_read, parsed, evaluated, row_after, rows_after}
+use Rattle.ore_algebra.specs.Results.{◌>>=◌}
 
 abbrev pub before : {A : Type 0} → List A → Read (List A) → Read (List A)
 before xs r = r >>= λ ys. Ok (xs ++ ys)

@@ -1,20 +1,10 @@
 -- The words of faults of problem texts, as a reply names them.
---     signature_word     the word of a fault of a declared variable
 --     fault_word         the word of what is wrong with a line
 use Rattle.std.specs.Prelude.{ℕ, List, [], codes}
-use Rattle.ore_monomial.specs.declared.signature.SignatureFault.{SignatureFault}
-use Rattle.ore_monomial.specs.declared.signature.SignatureFault.TheVariants.{TooMany, BadCoordinate, TwoDifferentials, BadStep, GroupOrder}
+use Rattle.ore_monomial.specs.FaultWords.{signature_word}
 use Rattle.ore_expr.specs.FaultWords.{text_word}
 use Rattle.ore_problem.specs.declared.fault.ProblemReason.{ProblemReason}
 use Rattle.ore_problem.specs.declared.fault.ProblemReason.TheVariants as reason
-
--- whichever variable has it
-abbrev pub signature_word : SignatureFault → List ℕ
-signature_word TooMany = codes "too-many-variables"
-signature_word (BadCoordinate k) = codes "bad-coordinate"
-signature_word (TwoDifferentials k) = codes "two-differentials"
-signature_word (BadStep k) = codes "bad-step"
-signature_word (GroupOrder k) = codes "group-order"
 
 -- a stop of an entry has no word, since its cause is answered, and neither has want of memory
 abbrev pub fault_word : ProblemReason → List ℕ

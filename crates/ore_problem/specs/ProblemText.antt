@@ -1,24 +1,20 @@
 -- The text of a problem: single spaces, no comments, the byte 10 after every line, and canonical entries.
---     line               words with a space between, and a line end
 --     order_word         the word of an order
 --     kind_word, kind_words    the word of a kind, before the name; the words behind the name
 --     declaration_text   the line of one variable
 --     matrix_text        the sizes, and a line for each row
 --     problem_text       all lines
 use Rattle.std.specs.Prelude.{ℕ, List, [], ◌∷◌, ◌++◌, length, get_or, codes, decimal}
-use Rattle.std.specs.List.{join_with_byte, flat_map, zip}
+use Rattle.std.specs.List.{flat_map, zip}
 use Rattle.ore_rational.proofs.FractionLaws.{rationals}
 use Rattle.ore_monomial.specs.declared.order.Order.{Order}
 use Rattle.ore_monomial.specs.declared.order.Order.TheVariants.{DegLex, DegRevLex}
 use Rattle.ore_monomial.specs.declared.signature.VarKind.{VarKind}
 use Rattle.ore_monomial.specs.declared.signature.VarKind.TheVariants.{Coordinate, Constant, Plain, Differential, Shift, Delay}
+use Rattle.ore_text.specs.Lines.{line}
 use Rattle.ore_text.specs.RowText.{row_text}
 use Rattle.ore_rows.specs.Rows.{Row}
 use Rattle.ore_problem.specs.Problems.{System}
-
--- the byte 32 stands between the words, and the byte 10 behind them
-abbrev pub line : List (List ℕ) → List ℕ
-line ws = join_with_byte 32 ws ++ 10 ∷ []
 
 -- the word that names the order in the second line
 abbrev pub order_word : Order → List ℕ

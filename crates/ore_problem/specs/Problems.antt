@@ -1,7 +1,6 @@
 -- Problem texts: the lines in the order in which they are due, each with its faults. The first faulty line decides.
 --     System                              names, signature, and a matrix by its columns and rows
 --     Read                                a value, or the first faulty line with its fault
---     ◌>>=◌                               go on with the value, or keep the fault
 --     fault_at                            a fault of a line
 --     accepted_where                      the value where a test passes, else a fault of the line before the cursor
 --     found_or                            the value where there is one, else a fault of a line
@@ -35,6 +34,7 @@ use Rattle.std.specs.declared.option.Option.TheVariants.{None, Some}
 use Rattle.std.specs.declared.result.Result.{Result}
 use Rattle.std.specs.declared.result.Result.TheVariants.{Ok, Err}
 use Rattle.ore_algebra.specs.Limits.{Cause, program}
+use Rattle.ore_algebra.specs.Results.{◌>>=◌}
 use Rattle.ore_rational.proofs.FractionLaws.{rationals}
 use Rattle.ore_monomial.specs.declared.order.Order.{Order}
 use Rattle.ore_monomial.specs.declared.order.Order.TheVariants.{DegLex, DegRevLex}
@@ -62,12 +62,6 @@ pub record System : Type 0 where
 -- a refusal has the number of a line
 abbrev pub Read : Type 0 → Type 0
 Read A = Result A ProblemFault
-
-infixl 10 ◌>>=◌
--- with the value to the next step; a fault stays
-abbrev pub ◌>>=◌ : {A B : Type 0} → Read A → (A → Read B) → Read B
-(Ok x) >>= f = f x
-(Err e) >>= f = Err e
 
 -- the line has this number, where the first line has number 1
 abbrev pub fault_at : {A : Type 0} → ℕ → ProblemReason → Read A

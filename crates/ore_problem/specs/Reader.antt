@@ -26,7 +26,8 @@ use Rattle.ore_problem.specs.declared.fault.ProblemFault.{ProblemFault}
 use Rattle.ore_problem.specs.declared.fault.ProblemReason.TheVariants.{Memory, Text}
 use Rattle.ore_problem.specs.declared.frame.Declaration.{Declaration}
 use Rattle.ore_problem.specs.Declarations.{Declared}
-use Rattle.ore_problem.specs.Problems.{System, Read, ◌>>=◌, header_after, order_after, declarations_after, sizes_of, entries_of, rows_after, end_after}
+use Rattle.ore_problem.specs.Problems.{System, Read, header_after, order_after, declarations_after, sizes_of, entries_of, rows_after, end_after}
+use Rattle.ore_algebra.specs.Results.{◌>>=◌}
 use Rattle.ore_problem.specs.Lines.{Cursor, raw_lines}
 
 -- up to the byte 10 and with it; all bytes where there is none

@@ -2,12 +2,15 @@
 --     system_of         the names, the signature and the matrix, without the orders that its operators carry
 --     IsProblem         the names fit the signature, and the matrix belongs to it
 --     IsPrintableSystem        a problem that can be printed and read again
+--     told              a fault, but for want of memory
 --     FaultReads        the fault that a call answers is that which is given
 --     Reads             a call answered what a reading function gives, unless memory ran out
 use Rattle.std.specs.Prelude.{◌≡◌, ◌≤◌, ℕ, length}
 use Rattle.std.specs.List.{All, AllByRecursion}
+use Rattle.std.specs.declared.option.Option.{Option}
+use Rattle.std.specs.declared.option.Option.TheVariants.{None, Some}
 use Rattle.std.specs.declared.result.Result.{Result}
-use Rattle.std.specs.declared.result.Result.TheVariants.{Ok, Err}
+use Rattle.ore_algebra.specs.Results.{IsRefusal, GivesBy}
 use Rattle.ore_ring.specs.Belongs.{Belongs}
 use Rattle.ore_text.specs.Names.{AreNames}
 use Rattle.ore_expr.specs.Laws.{IsPrintable}
@@ -22,9 +25,8 @@ use Rattle.ore_problem.specs.Problems.{System}
 abbrev pub system_of : Problem → System
 system_of p = record { names = p.names; signature = p.signature; cols = p.matrix.cols; rows = rows_of p.matrix }
 
--- there is one name for each variable, as names are declared, and each entry is of the signature
+-- there is one name for each variable, and each entry is of the signature
 pub record IsProblem (p : Problem) : Type 0 where
-  pub names : AreNames p.names
   pub count : length p.names ≡ length p.signature.kinds
   pub matrix : All (All (Belongs p.signature)) p.matrix.rows
 
@@ -37,12 +39,14 @@ pub record IsPrintableSystem (p : System) : Type 0 where
   pub lengths : AllByRecursion (λ r. length r ≡ p.cols) p.rows
   pub entries : AllByRecursion (AllByRecursion (IsPrintable p.signature p.names)) p.rows
 
+abbrev pub told : ℕ → ProblemReason → Option ProblemFault
+told line Memory = None
+told line r = Some (record { line = line; reason = r })
+
 -- of want of memory it says only that line 0 is named
 abbrev pub FaultReads : {Y : Type 0} → ℕ → ProblemReason → Result Y ProblemFault → Type 0
-FaultReads line Memory given = line ≡ 0
-FaultReads line r given = given ≡ Err (record { line = line; reason = r })
+FaultReads line r given = IsRefusal (line ≡ 0) (told line r) given
 
 -- a value, seen through the view, is what is given, and so is a fault but want of memory
 abbrev pub Reads : {X Y : Type 0} → (X → Y) → Result X ProblemFault → Result Y ProblemFault → Type 0
-Reads view (Ok x) given = given ≡ Ok (view x)
-Reads view (Err e) given = FaultReads e.line e.reason given
+Reads = GivesBy (λ e given. FaultReads e.line e.reason given)

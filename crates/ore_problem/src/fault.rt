@@ -2,7 +2,7 @@
 
 ghost use Rattle.std.specs.Prelude.{◌≡◌};
 ghost use Rattle.ore_problem.specs.declared.fault.ProblemReason.TheVariants.{Memory};
-ghost use Rattle.ore_problem.specs.FaultWords.{signature_word as signature_word_of, fault_word};
+ghost use Rattle.ore_problem.specs.FaultWords.{fault_word};
 
 use ore_expr::TextFault;
 use ore_monomial::{NoMemory, SignatureFault};
@@ -59,7 +59,7 @@ impl ProblemReason {
             ProblemReason::Header => b"header",
             ProblemReason::BadDeclaration => b"bad-declaration",
             ProblemReason::NameTwice => b"name-twice",
-            ProblemReason::Signature(fault) => signature_word(fault),
+            ProblemReason::Signature(fault) => fault.word(),
             ProblemReason::BadMatrix => b"bad-matrix",
             ProblemReason::TooManyRows => b"too-many-rows",
             ProblemReason::TooManyColumns => b"too-many-columns",
@@ -70,19 +70,6 @@ impl ProblemReason {
             ProblemReason::AfterEnd => b"after-end",
             ProblemReason::Memory => b"",
         }
-    }
-}
-
-// The word of a fault of a declared variable.
-fn signature_word(fault: SignatureFault) -> &'static [u8]
-    ensures { result.now ≡ signature_word_of fault }
-{
-    match fault {
-        SignatureFault::TooMany => b"too-many-variables",
-        SignatureFault::BadCoordinate(_) => b"bad-coordinate",
-        SignatureFault::TwoDifferentials(_) => b"two-differentials",
-        SignatureFault::BadStep(_) => b"bad-step",
-        SignatureFault::GroupOrder(_) => b"group-order",
     }
 }
 

@@ -1,8 +1,7 @@
 //! Declarations, and the names and the signature that they make.
 
-ghost use Rattle.std.specs.Prelude.{◌≡◌, ◌≤◌, [], ◌∷◌, ◌++◌, ◌+◌, true, false, length, map, min, option_map, unwrap_or, IfOk, IfSome};
+ghost use Rattle.std.specs.Prelude.{◌≡◌, ◌≤◌, [], true, length, map, option_map, IfOk, IfSome};
 ghost use Rattle.ore_monomial.specs.SignatureCode.{signature_of};
-ghost use Rattle.ore_text.specs.Names.{AreNames};
 ghost use Rattle.ore_expr.specs.Tokens.{IsName};
 ghost use Rattle.ore_problem.specs.Declarations.{named as named_of, two_words as two_words_of, three_words as three_words_of, four_words as four_words_of, declared_by as declared_by_of, is_digits as is_digits_of, coordinate_index as coordinate_index_of, step_value as step_value_of, fault_of};
 ghost use Rattle.ore_problem.specs.Problems.{declared_frame, fault_or, with_declared};
@@ -68,10 +67,8 @@ impl Frame {
     /// The names in the order of declaration, one for each variable.
     pub fn names(&self) -> &Names
         ensures value { result.now ≡ self.now.names }
-        ensures form { AreNames self.now.names }
         ensures count { length self.now.names ≡ length self.now.signature.kinds }
     {
-        self.names.names_fit();
         &self.names
     }
 
@@ -85,10 +82,8 @@ impl Frame {
     /// The problem with this matrix.
     pub fn into_problem(self, matrix: Matrix) -> Problem
         ensures value { result ≡ record { names = self.names; signature = self.signature; matrix = matrix } }
-        ensures form { AreNames result.names }
         ensures count { length result.names ≡ length result.signature.kinds }
     {
-        self.names.names_fit();
         Problem {
             names: self.names,
             signature: self.signature,

@@ -1,6 +1,6 @@
 //! The lines before the rows, and the last line.
 
-ghost use Rattle.std.specs.Prelude.{◌≡◌, ◌≤◌, ◌&&◌, length, map, IfOk};
+ghost use Rattle.std.specs.Prelude.{◌≡◌, ◌≤◌, ◌&&◌, map, IfOk};
 ghost use Rattle.ore_problem.specs.Declarations.{is_count as is_count_of};
 ghost use Rattle.ore_problem.specs.Problems.{header_after, order_of as order_of_words, order_after, is_matrix as is_matrix_line, declarations_of, sizes_of, end_after};
 ghost use Rattle.ore_problem.specs.Reader.{cursor_of, size_pair as size_pair_of};

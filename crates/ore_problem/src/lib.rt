@@ -18,8 +18,8 @@
 //! A line without an end, a number of any length and any bytes have an answer. Not proved: a reader passes over the
 //! text once, and allocates nothing by a number that a text names.
 //!
-//! The crate stands on `ore_expr` for entries, on `ore_text` for names and lines, on `ore_rows` for matrices, on `ore_mixed` for the ring
-//! in which entries are evaluated, on `thiserror` for the fault and on `itoa` for numbers.
+//! The crate stands on `ore_expr` for entries, on `ore_text` for names, lines and numbers, on `ore_rows` for matrices, on `ore_mixed`
+//! for the ring in which entries are evaluated, and on `thiserror` for the fault.
 #![tactic(auto)]
 
 pub mod fault;

@@ -1,7 +1,7 @@
 //! The lines of a text.
 
-ghost use Rattle.std.specs.Prelude.{◌≡◌, ◌+◌, ◌≤◌, ◌∷◌, [], suc, length, drop, map, position, nat_eq, IfOk, IfSome, MatchOption};
-ghost use Rattle.ore_problem.specs.Lines.{raw_lines, content as content_of, is_comment as is_comment_line};
+ghost use Rattle.std.specs.Prelude.{◌≡◌, ◌+◌, ◌≤◌, ◌∷◌, [], suc, length, position, nat_eq, IfOk, IfSome, MatchOption};
+ghost use Rattle.ore_problem.specs.Lines.{content as content_of, is_comment as is_comment_line};
 ghost use Rattle.ore_problem.specs.Reader.{line_length as length_of, cursor_of};
 ghost use Rattle.ore_problem.specs.Problems.{line_due};
 ghost use Rattle.ore_problem.specs.Stored.{Reads};

@@ -1,18 +1,18 @@
 //! Prints problem texts.
 
-ghost use Rattle.std.specs.Prelude.{◌≡◌, [], ◌∷◌, ◌++◌, codes, decimal, get_or, length, IfOk, OnOk};
+ghost use Rattle.std.specs.Prelude.{◌≡◌, [], ◌∷◌, ◌++◌, codes, decimal, get_or, IfOk, OnOk};
 ghost use Rattle.std.specs.List.{All, flat_map, zip};
-ghost use Rattle.ore_ring.specs.Belongs.{Belongs};
+ghost use Rattle.ore_ring.specs.Belongs.{AllBelong};
 ghost use Rattle.ore_rows.specs.Stored.{rows_of};
-ghost use Rattle.ore_problem.specs.ProblemText.{line, order_word as order_word_of, kind_word as kind_word_of, kind_words, declaration_text, matrix_text, problem_text};
+ghost use Rattle.ore_text.specs.Lines.{line};
+ghost use Rattle.ore_problem.specs.ProblemText.{order_word as order_word_of, kind_word as kind_word_of, kind_words, declaration_text, matrix_text, problem_text};
 ghost use Rattle.ore_problem.specs.Stored.{system_of, IsProblem};
 
 use crate::problem::Problem;
-use itoa::Buffer;
-use ore_monomial::{NoMemory, Order, Signature, VarKind};
+use ore_monomial::{NoMemory, Order, VarKind};
 use ore_rows::Matrix;
-use ore_text::{Names, append_row};
-use std::alloc::{AllocError, Global};
+use ore_text::{Algebra, Names, append_line, append_number, append_row};
+use std::alloc::Global;
 
 /// The text of a problem, in its one printed form.
 ///
@@ -20,22 +20,30 @@ use std::alloc::{AllocError, Global};
 ///
 /// # Errors
 /// Want of memory.
-#[tactic(auto, unfolding(crate::specs::ProblemText::problem_text))]
 pub fn print_problem(alloc: Global, problem: &Problem) -> Result<Vec<u8>, NoMemory>
     requires { IsProblem problem.now }
     ensures { IfOk result (λ text. text.items ≡ problem_text (system_of problem.now)) }
 {
-    let order = problem.signature.order();
+    let algebra = Algebra::new(&problem.signature, &problem.names);
+    whole_text(alloc, &algebra, &problem.matrix)
+}
+
+// The text of the problem with this matrix.
+#[tactic(auto, unfolding(crate::specs::ProblemText::problem_text))]
+fn whole_text(alloc: Global, algebra: &Algebra<'_>, matrix: &Matrix) -> Result<Vec<u8>, NoMemory>
+    requires { All (AllBelong algebra.now.signature.now) matrix.now.rows }
+    ensures { IfOk result (λ text. text.items ≡ problem_text (record { names = algebra.now.names.now; signature = algebra.now.signature.now; cols = matrix.now.cols; rows = rows_of matrix.now })) }
+{
     let mut text = Vec::new(alloc);
     text.extend_from_slice(b"ore 1\n")?;
-    append_order(&mut text, order)?;
-    append_declarations(&mut text, &problem.names, &problem.signature)?;
-    append_matrix(&mut text, problem)?;
+    append_order(&mut text, algebra.signature.order())?;
+    append_declarations(&mut text, algebra)?;
+    append_matrix(&mut text, algebra, matrix)?;
     text.extend_from_slice(b"end\n")?;
     Ok(text)
 }
 
-fn append_order(text: &mut Vec<u8>, order: Order) -> Result<(), AllocError>
+fn append_order(text: &mut Vec<u8>, order: Order) -> Result<(), NoMemory>
     ensures { OnOk result (text.new.items ≡ text.old.items ++ line (codes "order" ∷ order_word_of order ∷ [])) }
 {
     text.extend_from_slice(b"order ")?;
@@ -53,16 +61,12 @@ fn order_word(order: Order) -> &'static [u8]
     }
 }
 
-fn append_declarations(
-    text: &mut Vec<u8>,
-    names: &Names,
-    signature: &Signature,
-) -> Result<(), AllocError>
-    requires { length names.now ≡ length signature.now.kinds }
-    ensures { OnOk result (text.new.items ≡ text.old.items ++ flat_map (declaration_text names.now) (zip names.now signature.now.kinds)) }
+fn append_declarations(text: &mut Vec<u8>, algebra: &Algebra<'_>) -> Result<(), NoMemory>
+    ensures { OnOk result (text.new.items ≡ text.old.items ++ flat_map (declaration_text algebra.now.names.now) (zip algebra.now.names.now algebra.now.signature.now.kinds)) }
 {
+    let names = algebra.names;
     for k in 0..names.len() {
-        append_declaration(text, names, names.name(k), signature.kind(k))?;
+        append_declaration(text, names, names.name(k), algebra.signature.kind(k))?;
     }
     Ok(())
 }
@@ -72,7 +76,7 @@ fn append_declaration(
     names: &Names,
     name: &[u8],
     kind: VarKind,
-) -> Result<(), AllocError>
+) -> Result<(), NoMemory>
     ensures { OnOk result (text.new.items ≡ text.old.items ++ declaration_text names.now (name.now, kind)) }
 {
     text.extend_from_slice(kind_word(kind))?;
@@ -97,7 +101,7 @@ fn kind_word(kind: VarKind) -> &'static [u8]
 }
 
 // The words behind the name, each with a space before it.
-fn append_kind(text: &mut Vec<u8>, names: &Names, kind: VarKind) -> Result<(), AllocError>
+fn append_kind(text: &mut Vec<u8>, names: &Names, kind: VarKind) -> Result<(), NoMemory>
     ensures { OnOk result (text.new.items ≡ text.old.items ++ flat_map (λ w. 32 ∷ w) (kind_words names.now kind)) }
 {
     match kind {
@@ -110,15 +114,15 @@ fn append_kind(text: &mut Vec<u8>, names: &Names, kind: VarKind) -> Result<(), A
     }
 }
 
-fn append_step(text: &mut Vec<u8>, names: &Names, on: u8, step: u16) -> Result<(), AllocError>
+fn append_step(text: &mut Vec<u8>, names: &Names, on: u8, step: u16) -> Result<(), NoMemory>
     ensures { OnOk result (text.new.items ≡ text.old.items ++ 32 ∷ (get_or names.now on [] ++ 32 ∷ decimal step)) }
 {
     append_coordinate(text, names, on)?;
     text.push(b' ')?;
-    append_number(text, u64::from(step))
+    append_number(text, u128::from(step))
 }
 
-fn append_coordinate(text: &mut Vec<u8>, names: &Names, on: u8) -> Result<(), AllocError>
+fn append_coordinate(text: &mut Vec<u8>, names: &Names, on: u8) -> Result<(), NoMemory>
     ensures { OnOk result (text.new.items ≡ text.old.items ++ 32 ∷ get_or names.now on []) }
 {
     text.push(b' ')?;
@@ -132,37 +136,19 @@ fn name_at(names: &Names, k: usize) -> &[u8]
     if k < names.len() { names.name(k) } else { b"" }
 }
 
-fn append_number(text: &mut Vec<u8>, number: u64) -> Result<(), AllocError>
-    ensures { OnOk result (text.new.items ≡ text.old.items ++ decimal number) }
+fn append_matrix(text: &mut Vec<u8>, algebra: &Algebra<'_>, matrix: &Matrix) -> Result<(), NoMemory>
+    requires { All (AllBelong algebra.now.signature.now) matrix.now.rows }
+    ensures { OnOk result (text.new.items ≡ text.old.items ++ matrix_text algebra.now.names.now algebra.now.signature.now.order matrix.now.cols (rows_of matrix.now)) }
 {
-    let mut buffer = Buffer::new();
-    text.extend_from_slice(buffer.format(number).as_bytes())
-}
-
-fn append_matrix(text: &mut Vec<u8>, problem: &Problem) -> Result<(), NoMemory>
-    requires { IsProblem problem.now }
-    ensures { OnOk result (text.new.items ≡ text.old.items ++ matrix_text problem.now.names problem.now.signature.order problem.now.matrix.cols (rows_of problem.now.matrix)) }
-{
-    let matrix = &problem.matrix;
     append_sizes(text, matrix.rows(), matrix.cols())?;
     for k in 0..matrix.rows() {
-        append_row(
-            text,
-            &problem.signature,
-            &problem.names,
-            matrix.row(k).entries(),
-        )?;
+        append_row(text, algebra, matrix.row(k).entries())?;
     }
     Ok(())
 }
 
-fn append_sizes(text: &mut Vec<u8>, rows: usize, cols: usize) -> Result<(), AllocError>
+fn append_sizes(text: &mut Vec<u8>, rows: usize, cols: usize) -> Result<(), NoMemory>
     ensures { OnOk result (text.new.items ≡ text.old.items ++ line (codes "matrix" ∷ decimal rows ∷ decimal cols ∷ [])) }
 {
-    text.extend_from_slice(b"matrix ")?;
-    append_number(text, rows as u64)?;
-    text.push(b' ')?;
-    append_number(text, cols as u64)?;
-    text.push(b'\n')?;
-    Ok(())
+    append_line(text, b"matrix", &[rows as u128, cols as u128])
 }

@@ -3,7 +3,7 @@
 ghost use Rattle.std.specs.Prelude.{◌≡◌, [], true, false, length, map, drop, IfOk, MatchOption};
 ghost use Rattle.std.specs.List.{All, list_all};
 ghost use Rattle.ore_algebra.specs.Limits.{program};
-ghost use Rattle.ore_ring.specs.Belongs.{Belongs};
+ghost use Rattle.ore_ring.specs.Belongs.{Belongs, AllBelong};
 ghost use Rattle.ore_rows.specs.Stored.{HasColumns, sums_of};
 ghost use Rattle.ore_expr.specs.Evaluation.{IsOf, value_of};
 ghost use Rattle.ore_expr.specs.Parsing.{parse as parse_of};
@@ -35,7 +35,7 @@ pub(crate) fn rows(
     count: usize,
 ) -> Result<Vec<Row>, ProblemFault>
     ensures reads { Reads (λ rows. (map sums_of rows.items, cursor_of lines.new)) result (rows_after frame.now cols count (cursor_of lines.old)) }
-    ensures of { IfOk result (λ rows. All (All (Belongs frame.now.signature)) rows.items) }
+    ensures of { IfOk result (λ rows. All (AllBelong frame.now.signature) rows.items) }
     ensures wide { IfOk result (λ rows. HasColumns cols rows.items) }
     ensures same { lines.new.text ≡ lines.old.text }
 {
@@ -49,7 +49,7 @@ pub(crate) fn rows(
 #[tactic(auto, using(crate::proofs::ReadLemmas::fault_reads_on), unfolding(crate::specs::Problems::row_after))]
 fn row(alloc: Global, lines: &mut Lines, frame: &Frame, cols: usize) -> Result<Row, ProblemFault>
     ensures reads { Reads (λ row. (sums_of row, cursor_of lines.new)) result (row_after frame.now cols (cursor_of lines.old)) }
-    ensures of { IfOk result (All (Belongs frame.now.signature)) }
+    ensures of { IfOk result (AllBelong frame.now.signature) }
     ensures wide { IfOk result (λ row. length row ≡ cols) }
     ensures same { lines.new.text ≡ lines.old.text }
 {
@@ -84,7 +84,7 @@ fn entries(
     rest: &[u8],
 ) -> Result<Vec<Op>, ProblemFault>
     ensures reads { Reads (λ es. sums_of es.items) result (entries_of frame.now cols line rest.now) }
-    ensures of { IfOk result (λ es. All (Belongs frame.now.signature) es.items) }
+    ensures of { IfOk result (λ es. AllBelong frame.now.signature es.items) }
     ensures wide { IfOk result (λ es. length es.items ≡ cols) }
 {
     if cols == 0 {
@@ -173,7 +173,7 @@ fn evaluate_programs(
 ) -> Result<Vec<Op>, ProblemFault>
     requires { All (λ p. All (IsOf (length signature.now.kinds)) p.items) programs.now }
     ensures reads { Reads (λ es. sums_of es.items) result (evaluated signature.now line (map (λ p. p.items) programs.now)) }
-    ensures of { IfOk result (λ es. All (Belongs signature.now) es.items) }
+    ensures of { IfOk result (λ es. AllBelong signature.now es.items) }
     ensures wide { IfOk result (λ es. length es.items ≡ length programs.now) }
 {
     let ring = MixedRing::new(signature.copy());

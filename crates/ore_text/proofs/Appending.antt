@@ -39,17 +39,17 @@ not_past (suc k) (u ∷ ts) l e = not_past k ts (omega arith) e
 
 pub kept-zero : (t : Term) → t.1 ≡ whole (pos 0) → kept t ≡ []
 unfolding kept
-kept-zero t e = by (rationals.discrete t.1 rationals.none)
+kept-zero t e = by (rationals.discrete t.1 rationals.zero)
   where
-    by : (d : Dec (t.1 ≡ rationals.none)) → kept_unless d t ≡ []
+    by : (d : Dec (t.1 ≡ rationals.zero)) → kept_unless d t ≡ []
     by (yes e) = refl
     by (no n) = absurd (n e)
 
 pub kept-other : (t : Term) → t.1 ≢ whole (pos 0) → kept t ≡ t ∷ []
 unfolding kept
-kept-other t n = by (rationals.discrete t.1 rationals.none)
+kept-other t n = by (rationals.discrete t.1 rationals.zero)
   where
-    by : (d : Dec (t.1 ≡ rationals.none)) → kept_unless d t ≡ t ∷ []
+    by : (d : Dec (t.1 ≡ rationals.zero)) → kept_unless d t ≡ t ∷ []
     by (yes e) = absurd (n e)
     by (no m) = refl
 

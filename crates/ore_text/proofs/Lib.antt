@@ -4,6 +4,7 @@ pub mod Coefficients
 pub mod Exponents
 pub mod FaultyLines
 pub mod Known
+pub mod NumberLines
 pub mod NameLemmas
 pub mod Powers
 pub mod PrintableTerms

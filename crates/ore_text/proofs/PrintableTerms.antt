@@ -21,7 +21,7 @@ use Rattle.ore_monomial.specs.LetterRule.{Operator}
 use Rattle.ore_monomial.proofs.Monomials.{plain_cmp_total, plain_cmp_apart}
 use Rattle.ore_ring.specs.Terms.{Term, Terms, falling, AreApart}
 use Rattle.ore_ring.specs.Belongs.{OperatorOf}
-use Rattle.ore_ring.proofs.TermLaws.{back_order, back_apart, sum_at-falling}
+use Rattle.ore_monomial.proofs.FallingTerms.{back_order, back_apart, sum_at-falling}
 use Rattle.ore_ring.proofs.AllTerms.{at, AreDistinct, at_skip, at_own, sorted_distinct, distinct-terms, apart-terms, falls-falling}
 use Rattle.ore_text.specs.CanonicalParts.{IsPrintableTerm}
 use Rattle.ore_text.specs.Printable.{IsStorableTerm, IsStorable, IsPrintable}

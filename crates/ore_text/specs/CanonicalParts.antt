@@ -68,7 +68,7 @@ kept_unless (no n) t = t ∷ []
 
 -- no term where the coefficient is 0, else this one
 unfoldable pub kept : Term → Terms
-kept t = kept_unless (rationals.discrete t.1 rationals.none) t
+kept t = kept_unless (rationals.discrete t.1 rationals.zero) t
 
 -- its monomial is of the signature; its numbers and its degree are in the ranges of the program
 pub record IsPrintableTerm (s : Signature) (t : Term) : Type 0 where

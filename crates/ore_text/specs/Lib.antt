@@ -7,3 +7,4 @@ pub mod Lines
 pub mod FaultyLine
 pub mod Printable
 pub mod Laws
+pub mod OneProof

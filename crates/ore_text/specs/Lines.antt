@@ -1,8 +1,14 @@
 -- The lines of a text, each with its end, the byte 10; the last one may lack it.
+--     line            some words and the end of their line
 --     onto_first      a byte before the first of some pieces
 --     split_at        the pieces of a text between bytes of one value
 --     raw_lines       the lines with their ends
-use Rattle.std.specs.Prelude.{ℕ, nat_eq, if◌then◌else◌, List, [], ◌∷◌}
+use Rattle.std.specs.Prelude.{ℕ, nat_eq, if◌then◌else◌, List, [], ◌∷◌, ◌++◌}
+use Rattle.std.specs.List.{join_with_byte}
+
+-- the words with a space between each two, the byte 32, and the line end
+abbrev pub line : List (List ℕ) → List ℕ
+line words = join_with_byte 32 words ++ 10 ∷ []
 
 -- where there is no piece, the byte is one
 abbrev pub onto_first : ℕ → List (List ℕ) → List (List ℕ)

@@ -4,7 +4,7 @@
 //! What it finds is taken only where its canonical text is the text that was read.
 
 ghost use Rattle.std.specs.Prelude.{◌≡◌, ◌≢◌, ◌⊎◌, true, false, ℕ, ◌+◌, ◌<◌, ◌≤◌, ◌^◌, Bool, not, ◌==◌, if◌then◌else◌, nat_abs, ℤ, neg_ℤ, List, [], ◌++◌, length, drop, slice_index, decimal, codes, IsTrue, ◌↔◌, IfOk, IfSome, MatchOption, pos};
-ghost use Rattle.std.specs.List.{All, AllByRecursion, flat_map, position_or_len};
+ghost use Rattle.std.specs.List.{All, AllByRecursion, position_or_len};
 ghost use Rattle.std.specs.Char.{is_ascii_digit};
 ghost use Rattle.ore_rational.specs.Fraction.{Fraction, whole};
 ghost use Rattle.ore_monomial.specs.Monomial.{Monomial, degree};
@@ -14,11 +14,11 @@ ghost use Rattle.ore_ring.specs.Terms.{Term, IsBelowLast};
 ghost use Rattle.ore_text.specs.CanonicalParts.{starred, stays_bare, exponent_text, denominator_text, is_negative as is_negative_of, IsWordEnd, IsFactorEnd, IsTermEnd, terms_of, kept, IsPrintableTerm};
 ghost use Rattle.ore_text.specs.CanonicalText.{power_text, factor_texts, term_text, sign_text, later_text, operator_text};
 ghost use Rattle.ore_text.specs.Printable.{IsStorable, IsPrintable};
-ghost use Rattle.ore_text.specs.Names.{AreNames};
 ghost use Rattle.ore_text.specs.Names.{IsName, is_name_byte as name_byte};
 
+use crate::algebra::Algebra;
 use crate::names::Names;
-use crate::print::print_operator;
+use crate::print::append_operator;
 use ore_monomial::{Exps, NoMemory, Signature, compare};
 use ore_rational::Rational;
 use ore_ring::Op;
@@ -37,16 +37,32 @@ pub fn read_canonical(
     names: &Names,
     text: &[u8],
 ) -> Result<Option<Op>, NoMemory>
-    requires names { AreNames names.now }
-    requires count { length names.now ≡ length sig.now.kinds }
+    requires { length names.now ≡ length sig.now.kinds }
     ensures found { IfOk result (λ o. IfSome o (λ f. IsPrintable sig.now names.now f.sum × (text.now ≡ operator_text names.now sig.now.order f.sum))) }
     ensures of { IfOk result (λ o. IfSome o (Belongs sig.now)) }
     ensures only { IfOk result (λ o. (f : _) → IsPrintable sig.now names.now f → text.now ≡ operator_text names.now sig.now.order f → MatchOption o ⊥ (λ g. g.sum ≡ f)) }
 {
-    let Some(op) = walk(alloc, sig, names, text)? else {
+    operator_in(alloc, &Algebra::new(sig, names), text)
+}
+
+/// The operator whose canonical text this is, if there is one of the signature.
+///
+/// # Errors
+/// Want of memory.
+pub fn operator_in(
+    alloc: Global,
+    algebra: &Algebra<'_>,
+    text: &[u8],
+) -> Result<Option<Op>, NoMemory>
+    ensures found { IfOk result (λ o. IfSome o (λ f. IsPrintable algebra.now.signature.now algebra.now.names.now f.sum × (text.now ≡ operator_text algebra.now.names.now algebra.now.signature.now.order f.sum))) }
+    ensures of { IfOk result (λ o. IfSome o (Belongs algebra.now.signature.now)) }
+    ensures only { IfOk result (λ o. (f : _) → IsPrintable algebra.now.signature.now algebra.now.names.now f → text.now ≡ operator_text algebra.now.names.now algebra.now.signature.now.order f → MatchOption o ⊥ (λ g. g.sum ≡ f)) }
+{
+    let Some(op) = walk(alloc, algebra, text)? else {
         return Ok(None)
     };
-    let spelled = print_operator(alloc, sig, names, &op)?;
+    let mut spelled = Vec::new(alloc);
+    append_operator(&mut spelled, algebra, &op)?;
     if spelled.as_slice() != text {
         return Ok(None);
     }
@@ -54,15 +70,13 @@ pub fn read_canonical(
 }
 
 // What the lenient walk finds: the operator itself where the text is its canonical text.
-fn walk(alloc: Global, sig: &Signature, names: &Names, text: &[u8]) -> Result<Option<Op>, NoMemory>
-    requires names { AreNames names.now }
-    requires count { length names.now ≡ length sig.now.kinds }
-    ensures of { IfOk result (λ o. IfSome o (Belongs sig.now)) }
+fn walk(alloc: Global, algebra: &Algebra<'_>, text: &[u8]) -> Result<Option<Op>, NoMemory>
+    ensures of { IfOk result (λ o. IfSome o (Belongs algebra.now.signature.now)) }
     ensures storable { IfOk result (λ o. IfSome o (λ f. IsStorable f.sum)) }
-    ensures only { IfOk result (λ o. (f : _) → IsPrintable sig.now names.now f → text.now ≡ operator_text names.now sig.now.order f → MatchOption o ⊥ (λ g. g.sum ≡ f)) }
+    ensures only { IfOk result (λ o. (f : _) → IsPrintable algebra.now.signature.now algebra.now.names.now f → text.now ≡ operator_text algebra.now.names.now algebra.now.signature.now.order f → MatchOption o ⊥ (λ g. g.sum ≡ f)) }
 {
-    let mut op = Op::zero(alloc, sig.order());
-    if read_terms(&mut op, sig, names, text)? {
+    let mut op = Op::zero(alloc, algebra.signature.order());
+    if read_terms(&mut op, algebra, text)? {
         Ok(Some(op))
     } else {
         Ok(None)
@@ -70,21 +84,19 @@ fn walk(alloc: Global, sig: &Signature, names: &Names, text: &[u8]) -> Result<Op
 }
 
 // Adds the terms of a text to no terms. False where something unexpected stands in it.
-fn read_terms(op: &mut Op, sig: &Signature, names: &Names, text: &[u8]) -> Result<bool, NoMemory>
-    requires none { terms_of op.old ≡ [] }
-    requires names { AreNames names.now }
-    requires count { length names.now ≡ length sig.now.kinds }
+fn read_terms(op: &mut Op, algebra: &Algebra<'_>, text: &[u8]) -> Result<bool, NoMemory>
+    requires { terms_of op.old ≡ [] }
     ensures by { op.new.by ≡ op.old.by }
-    ensures good { All (IsPrintableTerm sig.now) (terms_of op.new) }
-    ensures only { IfOk result (λ b. (f : _) → op.old.by ≡ sig.now.order → IsPrintable sig.now names.now f → text.now ≡ operator_text names.now sig.now.order f → (b ≡ true) × (op.new.sum ≡ f)) }
+    ensures good { All (IsPrintableTerm algebra.now.signature.now) (terms_of op.new) }
+    ensures only { IfOk result (λ b. (f : _) → op.old.by ≡ algebra.now.signature.now.order → IsPrintable algebra.now.signature.now algebra.now.names.now f → text.now ≡ operator_text algebra.now.names.now algebra.now.signature.now.order f → (b ≡ true) × (op.new.sum ≡ f)) }
 {
     let (is_negative, start) = first_sign(text);
-    let Some(end) = take_term(op, sig, names, text, start, is_negative)? else {
+    let Some(end) = take_term(op, algebra, text, start, is_negative)? else {
         return Ok(false)
     };
     let mut at = end;
     while at < text.len() {
-        let Some(next) = take_later(op, sig, names, text, at)? else {
+        let Some(next) = take_later(op, algebra, text, at)? else {
             return Ok(false)
         };
         at = next;
@@ -95,45 +107,39 @@ fn read_terms(op: &mut Op, sig: &Signature, names: &Names, text: &[u8]) -> Resul
 // Adds the term that stands behind its sign at `at`. The place behind the term.
 fn take_later(
     op: &mut Op,
-    sig: &Signature,
-    names: &Names,
+    algebra: &Algebra<'_>,
     text: &[u8],
     at: usize,
 ) -> Result<Option<usize>, NoMemory>
-    requires at { at ≤ length text.now }
-    requires names { AreNames names.now }
-    requires count { length names.now ≡ length sig.now.kinds }
+    requires { at ≤ length text.now }
     ensures within { IfOk result (λ o. IfSome o (λ next. (at < next) × (next ≤ length text.now))) }
     ensures by { op.new.by ≡ op.old.by }
-    ensures good { All (IsPrintableTerm sig.now) (terms_of op.old) → All (IsPrintableTerm sig.now) (terms_of op.new) }
-    ensures only { IfOk result (λ o. (t : Term) (tail : List ℕ) → IsPrintableTerm sig.now t → IsTermEnd tail → IsBelowLast op.old.by (terms_of op.old) t.0 → drop at text.now ≡ later_text names.now t ++ tail
+    ensures good { All (IsPrintableTerm algebra.now.signature.now) (terms_of op.old) → All (IsPrintableTerm algebra.now.signature.now) (terms_of op.new) }
+    ensures only { IfOk result (λ o. (t : Term) (tail : List ℕ) → IsPrintableTerm algebra.now.signature.now t → IsTermEnd tail → IsBelowLast op.old.by (terms_of op.old) t.0 → drop at text.now ≡ later_text algebra.now.names.now t ++ tail
         → MatchOption o ⊥ (λ next. (drop next text.now ≡ tail) × (terms_of op.new ≡ terms_of op.old ++ kept t))) }
 {
     let Some(is_negative) = later_sign(&text[at..]) else {
         return Ok(None)
     };
-    take_term(op, sig, names, text, at + 3, is_negative)
+    take_term(op, algebra, text, at + 3, is_negative)
 }
 
 // Adds the term without its sign that stands at `at`. The place behind it.
 fn take_term(
     op: &mut Op,
-    sig: &Signature,
-    names: &Names,
+    algebra: &Algebra<'_>,
     text: &[u8],
     at: usize,
     is_negative: bool,
 ) -> Result<Option<usize>, NoMemory>
-    requires at { at ≤ length text.now }
-    requires names { AreNames names.now }
-    requires count { length names.now ≡ length sig.now.kinds }
+    requires { at ≤ length text.now }
     ensures within { IfOk result (λ o. IfSome o (λ next. (at ≤ next) × (next ≤ length text.now))) }
     ensures by { op.new.by ≡ op.old.by }
-    ensures good { All (IsPrintableTerm sig.now) (terms_of op.old) → All (IsPrintableTerm sig.now) (terms_of op.new) }
-    ensures only { IfOk result (λ o. (t : Term) (tail : List ℕ) → IsPrintableTerm sig.now t → IsTermEnd tail → is_negative ≡ is_negative_of t.1.num → (t.1 ≡ whole (pos 0)) ⊎ IsBelowLast op.old.by (terms_of op.old) t.0
-        → drop at text.now ≡ term_text names.now t ++ tail → MatchOption o ⊥ (λ next. (drop next text.now ≡ tail) × (terms_of op.new ≡ terms_of op.old ++ kept t))) }
+    ensures good { All (IsPrintableTerm algebra.now.signature.now) (terms_of op.old) → All (IsPrintableTerm algebra.now.signature.now) (terms_of op.new) }
+    ensures only { IfOk result (λ o. (t : Term) (tail : List ℕ) → IsPrintableTerm algebra.now.signature.now t → IsTermEnd tail → is_negative ≡ is_negative_of t.1.num → (t.1 ≡ whole (pos 0)) ⊎ IsBelowLast op.old.by (terms_of op.old) t.0
+        → drop at text.now ≡ term_text algebra.now.names.now t ++ tail → MatchOption o ⊥ (λ next. (drop next text.now ≡ tail) × (terms_of op.new ≡ terms_of op.old ++ kept t))) }
 {
-    let Some((term, length)) = read_term(sig, names, &text[at..], is_negative) else {
+    let Some((term, length)) = read_term(algebra, &text[at..], is_negative) else {
         return Ok(None)
     };
     if add_below(op, &term)? {
@@ -197,41 +203,36 @@ fn later_sign(text: &[u8]) -> Option<bool>
 
 // The term in front without its sign, and its length.
 fn read_term(
-    sig: &Signature,
-    names: &Names,
+    algebra: &Algebra<'_>,
     text: &[u8],
     is_negative: bool,
 ) -> Option<((Exps, Rational), usize)>
-    requires names { AreNames names.now }
-    requires count { length names.now ≡ length sig.now.kinds }
     ensures within { IfSome result (λ r. r.1 ≤ length text.now) }
-    ensures good { IfSome result (λ r. IsPrintableTerm sig.now r.0) }
-    ensures only { (t : Term) (tail : List ℕ) → IsPrintableTerm sig.now t → IsTermEnd tail → is_negative ≡ is_negative_of t.1.num → text.now ≡ term_text names.now t ++ tail
+    ensures good { IfSome result (λ r. IsPrintableTerm algebra.now.signature.now r.0) }
+    ensures only { (t : Term) (tail : List ℕ) → IsPrintableTerm algebra.now.signature.now t → IsTermEnd tail → is_negative ≡ is_negative_of t.1.num → text.now ≡ term_text algebra.now.names.now t ++ tail
         → MatchOption result ⊥ (λ r. (r.0 ≡ t) × (drop r.1 text.now ≡ tail)) }
 {
     let Some((coef, start)) = read_coefficient(text, is_negative) else {
         return None
     };
-    let Some((exps, length)) = read_exps(sig, names, &text[start..]) else {
+    let Some((exps, length)) = read_exps(algebra, &text[start..]) else {
         return None
     };
     Some(((exps, coef), start + length))
 }
 
 // The factors of the variables, each if it stands there, and the length of all.
-fn read_exps(sig: &Signature, names: &Names, text: &[u8]) -> Option<(Exps, usize)>
-    requires names { AreNames names.now }
-    requires count { length names.now ≡ length sig.now.kinds }
+fn read_exps(algebra: &Algebra<'_>, text: &[u8]) -> Option<(Exps, usize)>
     ensures within { IfSome result (λ r. r.1 ≤ length text.now) }
-    ensures of { IfSome result (λ r. MonomialOf sig.now r.0) }
+    ensures of { IfSome result (λ r. MonomialOf algebra.now.signature.now r.0) }
     ensures small { IfSome result (λ r. degree r.0 ≤ 32767) }
-    ensures only { (bare : Bool) (m : Monomial) (tail : List ℕ) → MonomialOf sig.now m → degree m ≤ 32767 → IsTermEnd tail → text.now ≡ starred bare (factor_texts names.now m.exponents) ++ tail
+    ensures only { (bare : Bool) (m : Monomial) (tail : List ℕ) → MonomialOf algebra.now.signature.now m → degree m ≤ 32767 → IsTermEnd tail → text.now ≡ starred bare (factor_texts algebra.now.names.now m.exponents) ++ tail
         → MatchOption result ⊥ (λ r. (r.0 ≡ m) × (drop r.1 text.now ≡ tail)) }
 {
     let mut values = [0; 12];
     let mut at = 0;
-    for k in 0..sig.count() {
-        let Some((exponent, length)) = read_power(&text[at..], names.name(k)) else {
+    for k in 0..algebra.signature.count() {
+        let Some((exponent, length)) = read_power(&text[at..], algebra.names.name(k)) else {
             return None
         };
         values[k] = exponent;

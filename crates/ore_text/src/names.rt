@@ -1,6 +1,6 @@
 //! Declared names.
 
-ghost use Rattle.std.specs.Prelude.{◌≡◌, ◌<◌, ◌++◌, [], ◌∷◌, length, slice_get, IfOk};
+ghost use Rattle.std.specs.Prelude.{◌≡◌, ◌<◌, [], length, slice_get, IfOk};
 ghost use Rattle.ore_text.specs.Names.{index_of};
 ghost use Rattle.ore_text.specs.Names.{IsAdded, AreNames};
 ghost use Rattle.ore_text.specs.Names.{IsName};

@@ -3,7 +3,7 @@ use Rattle.ore_cert.proofs.WholeLaws.{body_found, body_fails}
 use Rattle.ore_cert.proofs.bodies.read_ext_zero.Goals as goal
 
 pub returns-in_err-links : goal.returns-in_err-links
-returns-in_err-links c = body_fails c.args.sig.now c.args.names.now c.requires.names c.requires.count (ExtZero c.args.count) c.args.lines.now c.read_links_exact.new.lines c.from_residual.result c.in_err-links.field-0.0 c.from_residual.ensures.1 c.in_err-links.ensures
+returns-in_err-links c = body_fails c.args.algebra.now.signature.now c.args.algebra.now.names.now c.args.algebra.now.form c.args.algebra.now.count (ExtZero c.args.count) c.args.lines.now c.read_links_exact.new.lines c.from_residual.result c.in_err-links.field-0.0 c.from_residual.ensures.1 c.in_err-links.ensures
 
 pub returns : goal.returns
-returns c = body_found c.args.sig.now c.args.names.now c.requires.names c.requires.count (ExtZero c.args.count) c.args.lines.now (c.in_ok-links.links, c.in_ok-links.block) c.read_links_exact.new.lines c.in_ok-links.ensures
+returns c = body_found c.args.algebra.now.signature.now c.args.algebra.now.names.now c.args.algebra.now.form c.args.algebra.now.count (ExtZero c.args.count) c.args.lines.now (c.in_ok-links.links, c.in_ok-links.block) c.read_links_exact.new.lines c.in_ok-links.ensures

@@ -10,22 +10,22 @@ use Rattle.ore_cert.proofs.bodies.read_link.Goals as goal
 
 pub returns-in_err-l : goal.returns-in_err-l
 returns-in_err-l c =
-    let s = c.args.sig.now in
-    let names = c.args.names.now in
-    first_fails (matrix_format s names (codes "L")) (λ _. exact_format s names) (matrix_is s names c.requires.names c.requires.count (codes "L") refl) (λ _ _. exact_is s names c.requires.names c.requires.count) (link_format s names) (link_names s names c.requires.names c.requires.count)
+    let s = c.args.algebra.now.signature.now in
+    let names = c.args.algebra.now.names.now in
+    first_fails (matrix_format s names (codes "L")) (λ _. exact_format s names) (matrix_is s names c.args.algebra.now.form c.args.algebra.now.count (codes "L") refl) (λ _ _. exact_is s names c.args.algebra.now.form c.args.algebra.now.count) (link_format s names) (link_names s names c.args.algebra.now.form c.args.algebra.now.count)
     c.args.lines.now c.read_matrix_part.new.lines c.from_residual.result c.in_err-l.field-0.0 c.from_residual.ensures.1 c.in_err-l.ensures
 
 pub returns-in_err-block : goal.returns-in_err-block
 returns-in_err-block c =
-    let s = c.args.sig.now in
-    let names = c.args.names.now in
-    second_fails (matrix_format s names (codes "L")) (λ _. exact_format s names) (matrix_is s names c.requires.names c.requires.count (codes "L") refl) (λ _ _. exact_is s names c.requires.names c.requires.count) (link_format s names) (link_names s names c.requires.names c.requires.count)
+    let s = c.args.algebra.now.signature.now in
+    let names = c.args.algebra.now.names.now in
+    second_fails (matrix_format s names (codes "L")) (λ _. exact_format s names) (matrix_is s names c.args.algebra.now.form c.args.algebra.now.count (codes "L") refl) (λ _ _. exact_is s names c.args.algebra.now.form c.args.algebra.now.count) (link_format s names) (link_names s names c.args.algebra.now.form c.args.algebra.now.count)
     c.args.lines.now c.read_matrix_part.new.lines c.read_exact_part.new.lines c.in_ok-l.l c.from_residual-in_err-block.result c.in_err-block.field-0.0 c.from_residual-in_err-block.ensures.1 c.in_ok-l.ensures c.in_err-block.ensures
 
 pub returns : goal.returns
 unfolding link_names
 returns c =
-    let s = c.args.sig.now in
-    let names = c.args.names.now in
-    reads_both (matrix_format s names (codes "L")) (λ _. exact_format s names) (matrix_is s names c.requires.names c.requires.count (codes "L") refl) (λ _ _. exact_is s names c.requires.names c.requires.count) (link_format s names) (link_names s names c.requires.names c.requires.count)
+    let s = c.args.algebra.now.signature.now in
+    let names = c.args.algebra.now.names.now in
+    reads_both (matrix_format s names (codes "L")) (λ _. exact_format s names) (matrix_is s names c.args.algebra.now.form c.args.algebra.now.count (codes "L") refl) (λ _ _. exact_is s names c.args.algebra.now.form c.args.algebra.now.count) (link_format s names) (link_names s names c.args.algebra.now.form c.args.algebra.now.count)
     c.args.lines.now c.read_matrix_part.new.lines c.read_exact_part.new.lines c.in_ok-l.l c.in_ok-block.block c.in_ok-l.ensures c.in_ok-block.ensures

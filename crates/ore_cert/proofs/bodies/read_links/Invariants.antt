@@ -3,4 +3,4 @@ use Rattle.ore_cert.specs.WholeFormats.{link_format}
 use Rattle.ore_cert.proofs.bodies.read_links.Given as goal
 
 abbrev pub invariant-loop : goal.invariant-loop
-invariant-loop l = Finds (items (link_format l.sig l.names) l.counter) l.initial.lines l.links.items l.lines
+invariant-loop l = Finds (items (link_format l.algebra.signature.now l.algebra.names.now) l.counter) l.initial.lines l.links.items l.lines

@@ -7,20 +7,20 @@ use Rattle.ore_cert.proofs.bodies.read_with_exact.Goals as goal
 
 pub returns-in_err-matrix : goal.returns-in_err-matrix
 returns-in_err-matrix c =
-    let s = c.args.sig.now in
-    let names = c.args.names.now in
+    let s = c.args.algebra.now.signature.now in
+    let names = c.args.algebra.now.names.now in
     reads_err (with_exact s names c.args.name.now) c.args.lines.now c.read_matrix_part.new.lines c.from_residual.result c.in_err-matrix.field-0.0 c.from_residual.ensures.1
-    (first_fault (matrix_format s names c.args.name.now) (λ _. exact_format s names) (matrix_is s names c.requires.names c.requires.count c.args.name.now c.requires.name) (λ _ _. exact_is s names c.requires.names c.requires.count) c.args.lines.now c.in_err-matrix.field-0.0 c.in_err-matrix.ensures)
+    (first_fault (matrix_format s names c.args.name.now) (λ _. exact_format s names) (matrix_is s names c.args.algebra.now.form c.args.algebra.now.count c.args.name.now c.requires) (λ _ _. exact_is s names c.args.algebra.now.form c.args.algebra.now.count) c.args.lines.now c.in_err-matrix.field-0.0 c.in_err-matrix.ensures)
 
 pub returns-in_err-block : goal.returns-in_err-block
 returns-in_err-block c =
-    let s = c.args.sig.now in
-    let names = c.args.names.now in
+    let s = c.args.algebra.now.signature.now in
+    let names = c.args.algebra.now.names.now in
     reads_err (with_exact s names c.args.name.now) c.args.lines.now c.read_exact_part.new.lines c.from_residual-in_err-block.result c.in_err-block.field-0.0 c.from_residual-in_err-block.ensures.1
-    (second_fault (matrix_format s names c.args.name.now) (λ _. exact_format s names) (matrix_is s names c.requires.names c.requires.count c.args.name.now c.requires.name) (λ _ _. exact_is s names c.requires.names c.requires.count) c.args.lines.now c.read_matrix_part.new.lines c.in_ok-matrix.matrix c.in_err-block.field-0.0 c.in_ok-matrix.ensures c.in_err-block.ensures)
+    (second_fault (matrix_format s names c.args.name.now) (λ _. exact_format s names) (matrix_is s names c.args.algebra.now.form c.args.algebra.now.count c.args.name.now c.requires) (λ _ _. exact_is s names c.args.algebra.now.form c.args.algebra.now.count) c.args.lines.now c.read_matrix_part.new.lines c.in_ok-matrix.matrix c.in_err-block.field-0.0 c.in_ok-matrix.ensures c.in_err-block.ensures)
 
 pub returns : goal.returns
 returns c =
-    let s = c.args.sig.now in
-    let names = c.args.names.now in
-    finds_both (matrix_format s names c.args.name.now) (λ _. exact_format s names) (matrix_is s names c.requires.names c.requires.count c.args.name.now c.requires.name) (λ _ _. exact_is s names c.requires.names c.requires.count) c.args.lines.now c.read_matrix_part.new.lines c.read_exact_part.new.lines c.in_ok-matrix.matrix c.in_ok-block.block c.in_ok-matrix.ensures c.in_ok-block.ensures
+    let s = c.args.algebra.now.signature.now in
+    let names = c.args.algebra.now.names.now in
+    finds_both (matrix_format s names c.args.name.now) (λ _. exact_format s names) (matrix_is s names c.args.algebra.now.form c.args.algebra.now.count c.args.name.now c.requires) (λ _ _. exact_is s names c.args.algebra.now.form c.args.algebra.now.count) c.args.lines.now c.read_matrix_part.new.lines c.read_exact_part.new.lines c.in_ok-matrix.matrix c.in_ok-block.block c.in_ok-matrix.ensures c.in_ok-block.ensures

@@ -1,4 +1,5 @@
-use Rattle.ore_cert.specs.KindFormat.{kind_words, IsWrittenKind}
+use Rattle.ore_cert.specs.KindFormat.{IsWrittenKind}
+use Rattle.ore_cert.specs.KindWords.{kind_words}
 use Rattle.ore_parts.proofs.FormatReads.{finds_line, no_line_fault, other_line_fault}
 use Rattle.ore_cert.proofs.KindLaws.{kind_line}
 use Rattle.ore_cert.proofs.kind.read_kind.Goals as goal

@@ -8,8 +8,8 @@ use Rattle.ore_cert.proofs.print_whole.append_autonomous.Goals as goal
 
 pub returns : goal.returns
 returns c =
-    let names = c.args.names.now in
-    let o = c.args.sig.now.order in
+    let names = c.args.algebra.now.names.now in
+    let o = c.args.algebra.now.signature.now.order in
     let element = row_part names o (codes "element") c.args.element.now in
     let operator = operator_line names o (codes "operator") c.args.operator.now in
     let cofactor = row_part names o (codes "cofactor") c.args.cofactor.now in

@@ -10,23 +10,23 @@ expect-requires c = (codes "end", refl, refl)
 
 pub returns-in_err-cert : goal.returns-in_err-cert
 returns-in_err-cert c =
-    let s = c.args.sig.now in
-    let names = c.args.names.now in
-    first_fails (body_format s names c.args.kind) (λ _. last s names c.requires.names c.requires.count) (body_is s names c.requires.names c.requires.count c.args.kind) (λ _ _. last_is s names c.requires.names c.requires.count) (closed_format s names c.args.kind) (closed_names s names c.requires.names c.requires.count c.args.kind) c.args.lines.now c.read_body.new.lines c.from_residual.result c.in_err-cert.field-0.0
+    let s = c.args.algebra.now.signature.now in
+    let names = c.args.algebra.now.names.now in
+    first_fails (body_format s names c.args.kind) (λ _. last s names c.args.algebra.now.form c.args.algebra.now.count) (body_is s names c.args.algebra.now.form c.args.algebra.now.count c.args.kind) (λ _ _. last_is s names c.args.algebra.now.form c.args.algebra.now.count) (closed_format s names c.args.kind) (closed_names s names c.args.algebra.now.form c.args.algebra.now.count c.args.kind) c.args.lines.now c.read_body.new.lines c.from_residual.result c.in_err-cert.field-0.0
     c.from_residual.ensures.1 c.in_err-cert.ensures
 
 pub returns-in_err-expect : goal.returns-in_err-expect
 returns-in_err-expect c =
-    let s = c.args.sig.now in
-    let names = c.args.names.now in
-    second_fails (body_format s names c.args.kind) (λ _. last s names c.requires.names c.requires.count) (body_is s names c.requires.names c.requires.count c.args.kind) (λ _ _. last_is s names c.requires.names c.requires.count) (closed_format s names c.args.kind) (closed_names s names c.requires.names c.requires.count c.args.kind) c.args.lines.now c.read_body.new.lines c.expect.new.self c.in_ok-cert.cert
+    let s = c.args.algebra.now.signature.now in
+    let names = c.args.algebra.now.names.now in
+    second_fails (body_format s names c.args.kind) (λ _. last s names c.args.algebra.now.form c.args.algebra.now.count) (body_is s names c.args.algebra.now.form c.args.algebra.now.count c.args.kind) (λ _ _. last_is s names c.args.algebra.now.form c.args.algebra.now.count) (closed_format s names c.args.kind) (closed_names s names c.args.algebra.now.form c.args.algebra.now.count c.args.kind) c.args.lines.now c.read_body.new.lines c.expect.new.self c.in_ok-cert.cert
     c.from_residual-in_err-expect.result c.in_err-expect.field-0.0 c.from_residual-in_err-expect.ensures.1 c.in_ok-cert.ensures
     (fixed_fault (codes "end\n") (codes "end", refl, refl) c.read_body.new.lines c.in_err-expect.field-0.0 c.in_err-expect.ensures.err)
 
 pub returns : goal.returns
 unfolding closed_names
 returns c =
-    let s = c.args.sig.now in
-    let names = c.args.names.now in
-    reads_both (body_format s names c.args.kind) (λ _. last s names c.requires.names c.requires.count) (body_is s names c.requires.names c.requires.count c.args.kind) (λ _ _. last_is s names c.requires.names c.requires.count) (closed_format s names c.args.kind) (closed_names s names c.requires.names c.requires.count c.args.kind) c.args.lines.now c.read_body.new.lines c.expect.new.self c.in_ok-cert.cert tt c.in_ok-cert.ensures
+    let s = c.args.algebra.now.signature.now in
+    let names = c.args.algebra.now.names.now in
+    reads_both (body_format s names c.args.kind) (λ _. last s names c.args.algebra.now.form c.args.algebra.now.count) (body_is s names c.args.algebra.now.form c.args.algebra.now.count c.args.kind) (λ _ _. last_is s names c.args.algebra.now.form c.args.algebra.now.count) (closed_format s names c.args.kind) (closed_names s names c.args.algebra.now.form c.args.algebra.now.count c.args.kind) c.args.lines.now c.read_body.new.lines c.expect.new.self c.in_ok-cert.cert tt c.in_ok-cert.ensures
     (finds_fixed (codes "end\n") (codes "end", refl, refl) c.read_body.new.lines c.expect.new.self c.in_ok-expect.ensures.ok.0 c.in_ok-expect.ensures.ok.1)

@@ -8,13 +8,13 @@ use Rattle.ore_cert.proofs.whole.read_of_kind.Goals as goal
 
 pub returns-in_err-kind : goal.returns-in_err-kind
 returns-in_err-kind c =
-    let s = c.args.sig.now in
-    let names = c.args.names.now in
-    first_fails kind_format (closed_format s names) kind_is (λ k h. closed_is s names c.requires.names c.requires.count k) (kinds_format s names) (kinds_names s names c.requires.names c.requires.count) c.args.lines.now c.read_kind.new.lines c.from_residual.result c.in_err-kind.field-0.0 c.from_residual.ensures.1 c.in_err-kind.ensures
+    let s = c.args.algebra.now.signature.now in
+    let names = c.args.algebra.now.names.now in
+    first_fails kind_format (closed_format s names) kind_is (λ k h. closed_is s names c.args.algebra.now.form c.args.algebra.now.count k) (kinds_format s names) (kinds_names s names c.args.algebra.now.form c.args.algebra.now.count) c.args.lines.now c.read_kind.new.lines c.from_residual.result c.in_err-kind.field-0.0 c.from_residual.ensures.1 c.in_err-kind.ensures
 
 pub returns : goal.returns
 unfolding kinds_names
 returns c =
-    let s = c.args.sig.now in
-    let names = c.args.names.now in
-    reads_last kind_format (closed_format s names) kind_is (λ k h. closed_is s names c.requires.names c.requires.count k) (kinds_format s names) (kinds_names s names c.requires.names c.requires.count) (λ k d. refl) c.args.lines.now c.read_kind.new.lines c.read_closed.new.lines c.in_ok-kind.kind c.read_closed.result c.in_ok-kind.ensures c.read_closed.ensures
+    let s = c.args.algebra.now.signature.now in
+    let names = c.args.algebra.now.names.now in
+    reads_last kind_format (closed_format s names) kind_is (λ k h. closed_is s names c.args.algebra.now.form c.args.algebra.now.count k) (kinds_format s names) (kinds_names s names c.args.algebra.now.form c.args.algebra.now.count) (λ k d. refl) c.args.lines.now c.read_kind.new.lines c.read_closed.new.lines c.in_ok-kind.kind c.read_closed.result c.in_ok-kind.ensures c.read_closed.ensures

@@ -8,7 +8,7 @@ returns-clause-gives g c = constant_is c.order.result c.zero.result c.args.numbe
 
 pub returns-clause-of : goal.returns-clause-of
 returns-clause-of g c =
-    let s = g.R.OreRing.signature_of c.args.ring.now in
+    let s = g.R.OreRing.sig c.args.ring.now in
     term_belongs s c.order.result c.zero.result c.args.number c.in_ok-term.field-0 c.in_ok-term.ensures
     (c.order.ensures ∙ ap (λ (v : Signature). v.order) c.signature.ensures)
     (subst (MonomialOf s) (sym c.zero.ensures) (unit_of s))

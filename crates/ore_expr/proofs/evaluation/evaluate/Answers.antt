@@ -13,7 +13,7 @@ use Rattle.ore_expr.proofs.evaluation.evaluate.Goals as goal
 
 pub loop-instruction-init : goal.loop-instruction-init
 loop-instruction-init g c =
-    let s = g.R.OreRing.signature_of c.args.ring.now in
+    let s = g.R.OreRing.sig c.args.ring.now in
     record {
       told = ap (λ t. fold_within (applied program s) (values_of t) c.args.instructions.now) c.new-stack.ensures.items ∙ ap (λ t. fold_within (applied program s) t c.args.instructions.now) values_of-nil;
       belongs = subst (All (Belongs s)) (sym c.new-stack.ensures.items) (All-nil (Belongs s));
@@ -21,18 +21,18 @@ loop-instruction-init g c =
 
 pub returns-in-Some-clause-gives : goal.returns-in-Some-clause-gives
 returns-in-Some-clause-gives g c =
-    let s = g.R.OreRing.signature_of c.args.ring.now in
+    let s = g.R.OreRing.sig c.args.ring.now in
     top_value program s c.args.instructions.now c.loop-instruction.stack.items c.pop.new.self.items c.in-Some.top c.in-Some.ensures.items
     (last_stack program s c.args.instructions.now c.loop-instruction.instruction-index (values_of c.loop-instruction.stack.items) c.loop-instruction-test.false c.loop-instruction.invariant.told)
     ∙ ap (λ (w : Ordered). Ok w.sum) (sym c.in_ok-finish-in-Some.ensures)
 
 pub returns-in-Some-clause-of : goal.returns-in-Some-clause-of
 returns-in-Some-clause-of g c =
-    subst (Belongs (g.R.OreRing.signature_of c.args.ring.now)) (sym c.in_ok-finish-in-Some.ensures) (All-pop (Belongs (g.R.OreRing.signature_of c.args.ring.now)) c.loop-instruction.stack.items c.pop.new.self.items (Some c.in-Some.top) c.in-Some.ensures.items c.loop-instruction.invariant.belongs).1
+    subst (Belongs (g.R.OreRing.sig c.args.ring.now)) (sym c.in_ok-finish-in-Some.ensures) (All-pop (Belongs (g.R.OreRing.sig c.args.ring.now)) c.loop-instruction.stack.items c.pop.new.self.items (Some c.in-Some.top) c.in-Some.ensures.items c.loop-instruction.invariant.belongs).1
 
 pub returns-clause-gives : goal.returns-clause-gives
 returns-clause-gives g c =
-    let s = g.R.OreRing.signature_of c.args.ring.now in
+    let s = g.R.OreRing.sig c.args.ring.now in
     let nothing : length c.loop-instruction.stack.items ≡ 0 = search rules in
     top_none program s c.args.instructions.now c.loop-instruction.stack.items nothing
     (last_stack program s c.args.instructions.now c.loop-instruction.instruction-index (values_of c.loop-instruction.stack.items) c.loop-instruction-test.false c.loop-instruction.invariant.told)
@@ -40,4 +40,4 @@ returns-clause-gives g c =
 
 pub returns-clause-of : goal.returns-clause-of
 returns-clause-of g c =
-    zero_belongs (g.R.OreRing.signature_of c.args.ring.now) c.order.result c.zero.result c.zero.ensures (c.order.ensures ∙ ap (λ (v : Signature). v.order) c.signature.ensures)
+    zero_belongs (g.R.OreRing.sig c.args.ring.now) c.order.result c.zero.result c.zero.ensures (c.order.ensures ∙ ap (λ (v : Signature). v.order) c.signature.ensures)

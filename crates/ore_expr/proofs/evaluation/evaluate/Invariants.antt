@@ -8,6 +8,6 @@ use Rattle.ore_expr.proofs.evaluation.evaluate.Given as goal
 
 abbrev pub invariant-loop-instruction : goal.invariant-loop-instruction
 invariant-loop-instruction g l = record {
-  told : fold_within (applied program (g.R.OreRing.signature_of l.ring)) (values_of l.stack.items) (drop l.instruction-index l.instructions) ≡ fold_within (applied program (g.R.OreRing.signature_of l.ring)) [] l.instructions;
-  belongs : All (Belongs (g.R.OreRing.signature_of l.ring)) l.stack.items;
+  told : fold_within (applied program (g.R.OreRing.sig l.ring)) (values_of l.stack.items) (drop l.instruction-index l.instructions) ≡ fold_within (applied program (g.R.OreRing.sig l.ring)) [] l.instructions;
+  belongs : All (Belongs (g.R.OreRing.sig l.ring)) l.stack.items;
 }

@@ -10,7 +10,7 @@ use Rattle.ore_expr.proofs.evaluation.opposite.Goals as goal
 
 pub sub-requires-clause-a_of : goal.sub-requires-clause-a_of
 sub-requires-clause-a_of g c =
-    zero_belongs (g.R.OreRing.signature_of c.args.ring.now) c.order.result c.zero-nothing.result c.zero-nothing.ensures (c.order.ensures ∙ ap (λ (v : Signature). v.order) c.signature.ensures)
+    zero_belongs (g.R.OreRing.sig c.args.ring.now) c.order.result c.zero-nothing.result c.zero-nothing.ensures (c.order.ensures ∙ ap (λ (v : Signature). v.order) c.signature.ensures)
 
 pub returns-clause-gives : goal.returns-clause-gives
 returns-clause-gives g c =

@@ -7,6 +7,6 @@ use Rattle.ore_expr.proofs.evaluation.power.Given as goal
 
 abbrev pub invariant-loop : goal.invariant-loop
 invariant-loop g l = record {
-  told : power_within program (g.R.OreRing.signature_of l.ring) l.counter l.f.sum ≡ Ok l.product.sum;
-  belongs : Belongs (g.R.OreRing.signature_of l.ring) l.product;
+  told : power_within program (g.R.OreRing.sig l.ring) l.counter l.f.sum ≡ Ok l.product.sum;
+  belongs : Belongs (g.R.OreRing.sig l.ring) l.product;
 }

@@ -5,8 +5,7 @@ use Rattle.ore_algebra.specs.Limits.{program}
 use Rattle.ore_monomial.proofs.Stops.{fails_like}
 use Rattle.ore_ring.specs.Terms.{falling}
 use Rattle.ore_ring.specs.Within.{plus_within}
-use Rattle.ore_ring.proofs.MergeIs.{C}
-use Rattle.ore_ring.proofs.TermLaws.{collect-falling}
+use Rattle.ore_ring.proofs.TermLaws.{collect-falling, C}
 use Rattle.ore_expr.proofs.TermSums as Sums
 use Rattle.ore_expr.proofs.operand.add_terms.Goals as goal
 

@@ -2,7 +2,7 @@ use Rattle.std.proofs.Common.{◌≡◌, drop}
 use Rattle.ore_algebra.specs.Limits.{program}
 use Rattle.ore_ring.specs.Terms.{falling}
 use Rattle.ore_ring.specs.Within.{plus_within}
-use Rattle.ore_ring.proofs.MergeIs.{C}
+use Rattle.ore_ring.proofs.TermLaws.{C}
 use Rattle.ore_expr.proofs.operand.add_terms.Given as goal
 
 abbrev pub invariant-loop-k : goal.invariant-loop-k

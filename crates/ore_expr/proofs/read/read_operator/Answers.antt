@@ -17,9 +17,9 @@ returns-in_err-instructions-clause-read g c =
 pub returns-in_err-value-clause-read : goal.returns-in_err-value-clause-read
 returns-in_err-value-clause-read g c =
     let p = err_from_is_err_and c.from_residual-in_err-value.result c.from_residual-in_err-value.ensures.1 in
-    rw (p.1, p.2) (read_stop (reads_expressions value_of-expression_code) finds_faults (g.R.OreRing.signature_of c.args.ring.now) _ _ _ _ c.in_ok-instructions.ensures.reads
-    (subst (λ (p : List Instruction). Fails c.in_err-value.field-0.0 (value_of program (g.R.OreRing.signature_of c.args.ring.now) p)) c.deref.ensures.value c.in_err-value.ensures.gives))
+    rw (p.1, p.2) (read_stop (reads_expressions value_of-expression_code) finds_faults (g.R.OreRing.sig c.args.ring.now) _ _ _ _ c.in_ok-instructions.ensures.reads
+    (subst (λ (p : List Instruction). Fails c.in_err-value.field-0.0 (value_of program (g.R.OreRing.sig c.args.ring.now) p)) c.deref.ensures.value c.in_err-value.ensures.gives))
 
 pub returns-clause-read : goal.returns-clause-read
-returns-clause-read g c = read_value (reads_expressions value_of-expression_code) finds_faults (g.R.OreRing.signature_of c.args.ring.now) _ _ _ c.in_ok-value.value c.in_ok-instructions.ensures.reads
-    (ap (value_of program (g.R.OreRing.signature_of c.args.ring.now)) (sym c.deref.ensures.value) ∙ c.in_ok-value.ensures.gives)
+returns-clause-read g c = read_value (reads_expressions value_of-expression_code) finds_faults (g.R.OreRing.sig c.args.ring.now) _ _ _ c.in_ok-value.value c.in_ok-instructions.ensures.reads
+    (ap (value_of program (g.R.OreRing.sig c.args.ring.now)) (sym c.deref.ensures.value) ∙ c.in_ok-value.ensures.gives)

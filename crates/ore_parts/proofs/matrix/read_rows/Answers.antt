@@ -9,40 +9,40 @@ use Rattle.ore_parts.proofs.matrix.read_rows.Goals as goal
 
 pub returns-in_err-row : goal.returns-in_err-row
 returns-in_err-row c =
-    let s = c.args.sig.now in
-    let names = c.args.names.now in
+    let s = c.args.algebra.now.signature.now in
+    let names = c.args.algebra.now.names.now in
     let cols = c.args.cols in
     let few : c.loop.counter < c.args.count = omega arith in
     reads_err (rows_format s names c.args.count cols) c.args.lines.now c.read_one_row.new.lines c.from_residual.result c.in_err-row.field-0.0 c.from_residual.ensures.1
-    (renamed_fault (items (stored_row_format s names cols) c.args.count) (rows_format s names c.args.count cols) (rows_names s names c.requires.names c.requires.count c.args.count cols) c.args.lines.now c.in_err-row.field-0.0
-    (items_fault (stored_row_format s names cols) (stored_row_is s names c.requires.names c.requires.count cols) c.args.lines.now c.loop.lines c.loop.rows.items c.loop.counter c.args.count c.in_err-row.field-0.0 c.loop.invariant few c.in_err-row.ensures))
+    (renamed_fault (items (stored_row_format s names cols) c.args.count) (rows_format s names c.args.count cols) (rows_names s names c.args.algebra.now.form c.args.algebra.now.count c.args.count cols) c.args.lines.now c.in_err-row.field-0.0
+    (items_fault (stored_row_format s names cols) (stored_row_is s names c.args.algebra.now.form c.args.algebra.now.count cols) c.args.lines.now c.loop.lines c.loop.rows.items c.loop.counter c.args.count c.in_err-row.field-0.0 c.loop.invariant few c.in_err-row.ensures))
 
 pub loop-init : goal.loop-init
 loop-init c =
-    let s = c.args.sig.now in
-    let names = c.args.names.now in
-    subst (λ xs. Finds (items (stored_row_format s names c.args.cols) 0) c.args.lines.now xs c.args.lines.now) (sym c.new-rows.ensures.items) (finds_none (stored_row_format s names c.args.cols) (stored_row_is s names c.requires.names c.requires.count c.args.cols) c.args.lines.now)
+    let s = c.args.algebra.now.signature.now in
+    let names = c.args.algebra.now.names.now in
+    subst (λ xs. Finds (items (stored_row_format s names c.args.cols) 0) c.args.lines.now xs c.args.lines.now) (sym c.new-rows.ensures.items) (finds_none (stored_row_format s names c.args.cols) (stored_row_is s names c.args.algebra.now.form c.args.algebra.now.count c.args.cols) c.args.lines.now)
 
 pub loop-preserved : goal.loop-preserved
 loop-preserved c =
-    let s = c.args.sig.now in
-    let names = c.args.names.now in
-    finds_more (stored_row_format s names c.args.cols) (stored_row_is s names c.requires.names c.requires.count c.args.cols) c.args.lines.now c.loop.lines c.read_one_row.new.lines c.loop.rows.items c.push.new.self.items c.in_ok-row.row c.loop.counter
+    let s = c.args.algebra.now.signature.now in
+    let names = c.args.algebra.now.names.now in
+    finds_more (stored_row_format s names c.args.cols) (stored_row_is s names c.args.algebra.now.form c.args.algebra.now.count c.args.cols) c.args.lines.now c.loop.lines c.read_one_row.new.lines c.loop.rows.items c.push.new.self.items c.in_ok-row.row c.loop.counter
     c.loop.invariant c.in_ok-row.ensures c.in_ok-push.ensures.items
 
 pub from_rows-requires-clause-fits : goal.from_rows-requires-clause-fits
 from_rows-requires-clause-fits c =
-    let s = c.args.sig.now in
-    let names = c.args.names.now in
-    widths s names c.args.cols c.loop.rows.items (rows_fit s names c.requires.names c.requires.count c.args.cols c.loop.rows.items c.loop.invariant.may.1)
+    let s = c.args.algebra.now.signature.now in
+    let names = c.args.algebra.now.names.now in
+    widths s names c.args.cols c.loop.rows.items (rows_fit s names c.args.algebra.now.form c.args.algebra.now.count c.args.cols c.loop.rows.items c.loop.invariant.may.1)
 
 pub returns : goal.returns
 unfolding rows_names
 returns c =
-    let s = c.args.sig.now in
-    let names = c.args.names.now in
+    let s = c.args.algebra.now.signature.now in
+    let names = c.args.algebra.now.names.now in
     let cols = c.args.cols in
     let all : c.loop.counter ≡ c.args.count = omega (arith, c.loop.auto.counter-end) in
     subst (λ (m : OperatorMatrix). Finds (rows_format s names c.args.count cols) c.args.lines.now m c.loop.lines) (sym c.from_rows.ensures)
-    (finds_renamed (items (stored_row_format s names cols) c.args.count) (rows_format s names c.args.count cols) (rows_names s names c.requires.names c.requires.count c.args.count cols) c.args.lines.now c.loop.rows.items c.loop.lines
+    (finds_renamed (items (stored_row_format s names cols) c.args.count) (rows_format s names c.args.count cols) (rows_names s names c.args.algebra.now.form c.args.algebra.now.count c.args.count cols) c.args.lines.now c.loop.rows.items c.loop.lines
     (subst (λ n. Finds (items (stored_row_format s names cols) n) c.args.lines.now c.loop.rows.items c.loop.lines) all c.loop.invariant))

@@ -19,34 +19,34 @@ steps_are s names are fit e = items_is (step_format s names) (step_is s names ar
 
 pub returns-in_err-i : goal.returns-in_err-i
 returns-in_err-i c =
-    let s = c.args.sig.now in
-    let names = c.args.names.now in
-    first_fails entry_line_format (steps_of s names c.requires.names c.requires.count) lines_are (λ e h. steps_are s names c.requires.names c.requires.count e) (entry_format s names) (entry_names s names c.requires.names c.requires.count)
+    let s = c.args.algebra.now.signature.now in
+    let names = c.args.algebra.now.names.now in
+    first_fails entry_line_format (steps_of s names c.args.algebra.now.form c.args.algebra.now.count) lines_are (λ e h. steps_are s names c.args.algebra.now.form c.args.algebra.now.count e) (entry_format s names) (entry_names s names c.args.algebra.now.form c.args.algebra.now.count)
     c.args.lines.now c.read_entry_line.new.lines c.from_residual.result c.in_err-i.field-0.0 c.from_residual.ensures.1 c.in_err-i.ensures
 
 pub returns-in_err-steps-in-PairLine : goal.returns-in_err-steps-in-PairLine
 returns-in_err-steps-in-PairLine c =
-    let s = c.args.sig.now in
-    let names = c.args.names.now in
+    let s = c.args.algebra.now.signature.now in
+    let names = c.args.algebra.now.names.now in
     let line = subst (λ e. Finds entry_line_format c.args.lines.now e c.read_entry_line.new.lines) c.in-PairLine.is c.in_ok-i.ensures in
-    second_fails entry_line_format (steps_of s names c.requires.names c.requires.count) lines_are (λ e h. steps_are s names c.requires.names c.requires.count e) (entry_format s names) (entry_names s names c.requires.names c.requires.count)
+    second_fails entry_line_format (steps_of s names c.args.algebra.now.form c.args.algebra.now.count) lines_are (λ e h. steps_are s names c.args.algebra.now.form c.args.algebra.now.count e) (entry_format s names) (entry_names s names c.args.algebra.now.form c.args.algebra.now.count)
     c.args.lines.now c.read_entry_line.new.lines c.read_steps.new.lines (PairLine c.in-PairLine.i c.in-PairLine.j c.in-PairLine.count) c.from_residual-in_err-steps-in-PairLine.result c.in_err-steps-in-PairLine.field-0.0
     c.from_residual-in_err-steps-in-PairLine.ensures.1 line c.in_err-steps-in-PairLine.ensures
 
 pub returns-in_ok-steps-in-PairLine : goal.returns-in_ok-steps-in-PairLine
 unfolding entry_names
 returns-in_ok-steps-in-PairLine c =
-    let s = c.args.sig.now in
-    let names = c.args.names.now in
+    let s = c.args.algebra.now.signature.now in
+    let names = c.args.algebra.now.names.now in
     let line = subst (λ e. Finds entry_line_format c.args.lines.now e c.read_entry_line.new.lines) c.in-PairLine.is c.in_ok-i.ensures in
-    reads_both entry_line_format (steps_of s names c.requires.names c.requires.count) lines_are (λ e h. steps_are s names c.requires.names c.requires.count e) (entry_format s names) (entry_names s names c.requires.names c.requires.count)
+    reads_both entry_line_format (steps_of s names c.args.algebra.now.form c.args.algebra.now.count) lines_are (λ e h. steps_are s names c.args.algebra.now.form c.args.algebra.now.count e) (entry_format s names) (entry_names s names c.args.algebra.now.form c.args.algebra.now.count)
     c.args.lines.now c.read_entry_line.new.lines c.read_steps.new.lines (PairLine c.in-PairLine.i c.in-PairLine.j c.in-PairLine.count) c.in_ok-steps-in-PairLine.steps line c.in_ok-steps-in-PairLine.ensures
 
 pub returns-in-SkipLine : goal.returns-in-SkipLine
 unfolding entry_names
 returns-in-SkipLine c =
-    let s = c.args.sig.now in
-    let names = c.args.names.now in
+    let s = c.args.algebra.now.signature.now in
+    let names = c.args.algebra.now.names.now in
     let line = subst (λ e. Finds entry_line_format c.args.lines.now e c.read_entry_line.new.lines) c.in-SkipLine.is c.in_ok-i.ensures in
-    reads_both entry_line_format (steps_of s names c.requires.names c.requires.count) lines_are (λ e h. steps_are s names c.requires.names c.requires.count e) (entry_format s names) (entry_names s names c.requires.names c.requires.count)
-    c.args.lines.now c.read_entry_line.new.lines c.read_entry_line.new.lines (SkipLine c.in-SkipLine.i c.in-SkipLine.j c.in-SkipLine.via) [] line (finds_none (step_format s names) (step_is s names c.requires.names c.requires.count) c.read_entry_line.new.lines)
+    reads_both entry_line_format (steps_of s names c.args.algebra.now.form c.args.algebra.now.count) lines_are (λ e h. steps_are s names c.args.algebra.now.form c.args.algebra.now.count e) (entry_format s names) (entry_names s names c.args.algebra.now.form c.args.algebra.now.count)
+    c.args.lines.now c.read_entry_line.new.lines c.read_entry_line.new.lines (SkipLine c.in-SkipLine.i c.in-SkipLine.j c.in-SkipLine.via) [] line (finds_none (step_format s names) (step_is s names c.args.algebra.now.form c.args.algebra.now.count) c.read_entry_line.new.lines)

@@ -3,4 +3,4 @@ use Rattle.ore_parts.proofs.PrintedItems.{printed_more}
 use Rattle.ore_parts.proofs.print_block.append_entries.Goals as goal
 
 pub loop-k-preserved : goal.loop-k-preserved
-loop-k-preserved c = printed_more (entry_text c.args.names.now c.args.sig.now.order) c.args.pairs.now c.loop-k.k c.get.result.now c.args.out.now.items c.loop-k.out.items c.append_entry.new.out.items c.get.ensures (c.in_ok-append_entry.ensures {u = tt}) c.loop-k.invariant
+loop-k-preserved c = printed_more (entry_text c.args.algebra.now.names.now c.args.algebra.now.signature.now.order) c.args.pairs.now c.loop-k.k c.get.result.now c.args.out.now.items c.loop-k.out.items c.append_entry.new.out.items c.get.ensures (c.in_ok-append_entry.ensures {u = tt}) c.loop-k.invariant

@@ -20,15 +20,15 @@ behind_word words step rest e f = append_cancel_left (codes "step ") step rest (
 
 pub returns-in_default-place_in : goal.returns-in_default-place_in
 returns-in_default-place_in c t h e =
-    let f = operator_text c.args.names.now c.args.sig.now.order (step_operator rationals t) in
+    let f = operator_text c.args.algebra.now.names.now c.args.algebra.now.signature.now.order (step_operator rationals t) in
     let front = is_front c.args.words.now (codes "step ") c.in-Some.step.now c.in-Some.ensures.cases.0 c.in-Some.ensures.cases.1 in
     let cut = place_cut c.in-Some-cut_at.place.now c.in-Some-cut_at.term.now c.in-Some.step.now t.index f c.in-Some-cut_at.ensures (behind_word c.args.words.now c.in-Some.step.now (place t.index ++ 32 ∷ f) front e) in
     c.in_default-place_in.ensures t.index h.index cut.0
 
 pub returns-in-None : goal.returns-in-None
 returns-in-None c t h e =
-    let f = operator_text c.args.names.now c.args.sig.now.order (step_operator rationals t) in
+    let f = operator_text c.args.algebra.now.names.now c.args.algebra.now.signature.now.order (step_operator rationals t) in
     let front = is_front c.args.words.now (codes "step ") c.in-Some.step.now c.in-Some.ensures.cases.0 c.in-Some.ensures.cases.1 in
     let cut = place_cut c.in-Some-cut_at.place.now c.in-Some-cut_at.term.now c.in-Some.step.now t.index f c.in-Some-cut_at.ensures (behind_word c.args.words.now c.in-Some.step.now (place t.index ++ 32 ∷ f) front e) in
-    subst (Spells (λ (u : Monomial × Fraction). operator_text c.args.names.now c.args.sig.now.order (single rationals plain_cmp u.0 u.1)) (λ u. (u.1 ≢ rationals.none) × IsPrintable c.args.sig.now c.args.names.now (single rationals plain_cmp u.0 u.1)) c.in-Some-cut_at.term.now)
+    subst (Spells (λ (u : Monomial × Fraction). operator_text c.args.algebra.now.names.now c.args.algebra.now.signature.now.order (single rationals plain_cmp u.0 u.1)) (λ u. (u.1 ≢ rationals.zero) × IsPrintable c.args.algebra.now.signature.now c.args.algebra.now.names.now (single rationals plain_cmp u.0 u.1)) c.in-Some-cut_at.term.now)
     c.in-None.is c.in_ok-found.ensures (t.monomial, t.number) (h.number, h.term) cut.1

@@ -6,4 +6,4 @@ use Rattle.ore_problem.proofs.print.append_matrix.Given as goal
 
 abbrev pub invariant-loop-k : goal.invariant-loop-k
 invariant-loop-k l =
-    l.text.items ++ flat_map (row_text l.problem.names l.problem.signature.order) (map sums_of (drop l.k l.problem.matrix.rows)) ≡ l.initial.text.items ++ flat_map (row_text l.problem.names l.problem.signature.order) (rows_of l.problem.matrix)
+    l.text.items ++ flat_map (row_text l.algebra.names.now l.algebra.signature.now.order) (map sums_of (drop l.k l.matrix.rows)) ≡ l.initial.text.items ++ flat_map (row_text l.algebra.names.now l.algebra.signature.now.order) (rows_of l.matrix)

@@ -11,5 +11,5 @@ invariant-loop-k l = record {
   within : l.at ≤ length l.text;
   twelve : length l.values ≡ 12;
   zeros : (j : ℕ) → l.k ≤ j → get_or l.values j 0 ≡ 0;
-  only : (bare : Bool) (m : Monomial) (tail : List ℕ) → MonomialOf l.sig m → degree m ≤ 32767 → IsTermEnd tail → l.text ≡ starred bare (factor_texts l.names m.exponents) ++ tail → HasRead l.names m tail l.k l.values (drop l.at l.text);
+  only : (bare : Bool) (m : Monomial) (tail : List ℕ) → MonomialOf l.algebra.signature.now m → degree m ≤ 32767 → IsTermEnd tail → l.text ≡ starred bare (factor_texts l.algebra.names.now m.exponents) ++ tail → HasRead l.algebra.names.now m tail l.k l.values (drop l.at l.text);
 }

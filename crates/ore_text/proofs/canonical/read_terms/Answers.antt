@@ -26,30 +26,30 @@ IsFurther text at next = (at < next) × (next ≤ length text)
 
 pub returns-in_default-clause-only : goal.returns-in_default-clause-only
 returns-in_default-clause-only c f by p e =
-    let s = c.args.sig.now in
-    let names = c.args.names.now in
+    let s = c.args.algebra.now.signature.now in
+    let names = c.args.algebra.now.names.now in
     let text = c.args.text.now in
     let all = falling s.order f in
     let first = first_term s s.order names all text (falls-falling s.order f) (printable_falling s names f s.order p) (text_is names s.order f text e) in
-    let sign = c.first_sign-is_negative.ensures.only first.term.1.num (term_text names first.term ++ first.tail) (term_first names first.term first.tail c.requires.names.form first.good.storable.numerator) first.spelled in
+    let sign = c.first_sign-is_negative.ensures.only first.term.1.num (term_text names first.term ++ first.tail) (term_first names first.term first.tail c.args.algebra.now.form.form first.good.storable.numerator) first.spelled in
     absurd (at_none (IsTaken text first.tail (terms_of c.args.op.now) (terms_of c.take_term.new.op) first.term) c.in_ok-end.field-0 c.in_default.is
-    (c.in_ok-end.ensures.only first.term first.tail first.good first.end sign.0 (inr (subst (λ ts. IsBelowLast c.args.op.now.by ts first.term.0) (sym c.requires.none) tt)) sign.1))
+    (c.in_ok-end.ensures.only first.term first.tail first.good first.end sign.0 (inr (subst (λ ts. IsBelowLast c.args.op.now.by ts first.term.0) (sym c.requires) tt)) sign.1))
 
 pub loop-at-init : goal.loop-at-init
 loop-at-init c = record {
   within = (if_some (IsWithin c.args.text.now c.first_sign-is_negative.result.1) c.in_ok-end.field-0 c.in-Some.end c.in-Some.is c.in_ok-end.ensures.within).1;
   by = c.take_term.ensures.by;
-  good = c.take_term.ensures.good (subst (All (IsPrintableTerm c.args.sig.now)) (sym c.requires.none) (All-from_recursion (IsPrintableTerm c.args.sig.now) [] tt));
+  good = c.take_term.ensures.good (subst (All (IsPrintableTerm c.args.algebra.now.signature.now)) (sym c.requires) (All-from_recursion (IsPrintableTerm c.args.algebra.now.signature.now) [] tt));
   only = λ f by p e.
-      let s = c.args.sig.now in
-      let names = c.args.names.now in
+      let s = c.args.algebra.now.signature.now in
+      let names = c.args.algebra.now.names.now in
       let text = c.args.text.now in
       let all = falling s.order f in
       let first = first_term s s.order names all text (falls-falling s.order f) (printable_falling s names f s.order p) (text_is names s.order f text e) in
-      let sign = c.first_sign-is_negative.ensures.only first.term.1.num (term_text names first.term ++ first.tail) (term_first names first.term first.tail c.requires.names.form first.good.storable.numerator) first.spelled in
+      let sign = c.first_sign-is_negative.ensures.only first.term.1.num (term_text names first.term ++ first.tail) (term_first names first.term first.tail c.args.algebra.now.form.form first.good.storable.numerator) first.spelled in
       let taken = at_some (IsTaken text first.tail (terms_of c.args.op.now) (terms_of c.take_term.new.op) first.term) c.in_ok-end.field-0 c.in-Some.end c.in-Some.is
-      (c.in_ok-end.ensures.only first.term first.tail first.good first.end sign.0 (inr (subst (λ ts. IsBelowLast c.args.op.now.by ts first.term.0) (sym c.requires.none) tt)) sign.1) in
-      first.goes_on (terms_of c.take_term.new.op) (drop c.in-Some.end text) taken.0 (taken.1 ∙ ap (λ ts. ts ++ kept first.term) c.requires.none);
+      (c.in_ok-end.ensures.only first.term first.tail first.good first.end sign.0 (inr (subst (λ ts. IsBelowLast c.args.op.now.by ts first.term.0) (sym c.requires) tt)) sign.1) in
+      first.goes_on (terms_of c.take_term.new.op) (drop c.in-Some.end text) taken.0 (taken.1 ∙ ap (λ ts. ts ++ kept first.term) c.requires);
 }
 
 filled : (text : List ℕ) (at : ℕ) → at < length text → 0 < length (drop at text)
@@ -57,8 +57,8 @@ filled text at l = let e = length-drop at text in omega arith
 
 pub returns-in_default-2-clause-only : goal.returns-in_default-2-clause-only
 returns-in_default-2-clause-only c f by p e =
-    let s = c.args.sig.now in
-    let names = c.args.names.now in
+    let s = c.args.algebra.now.signature.now in
+    let names = c.args.algebra.now.names.now in
     let text = c.args.text.now in
     let all = falling s.order f in
     let done = terms_of c.loop-at.op in
@@ -72,8 +72,8 @@ loop-at-preserved c = record {
   by = c.take_later.ensures.by ∙ c.loop-at.invariant.by;
   good = c.take_later.ensures.good c.loop-at.invariant.good;
   only = λ f by p e.
-      let s = c.args.sig.now in
-      let names = c.args.names.now in
+      let s = c.args.algebra.now.signature.now in
+      let names = c.args.algebra.now.names.now in
       let text = c.args.text.now in
       let all = falling s.order f in
       let done = terms_of c.loop-at.op in
@@ -85,8 +85,8 @@ loop-at-preserved c = record {
 
 pub returns-clause-only : goal.returns-clause-only
 returns-clause-only c f by p e =
-    let s = c.args.sig.now in
+    let s = c.args.algebra.now.signature.now in
     let all = falling s.order f in
     let rest = drop c.loop-at.at c.args.text.now in
     let none : length rest ≡ 0 = (let d = length-drop c.loop-at.at c.args.text.now in let t = c.loop-at-test.false in omega arith) in
-    (refl, same_operator s.order f c.loop-at.op (no_others c.args.names.now all (terms_of c.loop-at.op) rest none (c.loop-at.invariant.only f by p e)))
+    (refl, same_operator s.order f c.loop-at.op (no_others c.args.algebra.now.names.now all (terms_of c.loop-at.op) rest none (c.loop-at.invariant.only f by p e)))

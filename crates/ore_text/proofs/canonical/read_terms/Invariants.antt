@@ -13,8 +13,8 @@ abbrev pub invariant-loop-at : goal.invariant-loop-at
 invariant-loop-at l = record {
   within : l.at ≤ length l.text;
   by : l.op.by ≡ l.fn.op.by;
-  good : All (IsPrintableTerm l.sig) (terms_of l.op);
-  only : (f : Operator rationals) → l.fn.op.by ≡ l.sig.order → IsPrintable l.sig l.names f → l.text ≡ operator_text l.names l.sig.order f → Left l.names (falling l.sig.order f) (terms_of l.op) (drop l.at l.text);
+  good : All (IsPrintableTerm l.algebra.signature.now) (terms_of l.op);
+  only : (f : Operator rationals) → l.fn.op.by ≡ l.algebra.signature.now.order → IsPrintable l.algebra.signature.now l.algebra.names.now f → l.text ≡ operator_text l.algebra.names.now l.algebra.signature.now.order f → Left l.algebra.names.now (falling l.algebra.signature.now.order f) (terms_of l.op) (drop l.at l.text);
 }
 
 abbrev pub decreases-loop-at : goal.decreases-loop-at

@@ -5,4 +5,4 @@ use Rattle.ore_text.specs.CanonicalText.{later_text}
 use Rattle.ore_text.proofs.print.append_later.Given as goal
 
 abbrev pub invariant-loop-k : goal.invariant-loop-k
-invariant-loop-k l = l.text.items ++ flat_map (later_text l.names) (drop l.k (falling l.op.by l.op.sum)) ≡ l.fn.text.items ++ flat_map (later_text l.names) (drop 1 (falling l.op.by l.op.sum))
+invariant-loop-k l = l.text.items ++ flat_map (later_text l.algebra.names.now) (drop l.k (falling l.op.by l.op.sum)) ≡ l.fn.text.items ++ flat_map (later_text l.algebra.names.now) (drop 1 (falling l.op.by l.op.sum))

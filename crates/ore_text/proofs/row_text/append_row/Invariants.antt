@@ -6,4 +6,4 @@ use Rattle.ore_text.proofs.row_text.append_row.Given as goal
 
 abbrev pub invariant-loop-op : goal.invariant-loop-op
 invariant-loop-op l =
-    l.out.items ++ entries_text (operator_text l.names l.sig.order) l.separator (map (λ f. f.sum) (drop l.op-index l.row)) ≡ l.fn.out.items ++ row_text l.names l.sig.order (map (λ f. f.sum) l.row)
+    l.out.items ++ entries_text (operator_text l.algebra.names.now l.algebra.signature.now.order) l.separator (map (λ f. f.sum) (drop l.op-index l.row)) ≡ l.fn.out.items ++ row_text l.algebra.names.now l.algebra.signature.now.order (map (λ f. f.sum) l.row)

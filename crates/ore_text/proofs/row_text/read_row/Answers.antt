@@ -35,42 +35,42 @@ loop-init c =
     let after = is_front c.args.line.now (codes "row") c.in-Some.rest.now c.in-Some.ensures.cases.0 c.in-Some.ensures.cases.1 in
     record {
       count = ap length c.new-row.ensures.items;
-      belongs = none_belong (Belongs c.args.sig.now) c.new-row.result.items c.new-row.ensures.items;
-      printable = no_values (IsPrintable c.args.sig.now c.args.names.now) c.new-row.result.items c.new-row.ensures.items;
-      found = found_first (λ f. f.sum) (operator_text c.args.names.now c.args.sig.now.order) (IsPrintable c.args.sig.now c.args.names.now) (row_text c.args.names.now c.args.sig.now.order) c.args.line.now c.in-Some.rest.now c.new-row.result.items (row_text-entries c.args.names.now c.args.sig.now.order) after c.new-row.ensures.items;
-      only = only_first (λ f. f.sum) (operator_text c.args.names.now c.args.sig.now.order) (IsPrintable c.args.sig.now c.args.names.now) (row_text c.args.names.now c.args.sig.now.order) c.args.line.now c.args.cols c.in-Some.rest.now c.new-row.result.items (row_text-entries c.args.names.now c.args.sig.now.order) after c.new-row.ensures.items;
+      belongs = none_belong (Belongs c.args.algebra.now.signature.now) c.new-row.result.items c.new-row.ensures.items;
+      printable = no_values (IsPrintable c.args.algebra.now.signature.now c.args.algebra.now.names.now) c.new-row.result.items c.new-row.ensures.items;
+      found = found_first (λ f. f.sum) (operator_text c.args.algebra.now.names.now c.args.algebra.now.signature.now.order) (IsPrintable c.args.algebra.now.signature.now c.args.algebra.now.names.now) (row_text c.args.algebra.now.names.now c.args.algebra.now.signature.now.order) c.args.line.now c.in-Some.rest.now c.new-row.result.items (row_text-entries c.args.algebra.now.names.now c.args.algebra.now.signature.now.order) after c.new-row.ensures.items;
+      only = only_first (λ f. f.sum) (operator_text c.args.algebra.now.names.now c.args.algebra.now.signature.now.order) (IsPrintable c.args.algebra.now.signature.now c.args.algebra.now.names.now) (row_text c.args.algebra.now.names.now c.args.algebra.now.signature.now.order) c.args.line.now c.args.cols c.in-Some.rest.now c.new-row.result.items (row_text-entries c.args.algebra.now.names.now c.args.algebra.now.signature.now.order) after c.new-row.ensures.items;
     }
 
 pub returns-in_default-cut_entry-clause-only : goal.returns-in_default-cut_entry-clause-only
 returns-in_default-cut_entry-clause-only c =
     let more : c.loop.counter < c.args.cols = omega arith in
-    no_next (λ f. f.sum) (operator_text c.args.names.now c.args.sig.now.order) (IsPrintable c.args.sig.now c.args.names.now) (row_text c.args.names.now c.args.sig.now.order) c.args.line.now c.args.cols c.loop.counter c.loop.separator.now c.loop.rest.now c.loop.row.items c.loop.invariant.count more
-    (λ g tail p b e. c.in_default-cut_entry.ensures.only (operator_text c.args.names.now c.args.sig.now.order g) tail (LacksStops-operator c.args.names.now c.args.sig.now.order g p.names_fit) b e)
+    no_next (λ f. f.sum) (operator_text c.args.algebra.now.names.now c.args.algebra.now.signature.now.order) (IsPrintable c.args.algebra.now.signature.now c.args.algebra.now.names.now) (row_text c.args.algebra.now.names.now c.args.algebra.now.signature.now.order) c.args.line.now c.args.cols c.loop.counter c.loop.separator.now c.loop.rest.now c.loop.row.items c.loop.invariant.count more
+    (λ g tail p b e. c.in_default-cut_entry.ensures.only (operator_text c.args.algebra.now.names.now c.args.algebra.now.signature.now.order g) tail (LacksStops-operator c.args.algebra.now.names.now c.args.algebra.now.signature.now.order g p.names_fit) b e)
     c.loop.invariant.only
 
 pub returns-in_default-2-clause-only : goal.returns-in_default-2-clause-only
 returns-in_default-2-clause-only c =
     let more : c.loop.counter < c.args.cols = omega arith in
-    no_next (λ f. f.sum) (operator_text c.args.names.now c.args.sig.now.order) (IsPrintable c.args.sig.now c.args.names.now) (row_text c.args.names.now c.args.sig.now.order) c.args.line.now c.args.cols c.loop.counter c.loop.separator.now c.loop.rest.now c.loop.row.items c.loop.invariant.count more
+    no_next (λ f. f.sum) (operator_text c.args.algebra.now.names.now c.args.algebra.now.signature.now.order) (IsPrintable c.args.algebra.now.signature.now c.args.algebra.now.names.now) (row_text c.args.algebra.now.names.now c.args.algebra.now.signature.now.order) c.args.line.now c.args.cols c.loop.counter c.loop.separator.now c.loop.rest.now c.loop.row.items c.loop.invariant.count more
     (λ g tail p b e.
-    let parts = c.in-Some-cut_entry.ensures.only (operator_text c.args.names.now c.args.sig.now.order g) tail (LacksStops-operator c.args.names.now c.args.sig.now.order g p.names_fit) b e in
+    let parts = c.in-Some-cut_entry.ensures.only (operator_text c.args.algebra.now.names.now c.args.algebra.now.signature.now.order g) tail (LacksStops-operator c.args.algebra.now.names.now c.args.algebra.now.signature.now.order g p.names_fit) b e in
     not_read g c.in_ok-op.field-0 c.in_default-2.is (c.in_ok-op.ensures.only g p parts.0))
     c.loop.invariant.only
 
 pub loop-preserved : goal.loop-preserved
 loop-preserved c =
     let more : c.loop.counter < c.args.cols = omega arith in
-    let was = was_read (λ f. IsPrintable c.args.sig.now c.args.names.now f.sum × (c.in-Some-cut_entry.spelled.now ≡ operator_text c.args.names.now c.args.sig.now.order f.sum)) c.in-Some-2.op c.in_ok-op.field-0 c.in-Some-2.is c.in_ok-op.ensures.found in
-    let belongs = was_read (Belongs c.args.sig.now) c.in-Some-2.op c.in_ok-op.field-0 c.in-Some-2.is c.in_ok-op.ensures.of in
+    let was = was_read (λ f. IsPrintable c.args.algebra.now.signature.now c.args.algebra.now.names.now f.sum × (c.in-Some-cut_entry.spelled.now ≡ operator_text c.args.algebra.now.names.now c.args.algebra.now.signature.now.order f.sum)) c.in-Some-2.op c.in_ok-op.field-0 c.in-Some-2.is c.in_ok-op.ensures.found in
+    let belongs = was_read (Belongs c.args.algebra.now.signature.now) c.in-Some-2.op c.in_ok-op.field-0 c.in-Some-2.is c.in_ok-op.ensures.of in
     record {
       count = ap length c.in_ok-push.ensures.items ∙ length_push c.loop.row.items c.in-Some-2.op ∙ ap (λ n. n + 1) c.loop.invariant.count;
-      belongs = subst (All (Belongs c.args.sig.now)) (sym c.in_ok-push.ensures.items) (All-push (Belongs c.args.sig.now) c.loop.row.items c.in-Some-2.op c.loop.invariant.belongs belongs);
-      printable = all_next (λ f. f.sum) (operator_text c.args.names.now c.args.sig.now.order) (IsPrintable c.args.sig.now c.args.names.now) (row_text c.args.names.now c.args.sig.now.order) c.args.line.now c.loop.row.items c.push.new.self.items c.in-Some-2.op c.in_ok-push.ensures.items c.loop.invariant.printable was.0;
-      found = found_next (λ f. f.sum) (operator_text c.args.names.now c.args.sig.now.order) (IsPrintable c.args.sig.now c.args.names.now) (row_text c.args.names.now c.args.sig.now.order) c.args.line.now c.loop.separator.now c.loop.rest.now c.in-Some-cut_entry.after.now c.loop.row.items c.push.new.self.items c.in-Some-2.op c.in_ok-push.ensures.items
+      belongs = subst (All (Belongs c.args.algebra.now.signature.now)) (sym c.in_ok-push.ensures.items) (All-push (Belongs c.args.algebra.now.signature.now) c.loop.row.items c.in-Some-2.op c.loop.invariant.belongs belongs);
+      printable = all_next (λ f. f.sum) (operator_text c.args.algebra.now.names.now c.args.algebra.now.signature.now.order) (IsPrintable c.args.algebra.now.signature.now c.args.algebra.now.names.now) (row_text c.args.algebra.now.names.now c.args.algebra.now.signature.now.order) c.args.line.now c.loop.row.items c.push.new.self.items c.in-Some-2.op c.in_ok-push.ensures.items c.loop.invariant.printable was.0;
+      found = found_next (λ f. f.sum) (operator_text c.args.algebra.now.names.now c.args.algebra.now.signature.now.order) (IsPrintable c.args.algebra.now.signature.now c.args.algebra.now.names.now) (row_text c.args.algebra.now.names.now c.args.algebra.now.signature.now.order) c.args.line.now c.loop.separator.now c.loop.rest.now c.in-Some-cut_entry.after.now c.loop.row.items c.push.new.self.items c.in-Some-2.op c.in_ok-push.ensures.items
           (c.in-Some-cut_entry.ensures.found ∙ ap (λ t. c.loop.separator.now ++ (t ++ c.in-Some-cut_entry.after.now)) was.1) c.loop.invariant.found;
-      only = only_next (λ f. f.sum) (operator_text c.args.names.now c.args.sig.now.order) (IsPrintable c.args.sig.now c.args.names.now) (row_text c.args.names.now c.args.sig.now.order) c.args.line.now c.args.cols c.loop.counter c.loop.separator.now c.loop.rest.now c.in-Some-cut_entry.after.now c.loop.row.items c.push.new.self.items c.in-Some-2.op c.in_ok-push.ensures.items c.loop.invariant.count more
+      only = only_next (λ f. f.sum) (operator_text c.args.algebra.now.names.now c.args.algebra.now.signature.now.order) (IsPrintable c.args.algebra.now.signature.now c.args.algebra.now.names.now) (row_text c.args.algebra.now.names.now c.args.algebra.now.signature.now.order) c.args.line.now c.args.cols c.loop.counter c.loop.separator.now c.loop.rest.now c.in-Some-cut_entry.after.now c.loop.row.items c.push.new.self.items c.in-Some-2.op c.in_ok-push.ensures.items c.loop.invariant.count more
           (λ g tail p b e.
-          let parts = c.in-Some-cut_entry.ensures.only (operator_text c.args.names.now c.args.sig.now.order g) tail (LacksStops-operator c.args.names.now c.args.sig.now.order g p.names_fit) b e in
+          let parts = c.in-Some-cut_entry.ensures.only (operator_text c.args.algebra.now.names.now c.args.algebra.now.signature.now.order g) tail (LacksStops-operator c.args.algebra.now.names.now c.args.algebra.now.signature.now.order g p.names_fit) b e in
           (is_read g c.in-Some-2.op c.in_ok-op.field-0 c.in-Some-2.is (c.in_ok-op.ensures.only g p parts.0), parts.1))
           c.loop.invariant.only;
     }
@@ -80,15 +80,15 @@ returns-then-eq-clause-found c =
     let past : c.args.cols ≤ c.loop.counter = omega arith in
     let last : c.loop.rest.now ≡ 10 ∷ [] = same_bytes c.loop.rest.now c.as_slice.result.now c.eq.result c.eq.ensures c.if-eq.true ∙ c.as_slice.ensures in
     let full : length c.loop.row.items ≡ c.args.cols = omega (arith, c.loop.auto.counter-end) in
-    (c.loop.invariant.printable, full, found_last (λ f. f.sum) (operator_text c.args.names.now c.args.sig.now.order) (IsPrintable c.args.sig.now c.args.names.now) (row_text c.args.names.now c.args.sig.now.order) c.args.line.now c.loop.separator.now c.loop.rest.now c.loop.row.items last c.loop.invariant.found)
+    (c.loop.invariant.printable, full, found_last (λ f. f.sum) (operator_text c.args.algebra.now.names.now c.args.algebra.now.signature.now.order) (IsPrintable c.args.algebra.now.signature.now c.args.algebra.now.names.now) (row_text c.args.algebra.now.names.now c.args.algebra.now.signature.now.order) c.args.line.now c.loop.separator.now c.loop.rest.now c.loop.row.items last c.loop.invariant.found)
 
 pub returns-then-eq-clause-only : goal.returns-then-eq-clause-only
 returns-then-eq-clause-only c fs all len e =
     let past : c.args.cols ≤ c.loop.counter = omega arith in
-    (only_last (λ f. f.sum) (operator_text c.args.names.now c.args.sig.now.order) (IsPrintable c.args.sig.now c.args.names.now) (row_text c.args.names.now c.args.sig.now.order) c.args.line.now c.args.cols c.loop.counter c.loop.separator.now c.loop.rest.now c.loop.row.items c.loop.invariant.count past c.loop.invariant.only fs all len e).1
+    (only_last (λ f. f.sum) (operator_text c.args.algebra.now.names.now c.args.algebra.now.signature.now.order) (IsPrintable c.args.algebra.now.signature.now c.args.algebra.now.names.now) (row_text c.args.algebra.now.names.now c.args.algebra.now.signature.now.order) c.args.line.now c.args.cols c.loop.counter c.loop.separator.now c.loop.rest.now c.loop.row.items c.loop.invariant.count past c.loop.invariant.only fs all len e).1
 
 pub returns-else-eq-clause-only : goal.returns-else-eq-clause-only
 returns-else-eq-clause-only c fs all len e =
     let past : c.args.cols ≤ c.loop.counter = omega arith in
-    let last = (only_last (λ f. f.sum) (operator_text c.args.names.now c.args.sig.now.order) (IsPrintable c.args.sig.now c.args.names.now) (row_text c.args.names.now c.args.sig.now.order) c.args.line.now c.args.cols c.loop.counter c.loop.separator.now c.loop.rest.now c.loop.row.items c.loop.invariant.count past c.loop.invariant.only fs all len e).0 in
+    let last = (only_last (λ f. f.sum) (operator_text c.args.algebra.now.names.now c.args.algebra.now.signature.now.order) (IsPrintable c.args.algebra.now.signature.now c.args.algebra.now.names.now) (row_text c.args.algebra.now.names.now c.args.algebra.now.signature.now.order) c.args.line.now c.args.cols c.loop.counter c.loop.separator.now c.loop.rest.now c.loop.row.items c.loop.invariant.count past c.loop.invariant.only fs all len e).0 in
     other_bytes c.loop.rest.now c.as_slice.result.now c.eq.result c.eq.ensures c.if-eq.false (last ∙ sym c.as_slice.ensures)

@@ -10,8 +10,8 @@ use Rattle.ore_text.proofs.row_text.read_row.Given as goal
 abbrev pub invariant-loop : goal.invariant-loop
 invariant-loop l = record {
   count : length l.row.items ≡ l.counter;
-  belongs : All (Belongs l.sig) l.row.items;
-  printable : AllByRecursion (IsPrintable l.sig l.names) (map (λ f. f.sum) l.row.items);
-  found : IsFoundSoFar (λ f. f.sum) (operator_text l.names l.sig.order) (IsPrintable l.sig l.names) (row_text l.names l.sig.order) l.line l.separator l.row.items l.rest;
-  only : IsOnlySoFar (λ f. f.sum) (operator_text l.names l.sig.order) (IsPrintable l.sig l.names) (row_text l.names l.sig.order) l.line l.cols l.separator l.row.items l.rest;
+  belongs : All (Belongs l.algebra.signature.now) l.row.items;
+  printable : AllByRecursion (IsPrintable l.algebra.signature.now l.algebra.names.now) (map (λ f. f.sum) l.row.items);
+  found : IsFoundSoFar (λ f. f.sum) (operator_text l.algebra.names.now l.algebra.signature.now.order) (IsPrintable l.algebra.signature.now l.algebra.names.now) (row_text l.algebra.names.now l.algebra.signature.now.order) l.line l.separator l.row.items l.rest;
+  only : IsOnlySoFar (λ f. f.sum) (operator_text l.algebra.names.now l.algebra.signature.now.order) (IsPrintable l.algebra.signature.now l.algebra.names.now) (row_text l.algebra.names.now l.algebra.signature.now.order) l.line l.cols l.separator l.row.items l.rest;
 }
