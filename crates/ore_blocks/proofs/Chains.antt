@@ -3,7 +3,8 @@
 --     passed_as            a first condition that gives a value leaves what is behind it
 use Rattle.std.proofs.Common.{◌≡◌, sym, ap, ◌∙◌, subst}
 use Rattle.std.specs.declared.result.Result.TheVariants.{Ok}
-use Rattle.ore_blocks.specs.Conditions.{Checked, ◌>>=◌}
+use Rattle.ore_blocks.specs.Conditions.{Checked}
+use Rattle.ore_algebra.specs.Results.{◌>>=◌}
 use Rattle.ore_blocks.specs.Judging.{Refuses}
 use Rattle.ore_blocks.specs.declared.refusal.Refusal.{Refusal}
 use Rattle.ore_blocks.proofs.Refusals.{refuses_on}

@@ -1,5 +1,6 @@
 -- The blocks of certificates as blocks of the laws, and what a signature says of them.
---     exact_of, outside_of                a block
+--     exact_of, outside_of                a block (of specs/Valid.antt)
+--     rows_count                          a matrix has as many rows without the orders of their operators
 --     wide_rows, rows_are_of              the rows of a matrix of a signature have an entry a column, and are of it
 --     entries_are_of, exact_is_of, outside_is_of      entries and blocks of a signature are of it
 use Rattle.std.proofs.Common.{◌≡◌, ℕ, List, [], ◌∷◌, map, length, ◌∙◌}
@@ -22,12 +23,10 @@ use Rattle.ore_parts.specs.declared.block.ExactBlock.{ExactBlock}
 use Rattle.ore_parts.specs.declared.block.OutsideBlock.{OutsideBlock}
 use Rattle.ore_parts.specs.OfSignature.{MatrixOf, IsEntryOf, IsExactOf, IsOutsideOf}
 use Rattle.ore_blocks.specs.CheckBlock.{entries_of}
+pub use Rattle.ore_blocks.specs.Valid.{exact_of, outside_of}
 
-abbrev pub exact_of : ExactBlock → blocks.ExactBlock rationals
-exact_of b = record { basis = rows_of b.basis; from = rows_of b.from; to = rows_of b.to; entries = entries_of b.pairs; inside = rows_of b.inside }
-
-abbrev pub outside_of : OutsideBlock → blocks.OutsideBlock rationals
-outside_of b = record { basis = rows_of b.basis; from = rows_of b.from; entries = entries_of b.pairs; steps = b.quotients; rest = sums_of b.rest }
+pub rows_count : (m : OperatorMatrix) → length (rows_of m) ≡ length m.rows
+rows_count m = length-map m.rows sums_of
 
 wide : (n : ℕ) (rows : List (List Ordered)) → HasColumns n rows → AreLong rationals n (map sums_of rows)
 wide n [] h = tt

@@ -1,7 +1,6 @@
 -- The pairs of a basis, from a place on.
 --     treated, treated_next, treated_end       how many are treated
---     IsSameList                       two lists have the same pairs
---     more_same                        and with one more pair in front
+--     more_same                        lists with the same pairs, with one more pair in front
 --     entry_same, entries_same         so pairs are right by those of the one as by those of the other
 --     entries_next, entries_end        a pair and those behind it
 --     steps_inside, fitted             steps that are right name basis rows; a common multiple that may be formed
@@ -19,23 +18,25 @@ use Rattle.ore_rational.proofs.FractionLaws.{rationals}
 use Rattle.ore_monomial.specs.Monomial.{degree}
 use Rattle.ore_monomial.specs.Signature.{Signature}
 use Rattle.ore_monomial.specs.Term.{Term}
+use Rattle.ore_rows.specs.Arithmetic.{within}
 use Rattle.ore_rows.specs.Reduction.{Step}
 use Rattle.ore_rows.specs.Rows.{Row}
-use Rattle.ore_pairs.specs.Listed.{is_in}
 use Rattle.ore_pairs.specs.PairList.{treated_count}
-use Rattle.ore_pairs.specs.PairRule.{may_treat, may_skip}
-use Rattle.ore_pairs.specs.Steps.{pair_term}
+use Rattle.ore_pairs.specs.PairRule.{is_listed, HaveSamePairs, may_treat, may_skip}
+use Rattle.ore_pairs.specs.Steps.{pair_term, s_row_within, common_fits}
 use Rattle.ore_pairs.proofs.PairRuleLaws.{treat_from, treat_same, skip_same}
 use Rattle.ore_parts.specs.declared.block.PairEntry.{PairEntry}
 use Rattle.ore_parts.specs.declared.block.PairEntry.TheVariants.{Pair, Skip}
 use Rattle.ore_blocks.specs.declared.place.Section.{Section}
 use Rattle.ore_blocks.specs.declared.place.Place.TheVariants as place
 use Rattle.ore_blocks.specs.declared.reason.Reason.TheVariants as reason
-use Rattle.ore_blocks.specs.Conditions.{◌>>=◌, formed, required}
-use Rattle.ore_blocks.specs.CheckBlock.{check_entries, check_entry, check_steps, common_fits, entries_of, pair_of, rows_taken}
+use Rattle.ore_blocks.specs.Conditions.{formed, required}
+use Rattle.ore_algebra.specs.Results.{◌>>=◌}
+use Rattle.ore_blocks.specs.CheckBlock.{check_entries, check_entry, check_steps, entries_of, pair_of, rows_taken}
 use Rattle.ore_blocks.specs.InnerContracts.{IsTreatable}
-use Rattle.ore_blocks.specs.PlaceConditions.{check_step, s_row_within}
-use Rattle.ore_blocks.proofs.Passed.{both_true, bound, formed_then, nat_lt_true, required_then, required_true}
+use Rattle.ore_blocks.specs.PlaceConditions.{check_step}
+use Rattle.ore_blocks.proofs.Passed.{both_true, formed_then, nat_lt_true, required_then, required_true}
+use Rattle.ore_algebra.proofs.ResultLaws.{bound}
 use Rattle.ore_blocks.proofs.ReadItems.{drop_read}
 
 -- ---- numbers
@@ -57,25 +58,22 @@ treated_end es k h = at_drop_all treated es k h
 
 -- ---- lists with the same pairs
 
-abbrev pub IsSameList : List (ℕ × ℕ) → List (ℕ × ℕ) → Type 0
-IsSameList before others = (x y : ℕ) → is_in x y before ≡ is_in x y others
-
-pub more_same : (p : ℕ × ℕ) (before others : List (ℕ × ℕ)) → IsSameList before others → IsSameList (p ∷ before) (p ∷ others)
-unfolding is_in
+pub more_same : (p : ℕ × ℕ) (before others : List (ℕ × ℕ)) → HaveSamePairs before others → HaveSamePairs (p ∷ before) (p ∷ others)
+unfolding is_listed
 more_same p before others h x y = ap (λ t. (nat_eq x p.0 && nat_eq y p.1) || t) (h x y)
 
 module _ (l : Limits) (s : Signature) (basis : List (Row rationals)) (leads : List Term) where
-  pub entry_same : (at : Section) (k : ℕ) (before others : List (ℕ × ℕ)) (e : PairEntry) → IsSameList before others → check_entry l s basis leads at k before e ≡ check_entry l s basis leads at k others e
+  pub entry_same : (at : Section) (k : ℕ) (before others : List (ℕ × ℕ)) (e : PairEntry) → HaveSamePairs before others → check_entry l s basis leads at k before e ≡ check_entry l s basis leads at k others e
   unfolding check_entry
-  entry_same at k before others (Pair i j steps) h = ap (λ t. required (place.Pair at k 0) reason.Pair t >>= λ u. formed (place.Pair at k 0) (common_fits l s (pair_term leads i j)) >>= λ u. formed (place.Pair at k 0) (s_row_within l s leads basis i j) >>= λ r. check_steps l s basis leads (pair_term leads i j) at k 0 r steps) (treat_same leads before i j others (h i j))
+  entry_same at k before others (Pair i j steps) h = ap (λ t. required (place.Pair at k 0) reason.Pair t >>= λ u. formed (place.Pair at k 0) (common_fits rationals (within l s) (pair_term leads i j)) >>= λ u. formed (place.Pair at k 0) (s_row_within rationals (within l s) leads basis i j) >>= λ r. check_steps l s basis leads (pair_term leads i j) at k 0 r steps) (treat_same leads before i j others (h i j))
   entry_same at k before others (Skip i j via) h = λ n. required (place.Pair at k 0) reason.Skip (treat_same leads before i j others (h i j) n && skip_same leads before i j via others h n)
 
-  pub entries_same : (at : Section) (k : ℕ) (before others : List (ℕ × ℕ)) (es : List PairEntry) → IsSameList before others → check_entries l s basis leads at k before es ≡ check_entries l s basis leads at k others es
+  pub entries_same : (at : Section) (k : ℕ) (before others : List (ℕ × ℕ)) (es : List PairEntry) → HaveSamePairs before others → check_entries l s basis leads at k before es ≡ check_entries l s basis leads at k others es
   unfolding check_entries
   entries_same at k before others [] h = refl
   entries_same at k before others (e ∷ es) h = λ n. entry_same at k before others e h n >>= λ u. entries_same at (suc k) (pair_of e ∷ before) (pair_of e ∷ others) es (more_same (pair_of e) before others h) n
 
-  pub entries_next : (at : Section) (before others : List (ℕ × ℕ)) (es : List PairEntry) (k : ℕ) (e : PairEntry) → slice_get es k ≡ Some e → IsSameList others (pair_of e ∷ before)
+  pub entries_next : (at : Section) (before others : List (ℕ × ℕ)) (es : List PairEntry) (k : ℕ) (e : PairEntry) → slice_get es k ≡ Some e → HaveSamePairs others (pair_of e ∷ before)
       → check_entries l s basis leads at k before (drop k es) ≡ (check_entry l s basis leads at k before e >>= λ u. check_entries l s basis leads at (k + 1) others (drop (k + 1) es))
   unfolding check_entries
   entries_next at before others es k e here h =
@@ -97,7 +95,7 @@ module _ (s : Signature) (basis : List (Row rationals)) (leads : List Term) wher
       let place = required_then (place.Pair at k (suc n)) reason.Step (nat_lt step.index (length leads)) _ next.0 next.1 in
       All-cons (λ (t : Step rationals). t.index < length leads) step steps (nat_lt_true step.index (length leads) place.0) (steps_inside t at k (suc n) next.0 steps next.2)
 
-  fitted : (t : Term) (u : Unit {0}) → common_fits program s t ≡ Ok u → degree t.monomial ≤ 32767
+  fitted : (t : Term) (u : Unit {0}) → common_fits rationals (within program s) t ≡ Ok u → degree t.monomial ≤ 32767
   fitted t u h = by (nat_le (degree t.monomial) 32767) refl
     where
       by : (b : Bool) → nat_le (degree t.monomial) 32767 ≡ b → degree t.monomial ≤ 32767
@@ -108,8 +106,8 @@ module _ (s : Signature) (basis : List (Row rationals)) (leads : List Term) wher
   unfolding check_entry
   entry_treatable at k before (Pair i j steps) h =
       let first = required_then (place.Pair at k 0) reason.Pair (may_treat leads before i j) _ tt h in
-      let second = formed_then (place.Pair at k 0) (common_fits program s (pair_term leads i j)) _ tt first.1 in
-      let third = formed_then (place.Pair at k 0) (s_row_within program s leads basis i j) _ tt second.2 in
+      let second = formed_then (place.Pair at k 0) (common_fits rationals (within program s) (pair_term leads i j)) _ tt first.1 in
+      let third = formed_then (place.Pair at k 0) (s_row_within rationals (within program s) leads basis i j) _ tt second.2 in
       let new = treat_from leads before i j first.0 in
       (new.ordered, new.within, fitted (pair_term leads i j) second.0 second.1, steps_inside (pair_term leads i j) at k 0 third.0 steps third.2)
   entry_treatable at k before (Skip i j via) h = (treat_from leads before i j (both_true (may_treat leads before i j) (may_skip leads before i j via) (required_true (place.Pair at k 0) reason.Skip _ tt h)).0).ordered

@@ -18,7 +18,8 @@ use Rattle.ore_rows.specs.RowLead.{row_lead}
 use Rattle.ore_rows.specs.Rows.{Row}
 use Rattle.ore_rows.specs.Stored.{OperatorMatrix, rows_of, sums_of}
 use Rattle.ore_blocks.specs.CheckBlock.{are_zero, check_steps, quotient_steps, rows_give}
-use Rattle.ore_blocks.specs.Conditions.{◌>>=◌, is_none, required}
+use Rattle.ore_blocks.specs.Conditions.{is_none, required}
+use Rattle.ore_algebra.specs.Results.{◌>>=◌}
 use Rattle.ore_blocks.specs.PlaceConditions.{check_step, quotient_step, row_gives}
 use Rattle.ore_blocks.specs.declared.place.Section.{Section}
 use Rattle.ore_blocks.specs.declared.place.Place.TheVariants as place

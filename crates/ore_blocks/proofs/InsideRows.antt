@@ -17,7 +17,7 @@ use Rattle.ore_parts.specs.declared.block.PairEntry.{PairEntry}
 use Rattle.ore_blocks.specs.declared.place.Section.{Section}
 use Rattle.ore_blocks.specs.declared.place.Place.TheVariants as place
 use Rattle.ore_blocks.specs.declared.place.Name.TheVariants.{Inside}
-use Rattle.ore_blocks.specs.Conditions.{◌>>=◌}
+use Rattle.ore_algebra.specs.Results.{◌>>=◌}
 use Rattle.ore_blocks.specs.CheckBlock.{rows_inside, rows_taken, pairs_inside}
 use Rattle.ore_blocks.specs.PlaceConditions.{row_inside, pair_inside}
 use Rattle.ore_blocks.proofs.ReadItems.{drop_mapped, drop_read}

@@ -17,7 +17,8 @@ use Rattle.std.specs.declared.option.Option.{Option}
 use Rattle.std.specs.declared.option.Option.TheVariants.{None, Some}
 use Rattle.std.specs.declared.result.Result.TheVariants.{Ok, Err}
 use Rattle.std.proofs.lemmas.List.{at_drop_all, drop-map, get_or-map, get_or-replicate, length-map}
-use Rattle.ore_algebra.specs.Free.{none}
+use Rattle.ore_algebra.proofs.ResultLaws.{front_more}
+use Rattle.ore_algebra.specs.Free.{empty_sum}
 use Rattle.ore_algebra.specs.Limits.{Limits}
 use Rattle.ore_rational.specs.Fraction.{Fraction}
 use Rattle.ore_rational.proofs.FractionLaws.{rationals}
@@ -34,7 +35,8 @@ use Rattle.ore_rows.proofs.GreatestTerms.{row_lead-Some, row_lead_from, zero_fro
 use Rattle.ore_rows.proofs.StoredBases.{no_lead_of_zeros}
 use Rattle.ore_blocks.specs.CheckBlock.{basis_leads}
 use Rattle.ore_blocks.specs.PlaceConditions.{is_reduced, monic_lead}
-use Rattle.ore_blocks.specs.Conditions.{Checked, ◌>>=◌, found, is_none, is_same}
+use Rattle.ore_blocks.specs.Conditions.{Checked, found, is_none, is_same}
+use Rattle.ore_algebra.specs.Results.{◌>>=◌}
 use Rattle.ore_blocks.specs.declared.place.Section.{Section}
 use Rattle.ore_blocks.specs.declared.place.Place.TheVariants as place
 use Rattle.ore_blocks.specs.declared.place.Name.TheVariants.{Basis}
@@ -61,9 +63,9 @@ pub lead_zeros : (o : Order) (r : List Ordered) → row_lead rationals o (sums_o
 unfolding zero_row
 lead_zeros o r e k d h =
     let wide : k < length (sums_of r) = subst (λ n. k < n) (sym (length-map r (λ (f : Ordered). f.sum))) h in
-    sym (get_or-map (λ (f : Ordered). f.sum) r k d (none rationals plain_cmp) h)
-    ∙ ap (λ q. get_or q k (none rationals plain_cmp)) (zero_from rationals o (sums_of r) e)
-    ∙ get_or-replicate (length (sums_of r)) k (none rationals plain_cmp) (none rationals plain_cmp) wide
+    sym (get_or-map (λ (f : Ordered). f.sum) r k d (empty_sum rationals plain_cmp) h)
+    ∙ ap (λ q. get_or q k (empty_sum rationals plain_cmp)) (zero_from rationals o (sums_of r) e)
+    ∙ get_or-replicate (length (sums_of r)) k (empty_sum rationals plain_cmp) (empty_sum rationals plain_cmp) wide
 
 pub none_is : {A : Type 0} (v : Option A) (b : Bool) → is_some v ≡ not b → b ≡ is_none v
 none_is None true e = refl
@@ -108,8 +110,7 @@ module _ (l : Limits) (s : Signature) (leads : List Term) where
 
 fronted_next : (front : List Term) (x : Checked Term) (y : Checked (List Term))
     → ((x >>= λ t. y >>= λ ts. Ok (t ∷ ts)) >>= λ ts. Ok (front ++ ts)) ≡ (x >>= λ t. y >>= λ ts. Ok ((front ++ t ∷ []) ++ ts))
-fronted_next front (Ok t) (Ok ts) = ap Ok (sym (append_assoc front (t ∷ []) ts))
-fronted_next front (Ok t) (Err e) = refl
+fronted_next front (Ok t) y = front_more front t y
 fronted_next front (Err e) y = refl
 
 pub leads_next : (o : Order) (at : Section) (front : List Term) (m : OperatorMatrix) (k : ℕ) (r : List Ordered) → slice_get m.rows k ≡ Some r

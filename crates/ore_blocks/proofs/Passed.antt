@@ -1,14 +1,11 @@
 -- What follows where places of a certificate are right.
---     value_of                  two places that give the same give the same value
---     bound                     two steps after each other give a value: each gives one
 --     required_true             a test passed
---     formed_value              an operation gave a value
 --     required_then, found_then, formed_then    the same, something was found, or an operation gave a value; and what follows gives one too
---     both_true, either_true, not_true        tests that are joined or turned round
---     nat_eq_true, nat_eq_false, nat_lt_true    tests of numbers
+--     both_true, not_true       tests that are joined or turned round
+--     nat_eq_true, nat_lt_true  tests of numbers
 --     below_true, none_true     tests of terms, and of what was found
 --     same_true, same_false     two values are the same, or not
-use Rattle.std.proofs.Common.{◌≡◌, ◌⊎◌, inl, inr, ℕ, ◌<◌, Bool, true, false, ◌&&◌, ◌||◌, nat_eq, nat_lt, refl, ap, true≢false, sym, arith}
+use Rattle.std.proofs.Common.{◌≡◌, ℕ, ◌<◌, Bool, true, false, ◌&&◌, nat_eq, nat_lt, refl, true≢false, sym, arith}
 use Rattle.std.specs.Prelude.{◌≢◌, not}
 use Rattle.std.specs.declared.cmp.Ordering.{Ordering}
 use Rattle.std.specs.declared.cmp.Ordering.TheVariants.{Less, Equal, Greater}
@@ -22,26 +19,15 @@ use Rattle.ore_monomial.specs.Term.{Term, term_cmp}
 use Rattle.ore_monomial.specs.declared.order.Order.{Order}
 use Rattle.ore_blocks.specs.declared.place.Place.{Place}
 use Rattle.ore_blocks.specs.declared.reason.Reason.{Reason}
-use Rattle.ore_blocks.specs.Conditions.{Checked, ◌>>=◌, formed, required, found, is_same, is_none}
+use Rattle.ore_blocks.specs.Conditions.{Checked, formed, required, found, is_same, is_none}
+use Rattle.ore_algebra.specs.Results.{◌>>=◌}
 use Rattle.ore_blocks.specs.PlaceConditions.{is_below}
 
 -- ---- places
 
-pub value_of : {A : Type 0} (x y : A) → ◌≡◌ {A = Checked A} (Ok x) (Ok y) → x ≡ y
-value_of x y h = cc
-
-module _ {A B : Type 0} where
-  pub bound : (r : Checked A) (f : A → Checked B) (y : B) → (r >>= f) ≡ Ok y → (x : A) × (r ≡ Ok x) × (f x ≡ Ok y)
-  bound (Ok x) f y e = (x, refl, e)
-  bound (Err failing) f y e = absurd cc
-
 pub required_true : (place : Place) (why : Reason) (test : Bool) (x : Unit {0}) → required place why test ≡ Ok x → test ≡ true
 required_true place why true x e = refl
 required_true place why false x e = absurd cc
-
-pub formed_value : {A : Type 0} (place : Place) (r : Result A Cause) (x : A) → formed place r ≡ Ok x → r ≡ Ok x
-formed_value place (Ok y) x e = ap Ok (value_of y x e)
-formed_value place (Err c) x e = absurd cc
 
 module _ {B : Type 0} where
   pub required_then : (place : Place) (why : Reason) (test : Bool) (f : Unit {0} → Checked B) (y : B) → (required place why test >>= f) ≡ Ok y → (test ≡ true) × (f tt ≡ Ok y)
@@ -62,19 +48,12 @@ pub both_true : (a b : Bool) → (a && b) ≡ true → (a ≡ true) × (b ≡ tr
 both_true true b h = (refl, h)
 both_true false b h = absurd (true≢false (sym h))
 
-pub either_true : (a b : Bool) → (a || b) ≡ true → (a ≡ true) ⊎ (b ≡ true)
-either_true true b h = inl refl
-either_true false b h = inr h
-
 pub not_true : (a : Bool) → not a ≡ true → a ≡ false
 not_true true h = absurd (true≢false (sym h))
 not_true false h = refl
 
 pub nat_eq_true : (a b : ℕ) → nat_eq a b ≡ true → a ≡ b
 nat_eq_true a b h = grind (arith, nat_tests)
-
-pub nat_eq_false : (a b : ℕ) → nat_eq a b ≡ false → a ≢ b
-nat_eq_false a b h e = grind (arith, nat_tests)
 
 pub nat_lt_true : (a b : ℕ) → nat_lt a b ≡ true → a < b
 nat_lt_true a b h = grind (arith, nat_tests)

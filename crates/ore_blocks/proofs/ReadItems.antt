@@ -2,7 +2,6 @@
 --     row_read         a row of a matrix, without the orders
 --     drop_read        what begins at a place is the item there and what is behind it
 --     drop_mapped      the same where each item is mapped
---     s_row_read      the multiples of two rows are those that take their leads to the common multiple
 --     step_read        a row less a multiple of the row that a step names
 --     remainder_has         what is left has what each row that may be left has
 --     pushed_has       one more item
@@ -15,20 +14,15 @@ use Rattle.ore_blocks.specs.InnerContracts.{remainder_of}
 use Rattle.std.proofs.lemmas.List.{drop_more, get_or-map}
 use Rattle.std.proofs.lemmas.List.Elements.{All-append, All-cons, All-nil}
 use Rattle.std.proofs.lemmas.Option.{slice_get_within, get_or_from_slice_get}
-use Rattle.ore_algebra.specs.Free.{single}
 use Rattle.ore_algebra.specs.Limits.{Limits}
 use Rattle.ore_rational.proofs.FractionLaws.{rationals}
 use Rattle.ore_monomial.specs.LetterRule.{Operator}
-use Rattle.ore_monomial.specs.Monomial.{Monomial, quotient, plain_cmp}
 use Rattle.ore_monomial.specs.Signature.{Signature}
-use Rattle.ore_monomial.specs.Term.{Term}
 use Rattle.ore_ring.specs.Ordered.{Ordered}
 use Rattle.ore_rows.specs.Arithmetic.{within}
 use Rattle.ore_rows.specs.Reduction.{Step, less_multiple, row_at, step_operator}
 use Rattle.ore_rows.specs.Stored.{OperatorMatrix, rows_of, sums_of}
-use Rattle.ore_pairs.specs.Listed.{multiples_less}
-use Rattle.ore_pairs.specs.Steps.{lead_at, pair_term}
-use Rattle.ore_blocks.specs.PlaceConditions.{s_row_within, less_step}
+use Rattle.ore_blocks.specs.PlaceConditions.{less_step}
 
 pub row_read : (m : OperatorMatrix) (k : ℕ) (r : List Ordered) → slice_get m.rows k ≡ Some r → row_at (rows_of m) k ≡ sums_of r
 row_read m k r e = get_or-map sums_of m.rows k r [] (slice_get_within m.rows k r e) ∙ ap sums_of (get_or_from_slice_get m.rows k r r e)
@@ -38,14 +32,6 @@ drop_read xs k x e = drop_more xs k x (slice_get_within xs k x e) ∙ ap (λ y. 
 
 pub drop_mapped : {A B : Type 0} (f : A → B) (xs : List A) (k : ℕ) (x : A) → slice_get xs k ≡ Some x → drop k (map f xs) ≡ f x ∷ drop (k + 1) (map f xs)
 drop_mapped f xs k x e = drop-map f k xs ∙ ap (map f) (drop_read xs k x e) ∙ ap (λ ys. f x ∷ ys) (sym (drop-map f (k + 1) xs))
-
-pub s_row_read : (l : Limits) (s : Signature) (leads : List Term) (m : OperatorMatrix) (i j : ℕ) (c : Monomial) (f g : Operator rationals) (r q : List Ordered)
-    → c ≡ (pair_term leads i j).monomial → f ≡ single rationals plain_cmp (quotient c (lead_at leads i).monomial) rationals.one → g ≡ single rationals plain_cmp (quotient c (lead_at leads j).monomial) rationals.one
-    → slice_get m.rows i ≡ Some r → slice_get m.rows j ≡ Some q → multiples_less rationals (within l s) f (sums_of r) g (sums_of q) ≡ s_row_within l s leads (rows_of m) i j
-unfolding s_row_within
-s_row_read l s leads m i j c f g r q same d e at_i at_j = λ n.
-    multiples_less rationals (within l s) ((d ∙ ap (λ c. single rationals plain_cmp (quotient c (lead_at leads i).monomial) rationals.one) same) n) (sym (row_read m i r at_i) n)
-    ((e ∙ ap (λ c. single rationals plain_cmp (quotient c (lead_at leads j).monomial) rationals.one) same) n) (sym (row_read m j q at_j) n)
 
 pub step_read : (l : Limits) (s : Signature) (m : OperatorMatrix) (t : Step rationals) (f : Operator rationals) (r b : List Ordered)
     → f ≡ step_operator rationals t → slice_get m.rows t.index ≡ Some b → less_multiple rationals (within l s) f (sums_of b) (sums_of r) ≡ less_step l s (rows_of m) t (sums_of r)

@@ -4,14 +4,15 @@
 use Rattle.std.proofs.Common.{ap}
 use Rattle.std.specs.declared.result.Result.{Result}
 use Rattle.ore_algebra.specs.Limits.{Cause}
+use Rattle.ore_algebra.proofs.ResultLaws.{refused_on}
 use Rattle.ore_monomial.specs.Gives.{Fails}
 use Rattle.ore_monomial.specs.declared.stop.RingStop.{RingStop}
 use Rattle.ore_monomial.specs.declared.stop.RingStop.TheVariants as stop
-use Rattle.ore_blocks.specs.Conditions.{Checked, ◌>>=◌, formed}
-use Rattle.ore_blocks.specs.Judging.{Refuses, stopped}
+use Rattle.ore_blocks.specs.Conditions.{Checked, formed}
+use Rattle.ore_algebra.specs.Results.{◌>>=◌}
+use Rattle.ore_blocks.specs.Judging.{failing_of, Refuses, stopped}
 use Rattle.ore_blocks.specs.declared.place.Place.{Place}
 use Rattle.ore_blocks.specs.declared.refusal.Refusal.{Refusal}
-use Rattle.ore_blocks.specs.declared.refusal.Refusal.TheVariants as refusal
 
 pub stopped_refuses : {Y : Type 0} (place : Place) (e : RingStop) (given : Result Y Cause) → Fails e given → Refuses (stopped place e) (formed place given)
 stopped_refuses place stop.Overflow given h = ap (formed place) h
@@ -19,7 +20,4 @@ stopped_refuses place stop.Degree given h = ap (formed place) h
 stopped_refuses place stop.Memory given h = tt
 
 pub refuses_on : {X Y : Type 0} (e : Refusal) (given : Checked X) (k : X → Checked Y) → Refuses e given → Refuses e (given >>= k)
-refuses_on (refusal.Fails place reason) given k h = ap (λ r. r >>= k) h
-refuses_on (refusal.Overflow place) given k h = ap (λ r. r >>= k) h
-refuses_on (refusal.Degree place) given k h = ap (λ r. r >>= k) h
-refuses_on refusal.Memory given k h = tt
+refuses_on e = refused_on (Unit {0}) (failing_of e)

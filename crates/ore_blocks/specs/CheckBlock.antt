@@ -1,12 +1,11 @@
 -- The conditions of a block, place by place: lists of the conditions of `PlaceConditions.antt`, and the blocks.
---     Plain, plain               a matrix as its columns and rows
+--     RowMatrix, plain               a matrix as its columns and rows
 --     rows_taken                 how many inside rows an entry takes
 --     pair_of                    the pair of an entry
 --     entry_of, entries_of       an entry, and a list of them, as the laws on lists of pairs have them
 --     are_zero                   some rows are zero
 --     basis_leads                the leads of basis rows, from row k on
 --     rows_give                  the rows of a matrix with a name times another are given rows, from row k on
---     common_fits                the common multiple of a pair may be formed
 --     check_steps                the steps of a pair, each below the common multiple, leave nothing
 --     check_entry, check_entries, check_pairs     the pairs of a basis, each by those before it
 --     rows_inside, pairs_inside  the inside rows, for each row of the matrix, and then for each treated pair
@@ -16,24 +15,23 @@
 --     check_rest                 what the steps left is the rest, which can't be reduced
 --     check_outside              an outside block for a matrix a and a row w
 use Rattle.std.specs.Prelude.{ℕ, suc, ◌+◌, Bool, true, ◌&&◌, nat_eq, List, [], ◌∷◌, length, map, drop}
-use Rattle.std.specs.declared.result.Result.{Result}
 use Rattle.std.specs.declared.result.Result.TheVariants.{Ok}
-use Rattle.ore_algebra.specs.Limits.{Limits, Cause, Degree, is_within, where_test}
+use Rattle.ore_algebra.specs.Limits.{Limits}
 use Rattle.ore_rational.proofs.FractionLaws.{rationals}
-use Rattle.ore_monomial.specs.Monomial.{degree}
 use Rattle.ore_monomial.specs.Signature.{Signature}
 use Rattle.ore_monomial.specs.Term.{Term}
 use Rattle.ore_monomial.specs.declared.order.Order.{Order}
 use Rattle.ore_ring.specs.Ordered.{Ordered}
 use Rattle.ore_rows.specs.Rows.{Row}
 use Rattle.ore_rows.specs.RowLead.{row_lead}
+use Rattle.ore_rows.specs.Arithmetic.{within}
 use Rattle.ore_rows.specs.RowsWithin.{matrix_times_within}
 use Rattle.ore_rows.specs.Reduction.{Step}
 use Rattle.ore_rows.specs.Stored.{OperatorMatrix, sums_of, rows_of}
 use Rattle.ore_pairs.specs.PairList.{Entry, pair_count, treated_count}
 use Rattle.ore_pairs.specs.PairList as listed
 use Rattle.ore_pairs.specs.PairRule.{may_treat, may_skip}
-use Rattle.ore_pairs.specs.Steps.{pair_term}
+use Rattle.ore_pairs.specs.Steps.{pair_term, s_row_within, common_fits}
 use Rattle.ore_parts.specs.declared.block.PairEntry.{PairEntry}
 use Rattle.ore_parts.specs.declared.block.PairEntry.TheVariants.{Pair, Skip}
 use Rattle.ore_parts.specs.declared.block.ExactBlock.{ExactBlock}
@@ -45,16 +43,17 @@ use Rattle.ore_blocks.specs.declared.place.Name.TheVariants.{Basis, From, To, In
 use Rattle.ore_blocks.specs.declared.place.Place.TheVariants as place
 use Rattle.ore_blocks.specs.declared.reason.Reason.{Reason}
 use Rattle.ore_blocks.specs.declared.reason.Reason.TheVariants as reason
-use Rattle.ore_blocks.specs.Conditions.{Checked, ◌>>=◌, formed, required, found, is_none}
-use Rattle.ore_blocks.specs.PlaceConditions.{same_row, monic_lead, is_reduced, s_row_within, row_gives, check_step, quotient_step, row_inside, pair_inside}
+use Rattle.ore_blocks.specs.Conditions.{Checked, formed, required, found, is_none}
+use Rattle.ore_algebra.specs.Results.{◌>>=◌}
+use Rattle.ore_blocks.specs.PlaceConditions.{same_row, monic_lead, is_reduced, row_gives, check_step, quotient_step, row_inside, pair_inside}
 
 -- a matrix, without the orders of its operators
-pub record Plain : Type 0 where
+pub record RowMatrix : Type 0 where
   pub cols : ℕ
   pub rows : List (Row rationals)
 
 -- a stored matrix as a plain one
-abbrev pub plain : OperatorMatrix → Plain
+abbrev pub plain : OperatorMatrix → RowMatrix
 plain m = record { cols = m.cols; rows = rows_of m }
 
 -- ---- entries of a list of pairs
@@ -101,10 +100,6 @@ module _ (l : Limits) (s : Signature) where
     rows_give why n m at name (suc k) rs ws
   rows_give why n m at name k rs ws = Ok tt
 
-  -- the degree of the common multiple is within the limit
-  abbrev pub common_fits : Term → Result (Unit {0}) Cause
-  common_fits t = where_test (is_within l.degree (degree t.monomial)) tt Degree
-
   -- what the steps of pair k, of which n were taken, leave of a row is zero; that is said of the last step, or of the pair
   unfoldable pub check_steps : List (Row rationals) → List Term → Term → Section → ℕ → ℕ → Row rationals → List (Step rationals) → Checked (Unit {0})
   check_steps basis leads t at k n r [] = required (place.Pair at k n) reason.Remainder (is_none (row_lead rationals s.order r))
@@ -116,8 +111,8 @@ module _ (l : Limits) (s : Signature) where
   unfoldable pub check_entry : List (Row rationals) → List Term → Section → ℕ → List (ℕ × ℕ) → PairEntry → Checked (Unit {0})
   check_entry basis leads at k before (Pair i j steps) = do
     _ ← required (place.Pair at k 0) reason.Pair (may_treat leads before i j)
-    _ ← formed (place.Pair at k 0) (common_fits (pair_term leads i j))
-    r ← formed (place.Pair at k 0) (s_row_within l s leads basis i j)
+    _ ← formed (place.Pair at k 0) (common_fits rationals (within l s) (pair_term leads i j))
+    r ← formed (place.Pair at k 0) (s_row_within rationals (within l s) leads basis i j)
     check_steps basis leads (pair_term leads i j) at k 0 r steps
   check_entry basis leads at k before (Skip i j via) = required (place.Pair at k 0) reason.Skip (may_treat leads before i j && may_skip leads before i j via)
 
@@ -158,7 +153,7 @@ module _ (l : Limits) (s : Signature) where
   -- ---- parts of a block
 
   -- the basis, and then `from`; the leads of the basis
-  unfoldable pub check_basis : Plain → Section → Plain → Plain → Checked (List Term)
+  unfoldable pub check_basis : RowMatrix → Section → RowMatrix → RowMatrix → Checked (List Term)
   check_basis a at basis from = do
     _ ← required (place.Header at Basis) reason.Shape (nat_eq basis.cols a.cols)
     leads ← basis_leads s.order at 0 basis.rows
@@ -167,13 +162,13 @@ module _ (l : Limits) (s : Signature) where
     Ok leads
 
   -- the rows of `to`
-  unfoldable pub check_to : Plain → Section → Plain → Plain → Checked (Unit {0})
+  unfoldable pub check_to : RowMatrix → Section → RowMatrix → RowMatrix → Checked (Unit {0})
   check_to a at basis to = do
     _ ← required (place.Header at To) reason.Shape (nat_eq (length to.rows) (length basis.rows) && nat_eq to.cols (length a.rows))
     rows_give reason.ToRow a.cols a.rows at To 0 to.rows basis.rows
 
   -- the inside rows
-  unfoldable pub check_inside : Plain → Plain → List Term → Section → Plain → Plain → List PairEntry → Plain → Checked (Unit {0})
+  unfoldable pub check_inside : RowMatrix → RowMatrix → List Term → Section → RowMatrix → RowMatrix → List PairEntry → RowMatrix → Checked (Unit {0})
   check_inside a m leads at from to pairs inside = do
     _ ← required (place.Header at Inside) reason.Shape (nat_eq (length inside.rows) (length a.rows + treated_count (entries_of pairs)) && nat_eq inside.cols (length m.rows))
     _ ← rows_inside (length a.rows) to.rows m.rows at 0 from.rows inside.rows
@@ -189,7 +184,7 @@ module _ (l : Limits) (s : Signature) where
   -- ---- blocks
 
   -- an exact block: what takes a to zeros is the row module of m
-  unfoldable pub check_exact : Section → Plain → Plain → ExactBlock → Checked (Unit {0})
+  unfoldable pub check_exact : Section → RowMatrix → RowMatrix → ExactBlock → Checked (Unit {0})
   check_exact at a m b = do
     product ← formed (place.Block at) (matrix_times_within l s a.cols m.rows a.rows)
     _ ← required (place.Block at) reason.NotInKernel (are_zero product)
@@ -199,7 +194,7 @@ module _ (l : Limits) (s : Signature) where
     check_inside a m leads at (plain b.from) (plain b.to) b.pairs (plain b.inside)
 
   -- an outside block: w is not in the row module of a
-  unfoldable pub check_outside : Plain → Row rationals → OutsideBlock → Checked (Unit {0})
+  unfoldable pub check_outside : RowMatrix → Row rationals → OutsideBlock → Checked (Unit {0})
   check_outside a w b = do
     leads ← check_basis a Body (plain b.basis) (plain b.from)
     _ ← check_pairs (rows_of b.basis) leads Body b.pairs

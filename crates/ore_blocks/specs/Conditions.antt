@@ -2,7 +2,6 @@
 --     Trouble               why a place isn't right: its condition fails, or an operation of it stops
 --     Failing               the place and why
 --     Checked               what the places give, or the first that isn't right
---     _>>=_                 go on, or keep the place that isn't right
 --     formed                the value of an operation at a place
 --     fails                 a place whose condition fails
 --     required              a test that should pass at a place
@@ -31,12 +30,6 @@ pub record Failing : Type 0 where
 -- a value where each place so far is right
 abbrev pub Checked : Type 0 → Type 0
 Checked X = Result X Failing
-
-infixl 10 ◌>>=◌
--- what is behind goes on from the value, and isn't looked at behind a place that isn't right
-abbrev pub ◌>>=◌ : {A B : Type 0} → Checked A → (A → Checked B) → Checked B
-(Ok x) >>= f = f x
-(Err e) >>= f = Err e
 
 -- the value, or the place isn't right, for the cause of the stop
 abbrev pub formed : {A : Type 0} → Place → Result A Cause → Checked A

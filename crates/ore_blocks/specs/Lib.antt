@@ -5,3 +5,8 @@ pub mod PlaceConditions
 pub mod CheckBlock
 pub mod Judging
 pub mod InnerContracts
+pub mod BlockOfRun
+pub mod KernelCourse
+pub mod Valid
+pub mod WithinLimits
+pub mod Laws

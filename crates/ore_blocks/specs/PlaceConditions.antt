@@ -3,8 +3,6 @@
 --     monic_lead                 the lead of a row whose lead coefficient is 1
 --     is_below                   a term is below another
 --     is_reduced                 a row has a lead, which no basis lead divides
---     multiplier_to              the operator that takes the lead of a row to a multiple of it
---     s_row_within               the S-row of a pair: a row less another, both multiplied to the common multiple of the pair
 --     less_step, less_steps      a row less a step, and less steps, times their rows
 --     shifted                    a term times a monomial
 --     row_gives                  a row times a matrix is the row that is wanted
@@ -18,11 +16,9 @@ use Rattle.std.specs.declared.option.Option.{Option}
 use Rattle.std.specs.declared.option.Option.TheVariants.{None, Some}
 use Rattle.std.specs.declared.result.Result.{Result}
 use Rattle.std.specs.declared.result.Result.TheVariants.{Ok}
-use Rattle.ore_algebra.specs.Free.{single}
-use Rattle.ore_algebra.specs.Limits.{Limits, Cause, Degree, is_within, where_test, fold_within}
+use Rattle.ore_algebra.specs.Limits.{Limits, Cause, Degree, is_within, guard, fold_within}
 use Rattle.ore_rational.proofs.FractionLaws.{rationals}
-use Rattle.ore_monomial.specs.LetterRule.{Operator}
-use Rattle.ore_monomial.specs.Monomial.{Monomial, degree, quotient, plain_cmp}
+use Rattle.ore_monomial.specs.Monomial.{Monomial, degree}
 use Rattle.ore_monomial.specs.Signature.{Signature}
 use Rattle.ore_monomial.specs.Term.{Term, term_cmp, shift}
 use Rattle.ore_monomial.specs.declared.order.Order.{Order}
@@ -32,14 +28,14 @@ use Rattle.ore_rows.specs.RowLead.{coefficient_at, row_lead}
 use Rattle.ore_rows.specs.RowsWithin.{difference_within, combine_within}
 use Rattle.ore_rows.specs.Arithmetic.{within}
 use Rattle.ore_rows.specs.Reduction.{Step, step_operator, row_at, less_multiple}
-use Rattle.ore_pairs.specs.Listed.{multiples_less}
-use Rattle.ore_pairs.specs.Steps.{lead_at, pair_term}
+use Rattle.ore_pairs.specs.Steps.{lead_at, s_row_within}
 use Rattle.ore_parts.specs.declared.block.PairEntry.{PairEntry}
 use Rattle.ore_parts.specs.declared.block.PairEntry.TheVariants.{Pair, Skip}
 use Rattle.ore_blocks.specs.declared.place.Place.{Place}
 use Rattle.ore_blocks.specs.declared.reason.Reason.{Reason}
 use Rattle.ore_blocks.specs.declared.reason.Reason.TheVariants as reason
-use Rattle.ore_blocks.specs.Conditions.{Checked, ◌>>=◌, formed, required, is_same, is_none}
+use Rattle.ore_blocks.specs.Conditions.{Checked, formed, required, is_same, is_none}
+use Rattle.ore_algebra.specs.Results.{◌>>=◌}
 use Rattle.ore_blocks.specs.Same.{row_discrete, rows_discrete}
 
 -- ---- tests
@@ -70,14 +66,6 @@ module _ (l : Limits) (s : Signature) where
 
   -- ---- operations
 
-  -- the operator that takes the lead of row i to the monomial m
-  abbrev pub multiplier_to : List Term → Monomial → ℕ → Operator rationals
-  multiplier_to leads m i = single rationals plain_cmp (quotient m (lead_at leads i).monomial) rationals.one
-
-  -- the S-row: row i of m less row j, each multiplied so that its lead becomes the common multiple of the pair
-  unfoldable pub s_row_within : List Term → List (Row rationals) → ℕ → ℕ → Result (Row rationals) Cause
-  s_row_within leads m i j = multiples_less rationals (within l s) (multiplier_to leads (pair_term leads i j).monomial i) (row_at m i) (multiplier_to leads (pair_term leads i j).monomial j) (row_at m j)
-
   -- the step times its row is taken away
   abbrev pub less_step : List (Row rationals) → Step rationals → Row rationals → Result (Row rationals) Cause
   less_step m t r = less_multiple rationals (within l s) (step_operator rationals t) (row_at m t.index) r
@@ -88,7 +76,7 @@ module _ (l : Limits) (s : Signature) where
 
   -- the term times the monomial m
   abbrev pub shifted : Monomial → Term → Result Term Cause
-  shifted m t = where_test (is_within l.degree (degree m + degree t.monomial)) (shift m t) Degree
+  shifted m t = guard (is_within l.degree (degree m + degree t.monomial)) (shift m t) Degree
 
   -- ---- conditions
 
@@ -120,10 +108,10 @@ module _ (l : Limits) (s : Signature) where
     right ← formed place (combine_within l s q r m)
     required place reason.Inside (same_row left right)
 
-  -- the combination of a treated pair, of the rows of `to`, is the inside row r times m; a skipped pair asks nothing
+  -- what its steps leave of the S-row of a treated pair, of the rows of `to`, is the inside row r times m; a skipped pair asks nothing
   unfoldable pub pair_inside : ℕ → List Term → List (Row rationals) → List (Row rationals) → Place → PairEntry → Row rationals → Checked (Unit {0})
   pair_inside q leads to m place (Pair i j steps) r = do
-    start ← formed place (s_row_within leads to i j)
+    start ← formed place (s_row_within rationals (within l s) leads to i j)
     left ← formed place (less_steps to steps start)
     right ← formed place (combine_within l s q r m)
     required place reason.Inside (same_row left right)

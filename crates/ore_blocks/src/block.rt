@@ -40,10 +40,10 @@ pub fn exact_block<R: OreRing>(
     section: Section,
 ) -> Result<(), Refusal>
     requires m_cols { m.now.cols ≡ length a.now.rows }
-    requires a_of { All (All (Belongs (R.signature_of ring.now))) a.now.rows }
-    requires m_of { All (All (Belongs (R.signature_of ring.now))) m.now.rows }
-    requires block_of { IsExactOf (R.signature_of ring.now) block.now }
-    ensures { Judges (λ u. u) result (check_exact program (R.signature_of ring.now) section (plain a.now) (plain m.now) block.now) }
+    requires a_of { All (All (Belongs (R.sig ring.now))) a.now.rows }
+    requires m_of { All (All (Belongs (R.sig ring.now))) m.now.rows }
+    requires block_of { IsExactOf (R.sig ring.now) block.now }
+    ensures { Judges (λ u. u) result (check_exact program (R.sig ring.now) section (plain a.now) (plain m.now) block.now) }
 {
     let place = Place::Block(section);
     let product = multiplied(ring, alloc, place, m, a)?;
@@ -72,10 +72,10 @@ pub fn outside_block<R: OreRing>(
     block: &OutsideBlock,
 ) -> Result<(), Refusal>
     requires width { length w.now ≡ a.now.cols }
-    requires a_of { All (All (Belongs (R.signature_of ring.now))) a.now.rows }
-    requires w_of { All (Belongs (R.signature_of ring.now)) w.now }
-    requires block_of { IsOutsideOf (R.signature_of ring.now) block.now }
-    ensures { Judges (λ u. u) result (check_outside program (R.signature_of ring.now) (plain a.now) (sums_of w.now) block.now) }
+    requires a_of { All (All (Belongs (R.sig ring.now))) a.now.rows }
+    requires w_of { All (Belongs (R.sig ring.now)) w.now }
+    requires block_of { IsOutsideOf (R.sig ring.now) block.now }
+    ensures { Judges (λ u. u) result (check_outside program (R.sig ring.now) (plain a.now) (sums_of w.now) block.now) }
 {
     let basis = &block.basis;
     let leads = check_basis(ring, alloc, a, Section::Body, basis, &block.from)?;
@@ -93,9 +93,9 @@ fn check_rest<R: OreRing>(
     left: &Row,
     rest: &Row,
 ) -> Result<(), Refusal>
-    requires remainder_of { All (Belongs (R.signature_of ring.now)) left.now }
-    requires rest_of { All (Belongs (R.signature_of ring.now)) rest.now }
-    ensures { Judges (λ u. u) result (check_rest program (R.signature_of ring.now) leads.now cols (sums_of left.now) rest.now) }
+    requires remainder_of { All (Belongs (R.sig ring.now)) left.now }
+    requires rest_of { All (Belongs (R.sig ring.now)) rest.now }
+    ensures { Judges (λ u. u) result (check_rest program (R.sig ring.now) leads.now cols (sums_of left.now) rest.now) }
 {
     required(
         Place::Header(Section::Body, Name::Rest),

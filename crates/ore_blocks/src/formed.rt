@@ -13,17 +13,18 @@ ghost use Rattle.ore_rows.specs.Arithmetic.{within};
 ghost use Rattle.ore_rows.specs.Reduction.{less_multiple, step_operator};
 ghost use Rattle.ore_rows.specs.RowsWithin.{combine_within, difference_within, matrix_times_within};
 ghost use Rattle.ore_rows.specs.Stored.{rows_of, sums_of};
-ghost use Rattle.ore_pairs.specs.Steps.{pair_term};
+ghost use Rattle.ore_pairs.specs.Steps.{pair_term, s_row_within};
 ghost use Rattle.ore_parts.specs.OfSignature.{AreStepsOf};
 ghost use Rattle.ore_blocks.specs.Conditions.{formed};
 ghost use Rattle.ore_blocks.specs.Judging.{Judges};
-ghost use Rattle.ore_blocks.specs.PlaceConditions.{s_row_within, less_step, less_steps};
+ghost use Rattle.ore_blocks.specs.PlaceConditions.{less_step, less_steps};
 
 use crate::place::Place;
 use crate::refusal::{Refusal, stopped};
 use ore_leads::Leads;
 use ore_monomial::RingStop;
-use ore_pairs::multiples::{common_multiple, multiples_less, multiplier};
+use ore_pairs::multiples;
+use ore_pairs::multiples::common_multiple;
 use ore_ring::{Op, OreRing};
 use ore_rows::{Matrix, Row, Step, Steps, combine, row_sub, scale, times};
 use std::alloc::Global;
@@ -41,10 +42,10 @@ pub fn combined<R: OreRing>(
     m: &Matrix,
 ) -> Result<Row, Refusal>
     requires rows { length c.now ≡ length m.now.rows }
-    requires c_of { All (Belongs (R.signature_of ring.now)) c.now }
-    requires m_of { All (All (Belongs (R.signature_of ring.now))) m.now.rows }
-    ensures judges { Judges sums_of result (formed place (combine_within program (R.signature_of ring.now) m.now.cols (sums_of c.now) (rows_of m.now))) }
-    ensures of { IfOk result (All (Belongs (R.signature_of ring.now))) }
+    requires c_of { All (Belongs (R.sig ring.now)) c.now }
+    requires m_of { All (All (Belongs (R.sig ring.now))) m.now.rows }
+    ensures judges { Judges sums_of result (formed place (combine_within program (R.sig ring.now) m.now.cols (sums_of c.now) (rows_of m.now))) }
+    ensures of { IfOk result (All (Belongs (R.sig ring.now))) }
     ensures width { IfOk result (λ r. length r ≡ m.now.cols) }
 {
     match combine(ring, alloc, c, m) {
@@ -66,10 +67,10 @@ pub fn multiplied<R: OreRing>(
     b: &Matrix,
 ) -> Result<Matrix, Refusal>
     requires fits { a.now.cols ≡ length b.now.rows }
-    requires a_of { All (All (Belongs (R.signature_of ring.now))) a.now.rows }
-    requires b_of { All (All (Belongs (R.signature_of ring.now))) b.now.rows }
-    ensures judges { Judges rows_of result (formed place (matrix_times_within program (R.signature_of ring.now) b.now.cols (rows_of a.now) (rows_of b.now))) }
-    ensures of { IfOk result (λ m. All (All (Belongs (R.signature_of ring.now))) m.rows) }
+    requires a_of { All (All (Belongs (R.sig ring.now))) a.now.rows }
+    requires b_of { All (All (Belongs (R.sig ring.now))) b.now.rows }
+    ensures judges { Judges rows_of result (formed place (matrix_times_within program (R.sig ring.now) b.now.cols (rows_of a.now) (rows_of b.now))) }
+    ensures of { IfOk result (λ m. All (All (Belongs (R.sig ring.now))) m.rows) }
 {
     match times(ring, alloc, a, b) {
         Ok(product) => Ok(product),
@@ -90,10 +91,10 @@ pub fn difference<R: OreRing>(
     b: &Row,
 ) -> Result<Row, Refusal>
     requires lengths { length a.now ≡ length b.now }
-    requires a_of { All (Belongs (R.signature_of ring.now)) a.now }
-    requires b_of { All (Belongs (R.signature_of ring.now)) b.now }
+    requires a_of { All (Belongs (R.sig ring.now)) a.now }
+    requires b_of { All (Belongs (R.sig ring.now)) b.now }
     ensures judges { Judges sums_of result (formed place (difference_within program (sums_of a.now) (sums_of b.now))) }
-    ensures of { IfOk result (All (Belongs (R.signature_of ring.now))) }
+    ensures of { IfOk result (All (Belongs (R.sig ring.now))) }
 {
     match row_sub(ring, alloc, a, b) {
         Ok(row) => Ok(row),
@@ -120,10 +121,10 @@ pub fn s_row_at<R: OreRing>(
     requires second { j < length leads.now }
     requires rows { length m.now.rows ≡ length leads.now }
     requires fits { degree (pair_term leads.now i j).monomial ≤ 32767 }
-    requires leads_of { All (λ t. MonomialOf (R.signature_of ring.now) t.monomial) leads.now }
-    requires m_of { All (All (Belongs (R.signature_of ring.now))) m.now.rows }
-    ensures judges { Judges sums_of result (formed place (s_row_within program (R.signature_of ring.now) leads.now (rows_of m.now) i j)) }
-    ensures of { IfOk result (All (Belongs (R.signature_of ring.now))) }
+    requires leads_of { All (λ t. MonomialOf (R.sig ring.now) t.monomial) leads.now }
+    requires m_of { All (All (Belongs (R.sig ring.now))) m.now.rows }
+    ensures judges { Judges sums_of result (formed place (s_row_within rationals (within program (R.sig ring.now)) leads.now (rows_of m.now) i j)) }
+    ensures of { IfOk result (All (Belongs (R.sig ring.now))) }
     ensures width { IfOk result (λ r. length r ≡ m.now.cols) }
 {
     match s_row(ring, alloc, leads, m, i, j) {
@@ -148,11 +149,11 @@ pub fn less_step_at<R: OreRing>(
 ) -> Result<Row, Refusal>
     requires place { step.now.index < length m.now.rows }
     requires width { length row.now ≡ m.now.cols }
-    requires step_of { MonomialOf (R.signature_of ring.now) step.now.monomial }
-    requires row_of { All (Belongs (R.signature_of ring.now)) row.now }
-    requires m_of { All (All (Belongs (R.signature_of ring.now))) m.now.rows }
-    ensures judges { Judges sums_of result (formed place (less_step program (R.signature_of ring.now) (rows_of m.now) step.now (sums_of row.now))) }
-    ensures of { IfOk result (All (Belongs (R.signature_of ring.now))) }
+    requires step_of { MonomialOf (R.sig ring.now) step.now.monomial }
+    requires row_of { All (Belongs (R.sig ring.now)) row.now }
+    requires m_of { All (All (Belongs (R.sig ring.now))) m.now.rows }
+    ensures judges { Judges sums_of result (formed place (less_step program (R.sig ring.now) (rows_of m.now) step.now (sums_of row.now))) }
+    ensures of { IfOk result (All (Belongs (R.sig ring.now))) }
     ensures width { IfOk result (λ r. length r ≡ m.now.cols) }
 {
     match less_step(ring, alloc, m, row, step) {
@@ -177,11 +178,11 @@ pub fn less_steps_at<R: OreRing>(
 ) -> Result<Row, Refusal>
     requires places { All (λ t. t.index < length m.now.rows) steps.now }
     requires width { length row ≡ m.now.cols }
-    requires steps_of { AreStepsOf (R.signature_of ring.now) steps.now }
-    requires row_of { All (Belongs (R.signature_of ring.now)) row }
-    requires m_of { All (All (Belongs (R.signature_of ring.now))) m.now.rows }
-    ensures judges { Judges sums_of result (formed place (less_steps program (R.signature_of ring.now) (rows_of m.now) steps.now (sums_of row))) }
-    ensures of { IfOk result (All (Belongs (R.signature_of ring.now))) }
+    requires steps_of { AreStepsOf (R.sig ring.now) steps.now }
+    requires row_of { All (Belongs (R.sig ring.now)) row }
+    requires m_of { All (All (Belongs (R.sig ring.now))) m.now.rows }
+    ensures judges { Judges sums_of result (formed place (less_steps program (R.sig ring.now) (rows_of m.now) steps.now (sums_of row))) }
+    ensures of { IfOk result (All (Belongs (R.sig ring.now))) }
 {
     match less_steps(ring, alloc, m, row, steps) {
         Ok(left) => Ok(left),
@@ -202,18 +203,16 @@ fn s_row<R: OreRing>(
     requires second { j < length leads.now }
     requires rows { length m.now.rows ≡ length leads.now }
     requires fits { degree (pair_term leads.now i j).monomial ≤ 32767 }
-    requires leads_of { All (λ t. MonomialOf (R.signature_of ring.now) t.monomial) leads.now }
-    requires m_of { All (All (Belongs (R.signature_of ring.now))) m.now.rows }
-    ensures gives { Gives sums_of result (s_row_within program (R.signature_of ring.now) leads.now (rows_of m.now) i j) }
-    ensures of { IfOk result (All (Belongs (R.signature_of ring.now))) }
+    requires leads_of { All (λ t. MonomialOf (R.sig ring.now) t.monomial) leads.now }
+    requires m_of { All (All (Belongs (R.sig ring.now))) m.now.rows }
+    ensures gives { Gives sums_of result (s_row_within rationals (within program (R.sig ring.now)) leads.now (rows_of m.now) i j) }
+    ensures of { IfOk result (All (Belongs (R.sig ring.now))) }
     ensures width { IfOk result (λ r. length r ≡ m.now.cols) }
 {
     let Ok(multiple) = common_multiple(leads, i, j) else {
         unreachable!()
     };
-    let first = multiplier(ring, alloc, leads, i, &multiple)?;
-    let second = multiplier(ring, alloc, leads, j, &multiple)?;
-    multiples_less(ring, alloc, &first, m.row(i), &second, m.row(j))
+    multiples::s_row(ring, alloc, leads, &multiple, i, j, m.row(i), m.row(j))
 }
 
 // A row less each step times its row of `m`, in order.
@@ -226,11 +225,11 @@ fn less_steps<R: OreRing>(
 ) -> Result<Row, RingStop>
     requires places { All (λ t. t.index < length m.now.rows) steps.now }
     requires width { length row ≡ m.now.cols }
-    requires steps_of { AreStepsOf (R.signature_of ring.now) steps.now }
-    requires row_of { All (Belongs (R.signature_of ring.now)) row }
-    requires m_of { All (All (Belongs (R.signature_of ring.now))) m.now.rows }
-    ensures gives { Gives sums_of result (less_steps program (R.signature_of ring.now) (rows_of m.now) steps.now (sums_of row)) }
-    ensures of { IfOk result (All (Belongs (R.signature_of ring.now))) }
+    requires steps_of { AreStepsOf (R.sig ring.now) steps.now }
+    requires row_of { All (Belongs (R.sig ring.now)) row }
+    requires m_of { All (All (Belongs (R.sig ring.now))) m.now.rows }
+    ensures gives { Gives sums_of result (less_steps program (R.sig ring.now) (rows_of m.now) steps.now (sums_of row)) }
+    ensures of { IfOk result (All (Belongs (R.sig ring.now))) }
 {
     let mut left = row;
     for k in 0..steps.len() {
@@ -249,11 +248,11 @@ fn less_step<R: OreRing>(
 ) -> Result<Row, RingStop>
     requires place { step.now.index < length m.now.rows }
     requires width { length row.now ≡ m.now.cols }
-    requires step_of { MonomialOf (R.signature_of ring.now) step.now.monomial }
-    requires row_of { All (Belongs (R.signature_of ring.now)) row.now }
-    requires m_of { All (All (Belongs (R.signature_of ring.now))) m.now.rows }
-    ensures gives { Gives sums_of result (less_step program (R.signature_of ring.now) (rows_of m.now) step.now (sums_of row.now)) }
-    ensures of { IfOk result (All (Belongs (R.signature_of ring.now))) }
+    requires step_of { MonomialOf (R.sig ring.now) step.now.monomial }
+    requires row_of { All (Belongs (R.sig ring.now)) row.now }
+    requires m_of { All (All (Belongs (R.sig ring.now))) m.now.rows }
+    ensures gives { Gives sums_of result (less_step program (R.sig ring.now) (rows_of m.now) step.now (sums_of row.now)) }
+    ensures of { IfOk result (All (Belongs (R.sig ring.now))) }
     ensures width { IfOk result (λ r. length r ≡ m.now.cols) }
 {
     let term = step_term(ring, alloc, step)?;
@@ -262,9 +261,9 @@ fn less_step<R: OreRing>(
 
 // The operator that a step multiplies with.
 fn step_term<R: OreRing>(ring: &R, alloc: Global, step: &Step) -> Result<Op, RingStop>
-    requires { MonomialOf (R.signature_of ring.now) step.now.monomial }
+    requires { MonomialOf (R.sig ring.now) step.now.monomial }
     ensures value { IfOk result (λ f. f.sum ≡ step_operator rationals step.now) }
-    ensures of { IfOk result (Belongs (R.signature_of ring.now)) }
+    ensures of { IfOk result (Belongs (R.sig ring.now)) }
     ensures memory { IfErr result (λ e. e ≡ Memory) }
 {
     let order = ring.signature().order();
@@ -281,11 +280,11 @@ fn row_less<R: OreRing>(
     other: &Row,
 ) -> Result<Row, RingStop>
     requires width { length row.now ≡ length other.now }
-    requires row_of { All (Belongs (R.signature_of ring.now)) row.now }
-    requires term_of { Belongs (R.signature_of ring.now) term.now }
-    requires other_of { All (Belongs (R.signature_of ring.now)) other.now }
-    ensures gives { Gives sums_of result (less_multiple rationals (within program (R.signature_of ring.now)) term.now.sum (sums_of other.now) (sums_of row.now)) }
-    ensures of { IfOk result (All (Belongs (R.signature_of ring.now))) }
+    requires row_of { All (Belongs (R.sig ring.now)) row.now }
+    requires term_of { Belongs (R.sig ring.now) term.now }
+    requires other_of { All (Belongs (R.sig ring.now)) other.now }
+    ensures gives { Gives sums_of result (less_multiple rationals (within program (R.sig ring.now)) term.now.sum (sums_of other.now) (sums_of row.now)) }
+    ensures of { IfOk result (All (Belongs (R.sig ring.now))) }
     ensures width { IfOk result (λ r. length r ≡ length row.now) }
 {
     let multiple = scale(ring, alloc, term, other)?;

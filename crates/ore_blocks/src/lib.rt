@@ -9,9 +9,12 @@
 //! [`exact_block`] and [`outside_block`] answer just that: nothing where each place is right, else a [`Refusal`], which
 //! names its place (`specs/Judging.antt`); a [`Reason`] has its word (`specs/ReasonWords.antt`). Blocks may have any
 //! sizes, and all operators are of the signature of the ring. The conditions and operations of single places that a
-//! certificate has outside its blocks are in [`equal`], [`formed`], [`products`] and [`refusal`]. As lemmas, over
-//! numbers of any size: an exact block without a refusal shows that the rows which take a matrix to zeros are a row
-//! module (`proofs/CheckedExact.antt`), and an outside block that a row is not in one (`proofs/CheckedOutside.antt`).
+//! certificate has outside its blocks are in [`equal`], [`formed`], [`products`] and [`refusal`].
+//!
+//! The laws of [`laws`] say that without limits a block passes exactly where it is valid (`specs/Valid.antt`), and that
+//! within limits it gives what it gives without, or an operation stops (`specs/WithinLimits.antt`): no condition of a
+//! valid block fails. As lemmas (`proofs/CheckedBlocks.antt`), over numbers of any size: an exact block without a refusal
+//! shows that the rows which take a matrix to zeros are a row module, and an outside block that a row is not in one.
 //!
 //! A call that forms the value of several conditions goes through them in the order of the definition, so that the
 //! refusal is the first. A function that checks one place has the name of its condition.
@@ -19,8 +22,11 @@
 //! Not proved, but how the check is built: it copies no row of a block, forms each row once, and counts the pairs of a
 //! basis column by column in an ordered map.
 //!
-//! The crate stands on `ore_parts` for blocks, on `ore_pairs` for the rule and the multiples of a pair and for what
-//! valid blocks show, and on `ore_rows` and below for arithmetic.
+//! `specs/BlockOfRun.antt` has the blocks that a state of a run makes, and `specs/KernelCourse.antt` what the search for
+//! a kernel does in order.
+//!
+//! The crate stands on `ore_parts` for blocks, on `ore_pairs` for runs, for the rule and the multiples of a pair and for
+//! what valid blocks show, on `ore_adjoint` and `ore_course` for the search, and on `ore_rows` and below for arithmetic.
 #![tactic(auto)]
 
 pub mod block;
@@ -28,6 +34,7 @@ mod count;
 pub mod equal;
 pub mod formed;
 mod inside;
+pub mod laws;
 pub mod monic;
 mod pairs;
 pub mod place;

@@ -1,18 +1,19 @@
 //! The pairs of a basis, each by those before it.
 
-ghost use Rattle.std.specs.Prelude.{◌≡◌, ℕ, [], ◌∷◌, ◌<◌, ◌≤◌, ◌&&◌, length, IfOk};
+ghost use Rattle.std.specs.Prelude.{◌≡◌, [], ◌∷◌, ◌<◌, ◌≤◌, ◌&&◌, length, IfOk};
 ghost use Rattle.std.specs.List.{All};
 ghost use Rattle.ore_algebra.specs.Limits.{program};
+ghost use Rattle.ore_rational.proofs.FractionLaws.{rationals};
 ghost use Rattle.ore_monomial.specs.Monomial.{degree};
 ghost use Rattle.ore_monomial.specs.Signature.{MonomialOf};
 ghost use Rattle.ore_ring.specs.Belongs.{Belongs};
+ghost use Rattle.ore_rows.specs.Arithmetic.{within};
 ghost use Rattle.ore_rows.specs.Stored.{rows_of, sums_of};
-ghost use Rattle.ore_pairs.specs.Listed.{is_in};
 ghost use Rattle.ore_pairs.specs.PairList.{treated_count};
-ghost use Rattle.ore_pairs.specs.PairRule.{may_skip, may_treat};
-ghost use Rattle.ore_pairs.specs.Steps.{pair_term};
+ghost use Rattle.ore_pairs.specs.PairRule.{HaveSamePairs, may_skip, may_treat};
+ghost use Rattle.ore_pairs.specs.Steps.{common_fits, pair_term};
 ghost use Rattle.ore_parts.specs.OfSignature.{AreStepsOf, IsEntryOf};
-ghost use Rattle.ore_blocks.specs.CheckBlock.{check_entries, check_entry, check_pairs, common_fits, entries_of, pair_of, rows_taken};
+ghost use Rattle.ore_blocks.specs.CheckBlock.{check_entries, check_entry, check_pairs, entries_of, pair_of, rows_taken};
 ghost use Rattle.ore_blocks.specs.Conditions.{formed};
 ghost use Rattle.ore_blocks.specs.Judging.{Judges};
 ghost use Rattle.ore_blocks.specs.InnerContracts.{IsTreatable};
@@ -27,7 +28,7 @@ use ore_leads::Leads;
 use ore_monomial::{Exps, NoMemory};
 use ore_pairs::Listed;
 use ore_pairs::multiples::common_multiple;
-use ore_pairs::rule::may_skip;
+use ore_pairs::rule::{may_skip, may_treat};
 use ore_parts::{PairEntry, Pairs};
 use ore_ring::OreRing;
 use ore_rows::{Matrix, Steps};
@@ -48,10 +49,10 @@ pub fn check_pairs<R: OreRing>(
     pairs: &Pairs,
 ) -> Result<(), Refusal>
     requires rows { length leads.now ≡ length basis.now.rows }
-    requires leads_of { All (λ t. MonomialOf (R.signature_of ring.now) t.monomial) leads.now }
-    requires basis_of { All (All (Belongs (R.signature_of ring.now))) basis.now.rows }
-    requires pairs_of { All (IsEntryOf (R.signature_of ring.now)) pairs.now }
-    ensures judges { Judges (λ u. u) result (check_pairs program (R.signature_of ring.now) (rows_of basis.now) leads.now section pairs.now) }
+    requires leads_of { All (λ t. MonomialOf (R.sig ring.now) t.monomial) leads.now }
+    requires basis_of { All (All (Belongs (R.sig ring.now))) basis.now.rows }
+    requires pairs_of { All (IsEntryOf (R.sig ring.now)) pairs.now }
+    ensures judges { Judges (λ u. u) result (check_pairs program (R.sig ring.now) (rows_of basis.now) leads.now section pairs.now) }
     ensures treatable { IfOk result (λ _. All (IsTreatable leads.now) pairs.now) }
 {
     let count = pair_count(alloc, leads)?;
@@ -73,10 +74,10 @@ fn check_entries<R: OreRing>(
     pairs: &Pairs,
 ) -> Result<(), Refusal>
     requires rows { length leads.now ≡ length basis.now.rows }
-    requires leads_of { All (λ t. MonomialOf (R.signature_of ring.now) t.monomial) leads.now }
-    requires basis_of { All (All (Belongs (R.signature_of ring.now))) basis.now.rows }
-    requires pairs_of { All (IsEntryOf (R.signature_of ring.now)) pairs.now }
-    ensures judges { Judges (λ u. u) result (check_entries program (R.signature_of ring.now) (rows_of basis.now) leads.now section 0 [] pairs.now) }
+    requires leads_of { All (λ t. MonomialOf (R.sig ring.now) t.monomial) leads.now }
+    requires basis_of { All (All (Belongs (R.sig ring.now))) basis.now.rows }
+    requires pairs_of { All (IsEntryOf (R.sig ring.now)) pairs.now }
+    ensures judges { Judges (λ u. u) result (check_entries program (R.sig ring.now) (rows_of basis.now) leads.now section 0 [] pairs.now) }
     ensures treatable { IfOk result (λ _. All (IsTreatable leads.now) pairs.now) }
 {
     let mut listed = Listed::new(alloc);
@@ -89,10 +90,10 @@ fn check_entries<R: OreRing>(
 }
 
 // One more pair is listed.
-#[tactic(auto, unfolding(ore_pairs::specs::Listed::is_in, crate::specs::CheckBlock::pair_of))]
+#[tactic(auto, unfolding(crate::specs::CheckBlock::pair_of))]
 fn list_pair(leads: &Leads, listed: &mut Listed, entry: &PairEntry) -> Result<(), NoMemory>
     requires { IsTreatable leads.now entry.now }
-    ensures { IfOk result (λ _. (x y : ℕ) → is_in x y listed.new ≡ is_in x y (pair_of entry.now ∷ listed.old)) }
+    ensures { IfOk result (λ _. HaveSamePairs listed.new (pair_of entry.now ∷ listed.old)) }
 {
     let _leads = leads;
     match entry {
@@ -136,10 +137,10 @@ fn check_entry<R: OreRing>(
     entry: &PairEntry,
 ) -> Result<(), Refusal>
     requires rows { length leads.now ≡ length basis.now.rows }
-    requires leads_of { All (λ t. MonomialOf (R.signature_of ring.now) t.monomial) leads.now }
-    requires basis_of { All (All (Belongs (R.signature_of ring.now))) basis.now.rows }
-    requires entry_of { IsEntryOf (R.signature_of ring.now) entry.now }
-    ensures judges { Judges (λ u. u) result (check_entry program (R.signature_of ring.now) (rows_of basis.now) leads.now section k before.now entry.now) }
+    requires leads_of { All (λ t. MonomialOf (R.sig ring.now) t.monomial) leads.now }
+    requires basis_of { All (All (Belongs (R.sig ring.now))) basis.now.rows }
+    requires entry_of { IsEntryOf (R.sig ring.now) entry.now }
+    ensures judges { Judges (λ u. u) result (check_entry program (R.sig ring.now) (rows_of basis.now) leads.now section k before.now entry.now) }
 {
     match entry {
         PairEntry::Pair { i, j, steps } => check_pair(
@@ -168,10 +169,10 @@ fn check_pair<R: OreRing>(
     steps: &Steps,
 ) -> Result<(), Refusal>
     requires rows { length leads.now ≡ length basis.now.rows }
-    requires leads_of { All (λ t. MonomialOf (R.signature_of ring.now) t.monomial) leads.now }
-    requires basis_of { All (All (Belongs (R.signature_of ring.now))) basis.now.rows }
-    requires steps_of { AreStepsOf (R.signature_of ring.now) steps.now }
-    ensures { Judges (λ u. u) result (check_entry program (R.signature_of ring.now) (rows_of basis.now) leads.now section k before.now (PairEntry.Pair i j steps.now)) }
+    requires leads_of { All (λ t. MonomialOf (R.sig ring.now) t.monomial) leads.now }
+    requires basis_of { All (All (Belongs (R.sig ring.now))) basis.now.rows }
+    requires steps_of { AreStepsOf (R.sig ring.now) steps.now }
+    ensures { Judges (λ u. u) result (check_entry program (R.sig ring.now) (rows_of basis.now) leads.now section k before.now (PairEntry.Pair i j steps.now)) }
 {
     let place = Place::Pair(section, k, 0);
     required(place, Reason::Pair, may_treat(leads, before, i, j))?;
@@ -201,7 +202,7 @@ fn common<R: OreRing>(
 ) -> Result<Exps, Refusal>
     requires first { i < length leads.now }
     requires second { j < length leads.now }
-    ensures judges { Judges (λ _. tt) result (formed place (common_fits program (R.signature_of ring.now) (pair_term leads.now i j))) }
+    ensures judges { Judges (λ _. tt) result (formed place (common_fits rationals (within program (R.sig ring.now)) (pair_term leads.now i j))) }
     ensures value { IfOk result (λ e. e ≡ (pair_term leads.now i j).monomial) }
     ensures fits { IfOk result (λ _. degree (pair_term leads.now i j).monomial ≤ 32767) }
 {
@@ -210,20 +211,6 @@ fn common<R: OreRing>(
         Ok(multiple) => Ok(multiple),
         Err(_passed) => Err(Refusal::Degree { place }),
     }
-}
-
-// Whether a pair is one of the basis that isn't listed before.
-#[tactic(auto, unfolding(ore_pairs::specs::PairRule::may_treat))]
-fn may_treat(leads: &Leads, before: &Listed, i: usize, j: usize) -> bool
-    ensures { result ≡ may_treat leads.now before.now i j }
-{
-    if i >= j {
-        return false;
-    }
-    if j >= leads.len() {
-        return false;
-    }
-    leads.get(i).0 == leads.get(j).0 && !before.has(i, j)
 }
 
 // Whether a pair is new and may be skipped by way of a third row.

@@ -34,11 +34,11 @@ pub fn check_basis<R: OreRing>(
     basis: &Matrix,
     from: &Matrix,
 ) -> Result<Leads, Refusal>
-    requires a_of { All (All (Belongs (R.signature_of ring.now))) a.now.rows }
-    requires basis_of { All (All (Belongs (R.signature_of ring.now))) basis.now.rows }
-    requires from_of { All (All (Belongs (R.signature_of ring.now))) from.now.rows }
-    ensures judges { Judges (λ l. l) result (check_basis program (R.signature_of ring.now) (plain a.now) section (plain basis.now) (plain from.now)) }
-    ensures of { IfOk result (All (λ t. MonomialOf (R.signature_of ring.now) t.monomial)) }
+    requires a_of { All (All (Belongs (R.sig ring.now))) a.now.rows }
+    requires basis_of { All (All (Belongs (R.sig ring.now))) basis.now.rows }
+    requires from_of { All (All (Belongs (R.sig ring.now))) from.now.rows }
+    ensures judges { Judges (λ l. l) result (check_basis program (R.sig ring.now) (plain a.now) section (plain basis.now) (plain from.now)) }
+    ensures of { IfOk result (All (λ t. MonomialOf (R.sig ring.now) t.monomial)) }
     ensures count { IfOk result (λ l. length l ≡ length basis.now.rows) }
     ensures cols { IfOk result (λ _. basis.now.cols ≡ a.now.cols) }
     ensures from_rows { IfOk result (λ _. length from.now.rows ≡ length a.now.rows) }
@@ -81,10 +81,10 @@ pub fn check_to<R: OreRing>(
     basis: &Matrix,
     to: &Matrix,
 ) -> Result<(), Refusal>
-    requires a_of { All (All (Belongs (R.signature_of ring.now))) a.now.rows }
-    requires basis_of { All (All (Belongs (R.signature_of ring.now))) basis.now.rows }
-    requires to_of { All (All (Belongs (R.signature_of ring.now))) to.now.rows }
-    ensures judges { Judges (λ u. u) result (check_to program (R.signature_of ring.now) (plain a.now) section (plain basis.now) (plain to.now)) }
+    requires a_of { All (All (Belongs (R.sig ring.now))) a.now.rows }
+    requires basis_of { All (All (Belongs (R.sig ring.now))) basis.now.rows }
+    requires to_of { All (All (Belongs (R.sig ring.now))) to.now.rows }
+    ensures judges { Judges (λ u. u) result (check_to program (R.sig ring.now) (plain a.now) section (plain basis.now) (plain to.now)) }
     ensures to_rows { IfOk result (λ _. length to.now.rows ≡ length basis.now.rows) }
     ensures to_cols { IfOk result (λ _. to.now.cols ≡ length a.now.rows) }
 {
@@ -113,10 +113,10 @@ pub fn rows_give<R: OreRing>(
 ) -> Result<(), Refusal>
     requires fits { rows.now.cols ≡ length m.now.rows }
     requires count { length rows.now.rows ≡ length wanted.now.rows }
-    requires m_of { All (All (Belongs (R.signature_of ring.now))) m.now.rows }
-    requires rows_of { All (All (Belongs (R.signature_of ring.now))) rows.now.rows }
-    requires wanted_of { All (All (Belongs (R.signature_of ring.now))) wanted.now.rows }
-    ensures { Judges (λ u. u) result (rows_give program (R.signature_of ring.now) reason m.now.cols (rows_of m.now) section name 0 (rows_of rows.now) (rows_of wanted.now)) }
+    requires m_of { All (All (Belongs (R.sig ring.now))) m.now.rows }
+    requires rows_of { All (All (Belongs (R.sig ring.now))) rows.now.rows }
+    requires wanted_of { All (All (Belongs (R.sig ring.now))) wanted.now.rows }
+    ensures { Judges (λ u. u) result (rows_give program (R.sig ring.now) reason m.now.cols (rows_of m.now) section name 0 (rows_of rows.now) (rows_of wanted.now)) }
 {
     for k in 0..rows.rows() {
         row_gives(
@@ -144,10 +144,10 @@ fn row_gives<R: OreRing>(
     wanted: &Row,
 ) -> Result<(), Refusal>
     requires fits { length row.now ≡ length m.now.rows }
-    requires m_of { All (All (Belongs (R.signature_of ring.now))) m.now.rows }
-    requires row_of { All (Belongs (R.signature_of ring.now)) row.now }
-    requires wanted_of { All (Belongs (R.signature_of ring.now)) wanted.now }
-    ensures { Judges (λ u. u) result (row_gives program (R.signature_of ring.now) reason m.now.cols (rows_of m.now) place (sums_of row.now) (sums_of wanted.now)) }
+    requires m_of { All (All (Belongs (R.sig ring.now))) m.now.rows }
+    requires row_of { All (Belongs (R.sig ring.now)) row.now }
+    requires wanted_of { All (Belongs (R.sig ring.now)) wanted.now }
+    ensures { Judges (λ u. u) result (row_gives program (R.sig ring.now) reason m.now.cols (rows_of m.now) place (sums_of row.now) (sums_of wanted.now)) }
 {
     let product = combined(ring, alloc, place, row, m)?;
     required(place, reason, are_same(ring, &product, wanted))

@@ -47,10 +47,10 @@ pub fn check_steps<R: OreRing>(
 ) -> Result<(), Refusal>
     requires rows { length leads.now ≡ length basis.now.rows }
     requires width { length row ≡ basis.now.cols }
-    requires basis_of { All (All (Belongs (R.signature_of ring.now))) basis.now.rows }
-    requires row_of { All (Belongs (R.signature_of ring.now)) row }
-    requires steps_of { AreStepsOf (R.signature_of ring.now) steps.now }
-    ensures { Judges (λ u. u) result (check_steps program (R.signature_of ring.now) (rows_of basis.now) leads.now (record { monomial = multiple.now; column = column }) section pair 0 (sums_of row) steps.now) }
+    requires basis_of { All (All (Belongs (R.sig ring.now))) basis.now.rows }
+    requires row_of { All (Belongs (R.sig ring.now)) row }
+    requires steps_of { AreStepsOf (R.sig ring.now) steps.now }
+    ensures { Judges (λ u. u) result (check_steps program (R.sig ring.now) (rows_of basis.now) leads.now (record { monomial = multiple.now; column = column }) section pair 0 (sums_of row) steps.now) }
 {
     let mut left = row;
     for n in 0..steps.len() {
@@ -88,11 +88,11 @@ fn check_step<R: OreRing>(
 ) -> Result<Row, Refusal>
     requires rows { length leads.now ≡ length basis.now.rows }
     requires width { length row.now ≡ basis.now.cols }
-    requires basis_of { All (All (Belongs (R.signature_of ring.now))) basis.now.rows }
-    requires row_of { All (Belongs (R.signature_of ring.now)) row.now }
-    requires step_of { MonomialOf (R.signature_of ring.now) step.now.monomial }
-    ensures judges { Judges sums_of result (check_step program (R.signature_of ring.now) (rows_of basis.now) leads.now (record { monomial = multiple.now; column = column }) place (sums_of row.now) step.now) }
-    ensures of { IfOk result (All (Belongs (R.signature_of ring.now))) }
+    requires basis_of { All (All (Belongs (R.sig ring.now))) basis.now.rows }
+    requires row_of { All (Belongs (R.sig ring.now)) row.now }
+    requires step_of { MonomialOf (R.sig ring.now) step.now.monomial }
+    ensures judges { Judges sums_of result (check_step program (R.sig ring.now) (rows_of basis.now) leads.now (record { monomial = multiple.now; column = column }) place (sums_of row.now) step.now) }
+    ensures of { IfOk result (All (Belongs (R.sig ring.now))) }
     ensures width { IfOk result (λ r. length r ≡ basis.now.cols) }
 {
     required(place, Reason::Step, step.index < leads.len())?;
@@ -114,7 +114,7 @@ fn shifted<R: OreRing>(
     step: &Step,
 ) -> Result<(usize, Exps), Refusal>
     requires { step.now.index < length leads.now }
-    ensures { Judges (λ t. record { monomial = t.1; column = t.0 }) result (formed place (shifted program (R.signature_of ring.now) step.now.monomial (lead_at leads.now step.now.index))) }
+    ensures { Judges (λ t. record { monomial = t.1; column = t.0 }) result (formed place (shifted program (R.sig ring.now) step.now.monomial (lead_at leads.now step.now.index))) }
 {
     let _ring = ring;
     let lead = leads.get(step.index);
@@ -148,11 +148,11 @@ pub fn quotient_steps<R: OreRing>(
     steps: &Steps,
 ) -> Result<Option<Row>, Refusal>
     requires width { length w.now ≡ basis.now.cols }
-    requires basis_of { All (All (Belongs (R.signature_of ring.now))) basis.now.rows }
-    requires w_of { All (Belongs (R.signature_of ring.now)) w.now }
-    requires steps_of { AreStepsOf (R.signature_of ring.now) steps.now }
-    ensures judges { Judges (λ o. sums_of (remainder_of o w.now)) result (quotient_steps program (R.signature_of ring.now) (rows_of basis.now) 0 (sums_of w.now) steps.now) }
-    ensures of { IfOk result (λ o. IfSome o (All (Belongs (R.signature_of ring.now)))) }
+    requires basis_of { All (All (Belongs (R.sig ring.now))) basis.now.rows }
+    requires w_of { All (Belongs (R.sig ring.now)) w.now }
+    requires steps_of { AreStepsOf (R.sig ring.now) steps.now }
+    ensures judges { Judges (λ o. sums_of (remainder_of o w.now)) result (quotient_steps program (R.sig ring.now) (rows_of basis.now) 0 (sums_of w.now) steps.now) }
+    ensures of { IfOk result (λ o. IfSome o (All (Belongs (R.sig ring.now)))) }
 {
     let mut left = None;
     for n in 0..steps.len() {
@@ -191,11 +191,11 @@ fn quotient_step<R: OreRing>(
     step: &Step,
 ) -> Result<Row, Refusal>
     requires width { length row.now ≡ basis.now.cols }
-    requires basis_of { All (All (Belongs (R.signature_of ring.now))) basis.now.rows }
-    requires row_of { All (Belongs (R.signature_of ring.now)) row.now }
-    requires step_of { MonomialOf (R.signature_of ring.now) step.now.monomial }
-    ensures judges { Judges sums_of result (quotient_step program (R.signature_of ring.now) (rows_of basis.now) place (sums_of row.now) step.now) }
-    ensures of { IfOk result (All (Belongs (R.signature_of ring.now))) }
+    requires basis_of { All (All (Belongs (R.sig ring.now))) basis.now.rows }
+    requires row_of { All (Belongs (R.sig ring.now)) row.now }
+    requires step_of { MonomialOf (R.sig ring.now) step.now.monomial }
+    ensures judges { Judges sums_of result (quotient_step program (R.sig ring.now) (rows_of basis.now) place (sums_of row.now) step.now) }
+    ensures of { IfOk result (All (Belongs (R.sig ring.now))) }
     ensures width { IfOk result (λ r. length r ≡ basis.now.cols) }
 {
     required(place, Reason::Step, step.index < basis.rows())?;

@@ -8,7 +8,7 @@
 use Rattle.std.proofs.Common.{◌≡◌, ℕ, zero, suc, ◌<◌, Bool, true, false, cond, nat_eq, List, [], ◌∷◌, length, map, get_or, refl, sym, ap, ◌∙◌, subst}
 use Rattle.std.proofs.ByRecursion.{All-get_or}
 use Rattle.std.proofs.lemmas.List.{ext_get_or}
-use Rattle.ore_algebra.specs.Free.{none, single}
+use Rattle.ore_algebra.specs.Free.{empty_sum, single}
 use Rattle.ore_rational.proofs.FractionLaws.{rationals}
 use Rattle.ore_monomial.specs.Monomial.{unit, plain_cmp}
 use Rattle.ore_monomial.specs.Signature.{Signature}
@@ -23,7 +23,7 @@ use Rattle.ore_rows.proofs.RowLaws as Rows
 use Rattle.ore_rows.proofs.UnitRows.{length-identity_rows, row-identity_rows, column-identity_rows}
 use Rattle.ore_pairs.proofs.RowSums.{of_entry}
 use Rattle.ore_pairs.proofs.Syzygies.{row-matrix_times}
-use Rattle.ore_blocks.specs.CheckBlock.{Plain}
+use Rattle.ore_blocks.specs.CheckBlock.{RowMatrix}
 use Rattle.ore_check.specs.Meaning.{RowsOf, HasLeftInverse, HasRightInverse, transposed_adjoint}
 
 module _ (s : Signature) where
@@ -52,9 +52,9 @@ module _ (s : Signature) where
   adjoint-unit_entry : (i j : ℕ) → adjoint rationals s (unit_entry rationals i j) ≡ unit_entry rationals i j
   adjoint-unit_entry i j = by (nat_eq j i)
     where
-      by : (b : Bool) → adjoint rationals s (cond b (single rationals plain_cmp unit rationals.one) (none rationals plain_cmp)) ≡ cond b (single rationals plain_cmp unit rationals.one) (none rationals plain_cmp)
+      by : (b : Bool) → adjoint rationals s (cond b (single rationals plain_cmp unit rationals.one) (empty_sum rationals plain_cmp)) ≡ cond b (single rationals plain_cmp unit rationals.one) (empty_sum rationals plain_cmp)
       by true = adjoint_one rationals s unit ∙ adjoint_unit rationals s
-      by false = Operators.linear-none rationals (adjoint-linear rationals s)
+      by false = Operators.linear-empty_sum rationals (adjoint-linear rationals s)
 
   adjoint-unit_row : (n i : ℕ) → map (adjoint rationals s) (unit_row rationals n i) ≡ unit_row rationals n i
   unfolding unit_row
@@ -64,7 +64,7 @@ module _ (s : Signature) where
       entries [] = refl
       entries (j ∷ js) = λ k. adjoint-unit_entry i j k ∷ entries js k
 
-  adjoint-identity : (n : ℕ) → transpose_adjoint rationals s n (identity_rows rationals n) ≡ identity_rows rationals n
+  pub adjoint-identity : (n : ℕ) → transpose_adjoint rationals s n (identity_rows rationals n) ≡ identity_rows rationals n
   adjoint-identity n =
       ext_get_or [] _ _ (Rows.length-adjoint rationals s n (identity_rows rationals n) ∙ sym (length-identity_rows rationals n))
       (λ k h. row k (subst (λ m. k < m) (Rows.length-adjoint rationals s n (identity_rows rationals n)) h))
@@ -78,7 +78,7 @@ module _ (s : Signature) where
 
   -- ---- inverses
 
-  pub no_left_inverse : (r : Plain) (i : ℕ) → i < r.cols → ¬ InRowModule rationals s r.cols r.rows (unit_row rationals r.cols i) → ¬ HasLeftInverse s r
+  pub no_left_inverse : (r : RowMatrix) (i : ℕ) → i < r.cols → ¬ InRowModule rationals s r.cols r.rows (unit_row rationals r.cols i) → ¬ HasLeftInverse s r
   unfolding InRowModule
   no_left_inverse r i h outside (m, of, (lm, wide, e)) = outside (
     row_at m i,
@@ -90,7 +90,7 @@ module _ (s : Signature) where
       here : i < length m
       here = subst (λ n. i < n) (sym lm) h
 
-  left_inverse_of : (r : Plain) → AreLong rationals r.cols r.rows → HasRightInverse s r → HasLeftInverse s (transposed_adjoint s r)
+  left_inverse_of : (r : RowMatrix) → AreLong rationals r.cols r.rows → HasRightInverse s r → HasLeftInverse s (transposed_adjoint s r)
   left_inverse_of r long (m, of, (lm, wide, e)) = (
     transpose_adjoint rationals s (length r.rows) m,
     of_adjoint_rows (length r.rows) m of,
@@ -101,5 +101,5 @@ module _ (s : Signature) where
     ),
   )
 
-  pub no_right_inverse : (r : Plain) → AreLong rationals r.cols r.rows → (i : ℕ) → i < length r.rows → ¬ InRowModule rationals s (length r.rows) (transposed_adjoint s r).rows (unit_row rationals (length r.rows) i) → ¬ HasRightInverse s r
+  pub no_right_inverse : (r : RowMatrix) → AreLong rationals r.cols r.rows → (i : ℕ) → i < length r.rows → ¬ InRowModule rationals s (length r.rows) (transposed_adjoint s r).rows (unit_row rationals (length r.rows) i) → ¬ HasRightInverse s r
   no_right_inverse r long i h outside right = no_left_inverse (transposed_adjoint s r) i h outside (left_inverse_of r long right)

@@ -25,7 +25,7 @@ use Rattle.ore_parts.specs.declared.block.ExactBlock.{ExactBlock}
 use Rattle.ore_parts.specs.OfSignature.{MatrixOf}
 use Rattle.ore_cert.specs.declared.certificate.Side.TheVariants.{Right}
 use Rattle.ore_cert.specs.declared.certificate.Certificate.TheVariants.{Kernel}
-use Rattle.ore_blocks.specs.CheckBlock.{Plain}
+use Rattle.ore_blocks.specs.CheckBlock.{RowMatrix}
 use Rattle.ore_blocks.proofs.Converted.{wide_rows}
 use Rattle.ore_check.specs.Meaning.{Means}
 use Rattle.ore_check.specs.Laws.{as_column, IsColumnOf}
@@ -52,7 +52,7 @@ module _ (s : Signature) where
   zeros_adjoint : (n : ℕ) → map (adjoint rationals s) (zero_row rationals n) ≡ zero_row rationals n
   unfolding zero_row
   zeros_adjoint zero = refl
-  zeros_adjoint (suc n) = λ i. Operators.linear-none rationals (adjoint-linear rationals s) i ∷ zeros_adjoint n i
+  zeros_adjoint (suc n) = λ i. Operators.linear-empty_sum rationals (adjoint-linear rationals s) i ∷ zeros_adjoint n i
 
   long_product : (n : ℕ) (a b : List (Row rationals)) → AreLong rationals n b → AreLong rationals n (matrix_times rationals s n a b)
   unfolding matrix_times
@@ -100,7 +100,7 @@ module _ (s : Signature) where
     from_columns : (x : Row rationals) → matrix_times rationals s 1 a (as_column x) ≡ as_column e → combine rationals s (length a) (map (adjoint rationals s) x) (transpose_adjoint rationals s m a) ≡ adjoints
     from_columns x h = ap (λ rows. get_or rows 0 []) (sym (product_adjoint m a x long) ∙ ap (transpose_adjoint rationals s 1) h ∙ adjoint_of_column e)
 
-  pub right_kernel_exact : (r : Plain) (m : OperatorMatrix) (block : ExactBlock) → AreLong rationals r.cols r.rows → MatrixOf s m → Means s r (Kernel Right m block)
+  pub right_kernel_exact : (r : RowMatrix) (m : OperatorMatrix) (block : ExactBlock) → AreLong rationals r.cols r.rows → MatrixOf s m → Means s r (Kernel Right m block)
       → (e : Row rationals) → length e ≡ r.cols → RowOf rationals s e
       → (matrix_times rationals s 1 r.rows (as_column e) ≡ as_column (zero_row rationals (length r.rows))) ↔ IsColumnOf s m e
   unfolding IsExact InRowModule

@@ -20,7 +20,8 @@ use Rattle.ore_rows.specs.Stored.{OperatorMatrix, sums_of, rows_of}
 use Rattle.ore_text.specs.Names.{AreNames}
 use Rattle.ore_parts.specs.Lines.{LacksByte, IsLine}
 use Rattle.ore_parts.specs.Formats.{line_count}
-use Rattle.ore_parts.specs.BlockText.{line, place, step_text, entry_text, pairs_text, steps_text, matrix_part, row_part, exact_text, outside_text, IsWrittenStep, IsWrittenSteps, IsWrittenEntry, IsWrittenPairs, IsWrittenExact, IsWrittenOutside, is_place}
+use Rattle.ore_text.specs.Lines.{line}
+use Rattle.ore_parts.specs.BlockText.{place, step_text, entry_text, pairs_text, steps_text, matrix_part, row_part, exact_text, outside_text, IsWrittenStep, IsWrittenSteps, IsWrittenEntry, IsWrittenPairs, IsWrittenExact, IsWrittenOutside, is_place}
 use Rattle.ore_parts.specs.PartFormats.{step_words, entry_words}
 use Rattle.ore_parts.specs.declared.pairs.EntryLine.TheVariants.{PairLine, SkipLine}
 use Rattle.ore_parts.specs.declared.block.PairEntry.{PairEntry}
@@ -37,7 +38,7 @@ use Rattle.ore_cert.specs.declared.certificate.Side.TheVariants.{Left, Right}
 use Rattle.ore_cert.specs.declared.certificate.Certificate.{Certificate}
 use Rattle.ore_cert.specs.declared.certificate.Certificate.TheVariants.{Controllable, AutonomousElement, LeftInverse, RightInverse, NoLeftInverse, NoRightInverse, Kernel, Resolution, ExtZero, ExtNonzero, Halted}
 use Rattle.ore_cert.specs.declared.kind.Kind.TheVariants as kind
-use Rattle.ore_cert.specs.KindFormat.{kind_words}
+use Rattle.ore_cert.specs.KindWords.{kind_words}
 use Rattle.ore_cert.specs.WholeFormats.{operator_words}
 use Rattle.ore_cert.specs.WholeText.{kind_text, link_text, operator_line, rest_text, certificate_text, IsWrittenLink, IsWrittenCertificate}
 use Rattle.ore_cert.proofs.KindLaws.{kind_line}

@@ -12,7 +12,7 @@
 use Rattle.std.specs.Prelude.{◌≡◌, ℕ, suc, not, ◌&&◌, nat_eq, nat_lt, nat_le, cond, List, [], ◌∷◌, length}
 use Rattle.std.specs.declared.result.Result.{Result}
 use Rattle.std.specs.declared.result.Result.TheVariants.{Ok, Err}
-use Rattle.ore_algebra.specs.Free.{none}
+use Rattle.ore_algebra.specs.Free.{empty_sum}
 use Rattle.ore_algebra.specs.Limits.{Limits, Cause}
 use Rattle.ore_algebra.specs.Limits as cause
 use Rattle.ore_rational.proofs.FractionLaws.{rationals}
@@ -33,8 +33,9 @@ use Rattle.ore_blocks.specs.declared.place.Place.TheVariants as place
 use Rattle.ore_blocks.specs.declared.reason.Reason.TheVariants as reason
 use Rattle.ore_check.specs.declared.answer.Checked.{Checked as Answer}
 use Rattle.ore_check.specs.declared.answer.Checked.TheVariants as answer
-use Rattle.ore_blocks.specs.Conditions.{Checked, Trouble, Fails, Stops, ◌>>=◌, formed, required, is_same}
-use Rattle.ore_blocks.specs.CheckBlock.{Plain, plain, rows_give, are_zero, check_exact, check_outside}
+use Rattle.ore_blocks.specs.Conditions.{Checked, Trouble, Fails, Stops, formed, required, is_same}
+use Rattle.ore_algebra.specs.Results.{◌>>=◌}
+use Rattle.ore_blocks.specs.CheckBlock.{RowMatrix, plain, rows_give, are_zero, check_exact, check_outside}
 use Rattle.ore_blocks.specs.PlaceConditions.{same_row, same_rows}
 use Rattle.ore_blocks.specs.Same.{operator_discrete}
 
@@ -45,11 +46,11 @@ IsNoReport certificate = Unit {0}
 
 module _ (l : Limits) (s : Signature) where
   -- within the limits, with a row for each column of m
-  abbrev pub adjoint_of : Plain → Result (List (Row rationals)) Cause
+  abbrev pub adjoint_of : RowMatrix → Result (List (Row rationals)) Cause
   adjoint_of m = transpose_adjoint_within l s m.cols m.rows
 
   -- the links from number i on: what takes the matrix of each to zeros is the row module of the next; the last two matrices
-  unfoldable pub check_links : ℕ → Plain → Plain → List Link → Checked (Plain × Plain)
+  unfoldable pub check_links : ℕ → RowMatrix → RowMatrix → List Link → Checked (RowMatrix × RowMatrix)
   check_links i before r [] = Ok (before, r)
   check_links i before r (k ∷ ks) = do
     _ ← required (place.Header (section.Link i) Generators) reason.Shape (nat_eq k.l.cols (length r.rows))
@@ -57,20 +58,20 @@ module _ (l : Limits) (s : Signature) where
     check_links (suc i) r (plain k.l) ks
 
   -- the adjoints of the last two matrices of a resolution, the last first
-  unfoldable pub adjoints_of : Plain × Plain → Checked (Plain × Plain)
+  unfoldable pub adjoints_of : RowMatrix × RowMatrix → Checked (RowMatrix × RowMatrix)
   adjoints_of pair = do
     after ← formed (place.Block section.Body) (adjoint_of pair.1)
     before ← formed (place.Block section.Body) (adjoint_of pair.0)
     Ok (record { cols = length pair.1.rows; rows = after }, record { cols = length pair.0.rows; rows = before })
 
   -- r is the matrix of the problem
-  unfoldable pub check : Plain → (c : Certificate) → IsNoReport c → Checked (Unit {0})
+  unfoldable pub check : RowMatrix → (c : Certificate) → IsNoReport c → Checked (Unit {0})
   check r (Controllable q block) claims = do
     _ ← required (place.Header section.Body Generators) reason.Shape (nat_eq (length q.rows) r.cols)
     check_exact l s section.Body (plain q) r block
   check r (AutonomousElement element operator cofactor block) claims = do
     _ ← required (place.Header section.Body Element) reason.Shape (nat_eq (length element) r.cols)
-    _ ← required place.Operator reason.ZeroOperator (not (is_same operator_discrete operator.sum (none rationals plain_cmp)))
+    _ ← required place.Operator reason.ZeroOperator (not (is_same operator_discrete operator.sum (empty_sum rationals plain_cmp)))
     _ ← required (place.Header section.Body Cofactor) reason.Shape (nat_eq (length cofactor) (length r.rows))
     left ← formed (place.Row section.Body Cofactor 0) (scale_within l s operator.sum (sums_of element))
     right ← formed (place.Row section.Body Cofactor 0) (combine_within l s r.cols (sums_of cofactor) r.rows)

@@ -1,5 +1,5 @@
 -- What a certificate shows for which the check says that it is valid, over the fractions, for a signature and its order.
---     CheckIsTrue                a valid certificate is true
+--     CheckIsTrue                a certificate that passes the check is true
 --     ExactIsTorsionFree         a matrix that is what takes another to zeros leaves no torsion
 --     IsControllable, IsAutonomous      a certificate of the one verdict, and of the other
 --     HasOneVerdict              no matrix has both verdicts
@@ -21,7 +21,7 @@ use Rattle.ore_cert.specs.declared.certificate.Side.TheVariants.{Right}
 use Rattle.ore_cert.specs.declared.certificate.Certificate.{Certificate}
 use Rattle.ore_cert.specs.declared.certificate.Certificate.TheVariants.{Controllable, AutonomousElement, Kernel}
 use Rattle.ore_cert.specs.CertificateOf.{IsCertificateOf}
-use Rattle.ore_check.specs.Check.{check, IsBuilt, IsNoReport}
+use Rattle.ore_check.specs.Check.{check, IsNoReport}
 use Rattle.ore_check.specs.Layout.{line_in}
 use Rattle.ore_blocks.specs.declared.place.Place.TheVariants.{End}
 use Rattle.ore_text.specs.Names.{AreNames}
@@ -29,7 +29,7 @@ use Rattle.ore_parts.specs.Formats.{line_count}
 use Rattle.ore_cert.specs.WholeText.{rest_text, certificate_text, IsWrittenCertificate}
 use Rattle.std.specs.List.{flat_map}
 use Rattle.ore_check.specs.Parts.{parts_of, FollowOn}
-use Rattle.ore_blocks.specs.CheckBlock.{Plain}
+use Rattle.ore_blocks.specs.CheckBlock.{RowMatrix}
 use Rattle.ore_check.specs.Meaning.{RowsOf, Means}
 
 -- each entry is a row of its own
@@ -37,15 +37,15 @@ abbrev pub as_column : Row rationals → List (Row rationals)
 as_column e = map (λ f. f ∷ []) e
 
 module _ (s : Signature) where
-  -- a certificate of the signature that is valid, within whatever limits it is checked, is true of r
+  -- a certificate of the signature that passes the check, within whatever limits, is true of r
   abbrev pub CheckIsTrue : Type 0
-  CheckIsTrue = (l : Limits) (r : Plain) (c : Certificate) → AreLong rationals r.cols r.rows → RowsOf s r.rows → IsCertificateOf s c → IsBuilt c
+  CheckIsTrue = (l : Limits) (r : RowMatrix) (c : Certificate) → AreLong rationals r.cols r.rows → RowsOf s r.rows → IsCertificateOf s c
       → (claims : IsNoReport c) → check l s r c claims ≡ Ok tt → Means s r c
 
   -- where the rows that take q to zeros are the row module of r, no row is torsion but those of the module; q has a row
   -- for each column of r (Chyzak, Quadrat and Robertz 2005)
   abbrev pub ExactIsTorsionFree : Type 0
-  ExactIsTorsionFree = (n : ℕ) (q : List (Row rationals)) (r : Plain) → AreLong rationals r.cols r.rows → RowsOf s r.rows → AreLong rationals n q → RowsOf s q → length q ≡ r.cols
+  ExactIsTorsionFree = (n : ℕ) (q : List (Row rationals)) (r : RowMatrix) → AreLong rationals r.cols r.rows → RowsOf s r.rows → AreLong rationals n q → RowsOf s q → length q ≡ r.cols
       → IsExact rationals s n q r.rows → IsTorsionFree rationals s r.cols r.rows
 
   -- the certificate claims that nothing is torsion
@@ -60,7 +60,7 @@ module _ (s : Signature) where
 
   -- of a true certificate of the one verdict and one of the other, for one matrix r, there is none
   abbrev pub HasOneVerdict : Type 0
-  HasOneVerdict = (r : Plain) (c d : Certificate) → AreLong rationals r.cols r.rows → RowsOf s r.rows → IsCertificateOf s c → IsCertificateOf s d
+  HasOneVerdict = (r : RowMatrix) (c d : Certificate) → AreLong rationals r.cols r.rows → RowsOf s r.rows → IsCertificateOf s c → IsCertificateOf s d
       → IsControllable c → IsAutonomous d → Means s r c → ¬ Means s r d
 
   -- some column of the signature, of which m times it is this one
@@ -70,7 +70,7 @@ module _ (s : Signature) where
   -- of a true right kernel: a column of the signature that r takes to zeros is a combination of the columns of the
   -- generators, and each such combination is one
   abbrev pub RightKernelIsExact : Type 0
-  RightKernelIsExact = (r : Plain) (m : OperatorMatrix) (block : ExactBlock) → AreLong rationals r.cols r.rows → MatrixOf s m → Means s r (Kernel Right m block)
+  RightKernelIsExact = (r : RowMatrix) (m : OperatorMatrix) (block : ExactBlock) → AreLong rationals r.cols r.rows → MatrixOf s m → Means s r (Kernel Right m block)
       → (e : Row rationals) → length e ≡ r.cols → RowOf rationals s e
       → (matrix_times rationals s 1 r.rows (as_column e) ≡ as_column (zero_row rationals (length r.rows))) ↔ IsColumnOf m e
 

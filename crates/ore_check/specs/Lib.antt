@@ -1,6 +1,11 @@
 pub mod Layout
 pub mod Parts
 pub mod Check
+pub mod Plans
+pub mod Reports
 pub mod Meaning
 pub mod Laws
 pub mod InnerContracts
+pub mod PlanLaws
+pub mod Valid
+pub mod ValidLaws

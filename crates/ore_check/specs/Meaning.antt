@@ -1,4 +1,5 @@
--- What a certificate says of a matrix r, over numbers of any size. It speaks of rows alone: no basis, pair or syzygy.
+-- What a certificate says of a matrix r, over numbers of any size. It speaks of rows alone: no basis, pair or syzygy. A
+-- report says that its choices lead to the stop that it names (Reports).
 -- (Torsion and parametrisations of linear systems: Chyzak, Quadrat and Robertz 2005; extension modules: Robertz 2014.)
 --     RowsOf                      some rows are of a signature
 --     IsLeftInverse, IsRightInverse       a matrix times r, or r times it, is the identity
@@ -10,7 +11,7 @@
 --     Means                       what a certificate says
 use Rattle.std.specs.Prelude.{◌≡◌, ◌≢◌, List, [], ◌∷◌, length}
 use Rattle.std.specs.List.{AllByRecursion}
-use Rattle.ore_algebra.specs.Free.{none}
+use Rattle.ore_algebra.specs.Free.{empty_sum}
 use Rattle.ore_rational.proofs.FractionLaws.{rationals}
 use Rattle.ore_monomial.specs.Monomial.{plain_cmp}
 use Rattle.ore_monomial.specs.Signature.{Signature}
@@ -21,7 +22,8 @@ use Rattle.ore_cert.specs.EachKind.{IsLength}
 use Rattle.ore_cert.specs.declared.certificate.Side.TheVariants.{Left, Right}
 use Rattle.ore_cert.specs.declared.certificate.Certificate.{Certificate}
 use Rattle.ore_cert.specs.declared.certificate.Certificate.TheVariants.{Controllable, AutonomousElement, LeftInverse, RightInverse, NoLeftInverse, NoRightInverse, Kernel, Resolution, ExtZero, ExtNonzero, Halted}
-use Rattle.ore_blocks.specs.CheckBlock.{Plain, plain}
+use Rattle.ore_blocks.specs.CheckBlock.{RowMatrix, plain}
+use Rattle.ore_check.specs.Reports.{IsHonestReport}
 
 module _ (s : Signature) where
   -- each row is of the signature
@@ -29,39 +31,39 @@ module _ (s : Signature) where
   RowsOf rows = AllByRecursion (RowOf rationals s) rows
 
   -- m r is the identity, where r has as many columns as m rows
-  abbrev pub IsLeftInverse : Plain → List (Row rationals) → Type 0
+  abbrev pub IsLeftInverse : RowMatrix → List (Row rationals) → Type 0
   IsLeftInverse r m = (length m ≡ r.cols) × AreLong rationals (length r.rows) m × (matrix_times rationals s r.cols m r.rows ≡ identity_rows rationals r.cols)
 
   -- r m is the identity, where r has as many columns as m rows
-  abbrev pub IsRightInverse : Plain → List (Row rationals) → Type 0
+  abbrev pub IsRightInverse : RowMatrix → List (Row rationals) → Type 0
   IsRightInverse r m = (length m ≡ r.cols) × AreLong rationals (length r.rows) m × (matrix_times rationals s (length r.rows) r.rows m ≡ identity_rows rationals (length r.rows))
 
   -- some m of the signature is such an inverse
-  abbrev pub HasLeftInverse : Plain → Type 0
+  abbrev pub HasLeftInverse : RowMatrix → Type 0
   HasLeftInverse r = (m : List (Row rationals)) × RowsOf m × IsLeftInverse r m
 
   -- some m of the signature is such an inverse
-  abbrev pub HasRightInverse : Plain → Type 0
+  abbrev pub HasRightInverse : RowMatrix → Type 0
   HasRightInverse r = (m : List (Row rationals)) × RowsOf m × IsRightInverse r m
 
   -- the transpose with each entry replaced by its adjoint: a row for each column, and a column for each row
-  abbrev pub transposed_adjoint : Plain → Plain
+  abbrev pub transposed_adjoint : RowMatrix → RowMatrix
   transposed_adjoint m = record { cols = length m.rows; rows = transpose_adjoint rationals s m.cols m.rows }
 
   -- the rows that take a to zeros are just the combinations of these rows, which have an entry for each row of a
-  abbrev pub IsExactFor : Plain → List (Row rationals) → Type 0
+  abbrev pub IsExactFor : RowMatrix → List (Row rationals) → Type 0
   IsExactFor a rows = IsExact rationals s a.cols a.rows rows
 
   -- the links resolve r; the last two matrices are these
-  abbrev pub IsResolution : Plain → Plain → List Link → (Plain → Plain → Type 0) → Type 0
+  abbrev pub IsResolution : RowMatrix → RowMatrix → List Link → (RowMatrix → RowMatrix → Type 0) → Type 0
   IsResolution before r [] P = P before r
   IsResolution before r (k ∷ ks) P = IsExactFor r (rows_of k.l) × IsResolution r (plain k.l) ks P
 
   -- kind by kind, of the matrix r; of the two verdicts only what is printed in brief is looked at
-  abbrev pub Means : Plain → Certificate → Type 0
+  abbrev pub Means : RowMatrix → Certificate → Type 0
   -- the rows of q parametrise what r describes, and so nothing is torsion
   Means r (Controllable q block) = (length q.rows ≡ r.cols) × IsExactFor (plain q) r.rows × IsTorsionFree rationals s r.cols r.rows
-  Means r (AutonomousElement element operator cofactor block) = (operator.sum ≢ none rationals plain_cmp)
+  Means r (AutonomousElement element operator cofactor block) = (operator.sum ≢ empty_sum rationals plain_cmp)
       × InRowModule rationals s r.cols r.rows (row_scale rationals s operator.sum (sums_of element)) × ¬ InRowModule rationals s r.cols r.rows (sums_of element)
   Means r (LeftInverse m) = IsLeftInverse r (rows_of m)
   Means r (RightInverse m) = IsRightInverse r (rows_of m)
@@ -74,5 +76,4 @@ module _ (s : Signature) where
   Means r (ExtNonzero links element block) = IsLength (length links) × IsResolution r r links (λ before last. (length element ≡ length before.rows)
       × (combine rationals s (length last.rows) (sums_of element) (transposed_adjoint last).rows ≡ zero_row rationals (length last.rows))
       × ¬ InRowModule rationals s (length before.rows) (transposed_adjoint before).rows (sums_of element))
-  -- reports have no meaning yet, so none is true
-  Means r (Halted report) = ⊥
+  Means r (Halted report) = IsHonestReport s r report

@@ -9,7 +9,8 @@ use Rattle.std.specs.Prelude.{◌≡◌, ℕ, suc, ◌+◌, List, [], ◌∷◌,
 use Rattle.ore_monomial.specs.declared.order.Order.{Order}
 use Rattle.ore_ring.specs.Ordered.{Ordered}
 use Rattle.ore_rows.specs.Stored.{OperatorMatrix}
-use Rattle.ore_parts.specs.BlockText.{line, pairs_text, steps_text, matrix_part, row_part}
+use Rattle.ore_text.specs.Lines.{line}
+use Rattle.ore_parts.specs.BlockText.{pairs_text, steps_text, matrix_part, row_part}
 use Rattle.ore_parts.specs.BlockText.{place as place_text}
 use Rattle.ore_parts.specs.Formats.{line_count}
 use Rattle.ore_parts.specs.declared.block.ExactBlock.{ExactBlock}

@@ -1,7 +1,7 @@
 //! Whole certificates, and blocks of their own.
 
 ghost use Rattle.std.specs.Prelude.{◌≡◌, ◌≢◌, ℕ, not, length};
-ghost use Rattle.ore_algebra.specs.Free.{none};
+ghost use Rattle.ore_algebra.specs.Free.{empty_sum};
 ghost use Rattle.ore_rational.proofs.FractionLaws.{rationals};
 ghost use Rattle.ore_monomial.specs.Monomial.{plain_cmp};
 ghost use Rattle.ore_parts.specs.OfSignature.{IsExactOf, IsOutsideOf, MatrixOf};
@@ -41,11 +41,11 @@ use std::alloc::Global;
 /// report must not be handed in: their check isn't built yet. The certificate may have any sizes: that they fit `r` is
 /// a condition of its lines.
 pub fn check<R: OreRing>(ring: &R, alloc: Global, r: &Matrix, cert: &Certificate) -> Checked
-    requires of { All (All (Belongs (R.signature_of ring.now))) r.now.rows }
-    requires cert_of { IsCertificateOf (R.signature_of ring.now) cert.now }
+    requires of { All (All (Belongs (R.sig ring.now))) r.now.rows }
+    requires cert_of { IsCertificateOf (R.sig ring.now) cert.now }
     requires built { IsBuilt cert.now }
-    ensures answers { (claims : IsNoReport cert.now) → Answers (line_in cert.now) result (check program (R.signature_of ring.now) (plain r.now) cert.now claims) }
-    ensures valid { result ≡ Checked.Valid → Means (R.signature_of ring.now) (plain r.now) cert.now }
+    ensures answers { (claims : IsNoReport cert.now) → Answers (line_in cert.now) result (check program (R.sig ring.now) (plain r.now) cert.now claims) }
+    ensures valid { result ≡ Checked.Valid → Means (R.sig ring.now) (plain r.now) cert.now }
 {
     let _cols = r.cols();
     let Err(refusal) = whole(ring, alloc, r, cert) else {
@@ -67,11 +67,11 @@ pub fn check_exact<R: OreRing>(
     first: u64,
 ) -> Checked
     requires fits { l.now.cols ≡ length a.now.rows }
-    requires a_of { All (All (Belongs (R.signature_of ring.now))) a.now.rows }
-    requires l_of { All (All (Belongs (R.signature_of ring.now))) l.now.rows }
-    requires block_of { IsExactOf (R.signature_of ring.now) block.now }
-    ensures answers { Answers (exact_line first block.now) result (check_exact program (R.signature_of ring.now) Section.Body (plain a.now) (plain l.now) block.now) }
-    ensures exact { result ≡ Checked.Valid → IsExact rationals (R.signature_of ring.now) a.now.cols (rows_of a.now) (rows_of l.now) }
+    requires a_of { All (All (Belongs (R.sig ring.now))) a.now.rows }
+    requires l_of { All (All (Belongs (R.sig ring.now))) l.now.rows }
+    requires block_of { IsExactOf (R.sig ring.now) block.now }
+    ensures answers { Answers (exact_line first block.now) result (check_exact program (R.sig ring.now) Section.Body (plain a.now) (plain l.now) block.now) }
+    ensures exact { result ≡ Checked.Valid → IsExact rationals (R.sig ring.now) a.now.cols (rows_of a.now) (rows_of l.now) }
 {
     let _cols = a.cols();
     let _columns = l.cols();
@@ -95,11 +95,11 @@ pub fn check_outside<R: OreRing>(
     first: u64,
 ) -> Checked
     requires width { length w.now ≡ a.now.cols }
-    requires a_of { All (All (Belongs (R.signature_of ring.now))) a.now.rows }
-    requires w_of { All (Belongs (R.signature_of ring.now)) w.now }
-    requires block_of { IsOutsideOf (R.signature_of ring.now) block.now }
-    ensures answers { Answers (outside_line first block.now) result (check_outside program (R.signature_of ring.now) (plain a.now) (sums_of w.now) block.now) }
-    ensures outside { result ≡ Checked.Valid → ¬ InRowModule rationals (R.signature_of ring.now) a.now.cols (rows_of a.now) (sums_of w.now) }
+    requires a_of { All (All (Belongs (R.sig ring.now))) a.now.rows }
+    requires w_of { All (Belongs (R.sig ring.now)) w.now }
+    requires block_of { IsOutsideOf (R.sig ring.now) block.now }
+    ensures answers { Answers (outside_line first block.now) result (check_outside program (R.sig ring.now) (plain a.now) (sums_of w.now) block.now) }
+    ensures outside { result ≡ Checked.Valid → ¬ InRowModule rationals (R.sig ring.now) a.now.cols (rows_of a.now) (sums_of w.now) }
 {
     match outside_block(ring, alloc, a, w, block) {
         Ok(()) => Checked::Valid,
@@ -126,7 +126,7 @@ fn answer(refusal: Refusal, line: u128) -> Checked
     }
 }
 
-// The place that a refusal names; want of memory has none.
+// The place that a refusal names; want of memory has empty_sum.
 fn place_of(refusal: Refusal) -> Place
     ensures { result ≡ place_of refusal }
 {
@@ -151,10 +151,10 @@ fn capped(line: u128) -> u64
 
 // A certificate, by its kind.
 fn whole<R: OreRing>(ring: &R, alloc: Global, r: &Matrix, cert: &Certificate) -> Result<(), Refusal>
-    requires of { All (All (Belongs (R.signature_of ring.now))) r.now.rows }
-    requires cert_of { IsCertificateOf (R.signature_of ring.now) cert.now }
+    requires of { All (All (Belongs (R.sig ring.now))) r.now.rows }
+    requires cert_of { IsCertificateOf (R.sig ring.now) cert.now }
     requires built { IsBuilt cert.now }
-    ensures { (claims : IsNoReport cert.now) → Judges (λ u. u) result (check program (R.signature_of ring.now) (plain r.now) cert.now claims) }
+    ensures { (claims : IsNoReport cert.now) → Judges (λ u. u) result (check program (R.sig ring.now) (plain r.now) cert.now claims) }
 {
     match cert {
         Certificate::Controllable { q, block } => controllable(ring, alloc, r, q, block),
@@ -190,10 +190,10 @@ fn controllable<R: OreRing>(
     q: &Matrix,
     block: &ExactBlock,
 ) -> Result<(), Refusal>
-    requires of { All (All (Belongs (R.signature_of ring.now))) r.now.rows }
-    requires q_of { MatrixOf (R.signature_of ring.now) q.now }
-    requires block_of { IsExactOf (R.signature_of ring.now) block.now }
-    ensures { Judges (λ u. u) result (check program (R.signature_of ring.now) (plain r.now) (Certificate.Controllable q.now block.now) tt) }
+    requires of { All (All (Belongs (R.sig ring.now))) r.now.rows }
+    requires q_of { MatrixOf (R.sig ring.now) q.now }
+    requires block_of { IsExactOf (R.sig ring.now) block.now }
+    ensures { Judges (λ u. u) result (check program (R.sig ring.now) (plain r.now) (Certificate.Controllable q.now block.now) tt) }
 {
     required(
         Place::Header(Section::Body, Name::Generators),
@@ -213,12 +213,12 @@ fn autonomous<R: OreRing>(
     cofactor: &Row,
     block: &OutsideBlock,
 ) -> Result<(), Refusal>
-    requires of { All (All (Belongs (R.signature_of ring.now))) r.now.rows }
-    requires element_of { All (Belongs (R.signature_of ring.now)) element.now }
-    requires operator_of { Belongs (R.signature_of ring.now) operator.now }
-    requires cofactor_of { All (Belongs (R.signature_of ring.now)) cofactor.now }
-    requires block_of { IsOutsideOf (R.signature_of ring.now) block.now }
-    ensures { Judges (λ u. u) result (check program (R.signature_of ring.now) (plain r.now) (Certificate.AutonomousElement element.now operator.now cofactor.now block.now) tt) }
+    requires of { All (All (Belongs (R.sig ring.now))) r.now.rows }
+    requires element_of { All (Belongs (R.sig ring.now)) element.now }
+    requires operator_of { Belongs (R.sig ring.now) operator.now }
+    requires cofactor_of { All (Belongs (R.sig ring.now)) cofactor.now }
+    requires block_of { IsOutsideOf (R.sig ring.now) block.now }
+    ensures { Judges (λ u. u) result (check program (R.sig ring.now) (plain r.now) (Certificate.AutonomousElement element.now operator.now cofactor.now block.now) tt) }
 {
     required(
         Place::Header(Section::Body, Name::Element),
@@ -240,16 +240,16 @@ fn autonomous<R: OreRing>(
 
 // Whether an operator isn't zero.
 fn is_nonzero(operator: &Op) -> bool
-    ensures { result ≡ not (conditions.is_same operator_discrete operator.now.sum (none rationals plain_cmp)) }
+    ensures { result ≡ not (conditions.is_same operator_discrete operator.now.sum (empty_sum rationals plain_cmp)) }
 {
     !operator.is_zero()
 }
 
 #[tactic(auto, using(ore_blocks::proofs::Refusals::refuses_on), unfolding(crate::specs::Check::check))]
 fn left_inverse<R: OreRing>(ring: &R, alloc: Global, r: &Matrix, s: &Matrix) -> Result<(), Refusal>
-    requires of { All (All (Belongs (R.signature_of ring.now))) r.now.rows }
-    requires s_of { MatrixOf (R.signature_of ring.now) s.now }
-    ensures { Judges (λ u. u) result (check program (R.signature_of ring.now) (plain r.now) (Certificate.LeftInverse s.now) tt) }
+    requires of { All (All (Belongs (R.sig ring.now))) r.now.rows }
+    requires s_of { MatrixOf (R.sig ring.now) s.now }
+    ensures { Judges (λ u. u) result (check program (R.sig ring.now) (plain r.now) (Certificate.LeftInverse s.now) tt) }
 {
     required(
         Place::Header(Section::Body, Name::Inverse),
@@ -271,9 +271,9 @@ fn left_inverse<R: OreRing>(ring: &R, alloc: Global, r: &Matrix, s: &Matrix) -> 
 
 #[tactic(auto, using(ore_blocks::proofs::Refusals::refuses_on), unfolding(crate::specs::Check::check))]
 fn right_inverse<R: OreRing>(ring: &R, alloc: Global, r: &Matrix, s: &Matrix) -> Result<(), Refusal>
-    requires of { All (All (Belongs (R.signature_of ring.now))) r.now.rows }
-    requires s_of { MatrixOf (R.signature_of ring.now) s.now }
-    ensures { Judges (λ u. u) result (check program (R.signature_of ring.now) (plain r.now) (Certificate.RightInverse s.now) tt) }
+    requires of { All (All (Belongs (R.sig ring.now))) r.now.rows }
+    requires s_of { MatrixOf (R.sig ring.now) s.now }
+    ensures { Judges (λ u. u) result (check program (R.sig ring.now) (plain r.now) (Certificate.RightInverse s.now) tt) }
 {
     required(
         Place::Header(Section::Body, Name::Inverse),
@@ -297,9 +297,9 @@ fn no_left_inverse<R: OreRing>(
     unit: usize,
     block: &OutsideBlock,
 ) -> Result<(), Refusal>
-    requires of { All (All (Belongs (R.signature_of ring.now))) r.now.rows }
-    requires block_of { IsOutsideOf (R.signature_of ring.now) block.now }
-    ensures { Judges (λ u. u) result (check program (R.signature_of ring.now) (plain r.now) (Certificate.NoLeftInverse unit block.now) tt) }
+    requires of { All (All (Belongs (R.sig ring.now))) r.now.rows }
+    requires block_of { IsOutsideOf (R.sig ring.now) block.now }
+    ensures { Judges (λ u. u) result (check program (R.sig ring.now) (plain r.now) (Certificate.NoLeftInverse unit block.now) tt) }
 {
     required(Place::Unit, Reason::Unit, unit < r.cols())?;
     let row = unit_row(alloc, ring.signature(), r.cols(), unit)?;
@@ -314,9 +314,9 @@ fn no_right_inverse<R: OreRing>(
     unit: usize,
     block: &OutsideBlock,
 ) -> Result<(), Refusal>
-    requires of { All (All (Belongs (R.signature_of ring.now))) r.now.rows }
-    requires block_of { IsOutsideOf (R.signature_of ring.now) block.now }
-    ensures { Judges (λ u. u) result (check program (R.signature_of ring.now) (plain r.now) (Certificate.NoRightInverse unit block.now) tt) }
+    requires of { All (All (Belongs (R.sig ring.now))) r.now.rows }
+    requires block_of { IsOutsideOf (R.sig ring.now) block.now }
+    ensures { Judges (λ u. u) result (check program (R.sig ring.now) (plain r.now) (Certificate.NoRightInverse unit block.now) tt) }
 {
     required(Place::Unit, Reason::Unit, unit < r.rows())?;
     let adjoint = transposed_adjoint(ring, alloc, Place::Block(Section::Body), r)?;
@@ -333,10 +333,10 @@ fn kernel<R: OreRing>(
     generators: &Matrix,
     block: &ExactBlock,
 ) -> Result<(), Refusal>
-    requires of { All (All (Belongs (R.signature_of ring.now))) r.now.rows }
-    requires generators_of { MatrixOf (R.signature_of ring.now) generators.now }
-    requires block_of { IsExactOf (R.signature_of ring.now) block.now }
-    ensures { Judges (λ u. u) result (check program (R.signature_of ring.now) (plain r.now) (Certificate.Kernel side generators.now block.now) tt) }
+    requires of { All (All (Belongs (R.sig ring.now))) r.now.rows }
+    requires generators_of { MatrixOf (R.sig ring.now) generators.now }
+    requires block_of { IsExactOf (R.sig ring.now) block.now }
+    ensures { Judges (λ u. u) result (check program (R.sig ring.now) (plain r.now) (Certificate.Kernel side generators.now block.now) tt) }
 {
     match side {
         Side::Left => left_kernel(ring, alloc, r, generators, block),
@@ -352,10 +352,10 @@ fn left_kernel<R: OreRing>(
     generators: &Matrix,
     block: &ExactBlock,
 ) -> Result<(), Refusal>
-    requires of { All (All (Belongs (R.signature_of ring.now))) r.now.rows }
-    requires generators_of { MatrixOf (R.signature_of ring.now) generators.now }
-    requires block_of { IsExactOf (R.signature_of ring.now) block.now }
-    ensures { Judges (λ u. u) result (check program (R.signature_of ring.now) (plain r.now) (Certificate.Kernel Side.Left generators.now block.now) tt) }
+    requires of { All (All (Belongs (R.sig ring.now))) r.now.rows }
+    requires generators_of { MatrixOf (R.sig ring.now) generators.now }
+    requires block_of { IsExactOf (R.sig ring.now) block.now }
+    ensures { Judges (λ u. u) result (check program (R.sig ring.now) (plain r.now) (Certificate.Kernel Side.Left generators.now block.now) tt) }
 {
     required(
         Place::Header(Section::Body, Name::Generators),
@@ -373,10 +373,10 @@ fn right_kernel<R: OreRing>(
     generators: &Matrix,
     block: &ExactBlock,
 ) -> Result<(), Refusal>
-    requires of { All (All (Belongs (R.signature_of ring.now))) r.now.rows }
-    requires generators_of { MatrixOf (R.signature_of ring.now) generators.now }
-    requires block_of { IsExactOf (R.signature_of ring.now) block.now }
-    ensures { Judges (λ u. u) result (check program (R.signature_of ring.now) (plain r.now) (Certificate.Kernel Side.Right generators.now block.now) tt) }
+    requires of { All (All (Belongs (R.sig ring.now))) r.now.rows }
+    requires generators_of { MatrixOf (R.sig ring.now) generators.now }
+    requires block_of { IsExactOf (R.sig ring.now) block.now }
+    ensures { Judges (λ u. u) result (check program (R.sig ring.now) (plain r.now) (Certificate.Kernel Side.Right generators.now block.now) tt) }
 {
     required(
         Place::Header(Section::Body, Name::Generators),

@@ -29,10 +29,10 @@ pub fn scaled<R: OreRing>(
     f: &Op,
     row: &Row,
 ) -> Result<Row, Refusal>
-    requires f_of { Belongs (R.signature_of ring.now) f.now }
-    requires row_of { All (Belongs (R.signature_of ring.now)) row.now }
-    ensures judges { Judges sums_of result (formed place (scale_within program (R.signature_of ring.now) f.now.sum (sums_of row.now))) }
-    ensures of { IfOk result (All (Belongs (R.signature_of ring.now))) }
+    requires f_of { Belongs (R.sig ring.now) f.now }
+    requires row_of { All (Belongs (R.sig ring.now)) row.now }
+    ensures judges { Judges sums_of result (formed place (scale_within program (R.sig ring.now) f.now.sum (sums_of row.now))) }
+    ensures of { IfOk result (All (Belongs (R.sig ring.now))) }
 {
     match scale(ring, alloc, f, row) {
         Ok(multiple) => Ok(multiple),
@@ -51,11 +51,11 @@ pub fn transposed_adjoint<R: OreRing>(
     place: Place,
     m: &Matrix,
 ) -> Result<Matrix, Refusal>
-    requires of { All (All (Belongs (R.signature_of ring.now))) m.now.rows }
-    ensures judges { Judges rows_of result (formed place (transpose_adjoint_within program (R.signature_of ring.now) m.now.cols (rows_of m.now))) }
+    requires of { All (All (Belongs (R.sig ring.now))) m.now.rows }
+    ensures judges { Judges rows_of result (formed place (transpose_adjoint_within program (R.sig ring.now) m.now.cols (rows_of m.now))) }
     ensures cols { IfOk result (λ t. t.cols ≡ length m.now.rows) }
     ensures count { IfOk result (λ t. length t.rows ≡ m.now.cols) }
-    ensures of { IfOk result (λ t. All (All (Belongs (R.signature_of ring.now))) t.rows) }
+    ensures of { IfOk result (λ t. All (All (Belongs (R.sig ring.now))) t.rows) }
 {
     match transpose_adjoint(ring, alloc, m) {
         Ok(matrix) => Ok(matrix),

@@ -4,6 +4,10 @@
 //! the order of the signature that is handed in.
 
 ghost use Rattle.ore_check.specs.Laws.{CheckIsTrue, ExactIsTorsionFree, HasOneVerdict, LastLineIsEnd, PartsBeginAtLines, RightKernelIsExact};
+ghost use Rattle.ore_algebra.specs.Limits.{program};
+ghost use Rattle.ore_check.specs.PlanLaws.{AdjointHasItsReport, AnalyseFormsRight, ExtFormsRight, FormsRight, NoReportIsNone, ReportIsTrueIfValid, ResolveFormsRight};
+ghost use Rattle.ore_check.specs.Plans.{inverse_left, inverse_right, kernel_left, kernel_right};
+ghost use Rattle.ore_check.specs.ValidLaws.{CheckAtMost, CheckIsValid, CheckShowsValid, ValidIsNotInvalid, ValidIsTrue, ValidPasses};
 
 use ore_monomial::Signature;
 
@@ -35,4 +39,76 @@ pub fn law_lines_counted(sig: &Signature)
 /// Each part of the text of a certificate begins at the line that the layout gives to its place.
 pub fn law_parts_begin_at_lines(sig: &Signature)
     ensures { PartsBeginAtLines sig.now }
+{}
+
+/// The check of a report says that it is valid exactly where the report is honest.
+pub fn law_report_means(sig: &Signature)
+    ensures { ReportIsTrueIfValid sig.now }
+{}
+
+/// Plan adjoint has one honest report where forming the transposed adjoint stops, and else none.
+pub fn law_adjoint_report(sig: &Signature)
+    ensures { AdjointHasItsReport sig.now }
+{}
+
+/// Without limits each place of a certificate is right exactly where the certificate is valid.
+pub fn law_check_is_valid(sig: &Signature)
+    ensures { CheckIsValid sig.now }
+{}
+
+/// Within limits the places of a certificate give what they give without, or an operation stops.
+pub fn law_check_at_most(sig: &Signature)
+    ensures { CheckAtMost sig.now }
+{}
+
+/// No place of a valid certificate fails a condition: within limits it is right, or stops.
+pub fn law_valid_passes(sig: &Signature)
+    ensures { ValidPasses sig.now }
+{}
+
+/// A certificate whose places are right is valid, within whatever limits it is checked.
+pub fn law_check_shows_valid(sig: &Signature)
+    ensures { CheckShowsValid sig.now }
+{}
+
+/// A valid certificate is true.
+pub fn law_valid_is_true(sig: &Signature)
+    ensures { ValidIsTrue sig.now }
+{}
+
+/// No answer to a valid certificate is that a place fails.
+pub fn law_valid_is_not_invalid(sig: &Signature)
+    ensures { ValidIsNotInvalid sig.now }
+{}
+
+/// The certificates that the plans of kernels form are true, and the check accepts them.
+pub fn law_kernels_formed(sig: &Signature)
+    ensures left { FormsRight sig.now (kernel_left program sig.now) }
+    ensures right { FormsRight sig.now (kernel_right program sig.now) }
+{}
+
+/// The certificates that the plans of inverses form are true, and the check accepts them.
+pub fn law_inverses_formed(sig: &Signature)
+    ensures left { FormsRight sig.now (inverse_left program sig.now) }
+    ensures right { FormsRight sig.now (inverse_right program sig.now) }
+{}
+
+/// Where no report of a text is honest by a rule and within a budget, none of courses is.
+pub fn law_no_report(sig: &Signature)
+    ensures { NoReportIsNone sig.now }
+{}
+
+/// The certificates that plan resolve forms are true, and the check accepts them.
+pub fn law_resolutions_formed(sig: &Signature)
+    ensures { ResolveFormsRight sig.now }
+{}
+
+/// The verdicts that plan analyse forms are true, and the check accepts them.
+pub fn law_verdicts_formed(sig: &Signature)
+    ensures { AnalyseFormsRight sig.now }
+{}
+
+/// The certificates that plan ext forms are true, and the check accepts them.
+pub fn law_extensions_formed(sig: &Signature)
+    ensures { ExtFormsRight sig.now }
 {}

@@ -9,13 +9,21 @@
 //! `specs/Check.antt`; of a report there is nothing to answer), [`check_exact`] and [`check_outside`] for a block. Where
 //! a block is valid their clauses say what it shows. The laws of [`laws`] say what follows for whole certificates, over
 //! numbers of any size: a valid certificate is true by its meaning (`specs/Meaning.antt`), which speaks of rows alone.
+//! They also say which certificates are valid (`specs/Valid.antt`, `specs/ValidLaws.antt`): without limits just those that
+//! pass, of all kinds but reports; and within limits no condition of a valid one fails, but an operation may stop.
 //!
 //! Inside, each function answers a value or a refusal, which names its place (`ore_blocks/specs/Judging.antt`). Lines
 //! are counted in 128 bits, which no certificate in memory passes, and the answer has 2^64 - 1 for any greater. The
 //! functions ask that all operators that they are handed are of the signature of the ring.
 //!
+//! `specs/Plans.antt` has the plans of the commands: what each does with the matrix of a problem, in order, as a course
+//! of forced work and runs (`ore_course`) that ends with forming the identities of its certificate. `specs/Reports.antt`
+//! says which answers a plan forms, and when the report of a stopped plan is honest. The laws say that each certificate
+//! that a plan forms is true and one that the check accepts (`specs/PlanLaws.antt`).
+//!
 //! The crate stands on `ore_cert` for certificates, on `ore_blocks` for the check of blocks and for refusals, on
-//! `ore_adjoint` for transposed adjoints, and on `ore_rows` and below for arithmetic.
+//! `ore_adjoint` for transposed adjoints, on `ore_groebner` for what runs show, and on `ore_rows` and below for
+//! arithmetic.
 #![tactic(auto)]
 
 pub mod answer;

@@ -10,7 +10,7 @@ use Rattle.ore_blocks.proofs.formed.less_steps.Goals as goal
 
 pub returns-in_err-left-clause-gives : goal.returns-in_err-left-clause-gives
 returns-in_err-left-clause-gives g c =
-    let s = g.R.OreRing.signature_of c.args.ring.now in
+    let s = g.R.OreRing.sig c.args.ring.now in
     let p = err_from_is_err_and c.from_residual.result c.from_residual.ensures.1 in
     rw (p.1, p.2) (fails_like _ _ _
     (λ e h. sym c.loop-k.invariant.told
@@ -20,7 +20,7 @@ returns-in_err-left-clause-gives g c =
 
 pub loop-k-preserved : goal.loop-k-preserved
 loop-k-preserved g c =
-    let s = g.R.OreRing.signature_of c.args.ring.now in
+    let s = g.R.OreRing.sig c.args.ring.now in
     record {
       told =
           sym (folded_on (λ q t. less_step program s (rows_of c.args.m.now) t q) (sums_of c.loop-k.left) (sums_of c.in_ok-left.left) (drop c.loop-k.k c.args.steps.now) c.get.result.now (drop (c.loop-k.k + 1) c.args.steps.now)

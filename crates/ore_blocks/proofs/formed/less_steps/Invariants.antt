@@ -8,7 +8,7 @@ use Rattle.ore_blocks.proofs.formed.less_steps.Given as goal
 
 abbrev pub invariant-loop-k : goal.invariant-loop-k
 invariant-loop-k g l = record {
-  told : less_steps program (g.R.OreRing.signature_of l.ring) (rows_of l.m) (drop l.k l.steps) (sums_of l.left) ≡ less_steps program (g.R.OreRing.signature_of l.ring) (rows_of l.m) l.steps (sums_of l.fn.row);
+  told : less_steps program (g.R.OreRing.sig l.ring) (rows_of l.m) (drop l.k l.steps) (sums_of l.left) ≡ less_steps program (g.R.OreRing.sig l.ring) (rows_of l.m) l.steps (sums_of l.fn.row);
   width : length l.left ≡ l.m.cols;
-  belongs : All (Belongs (g.R.OreRing.signature_of l.ring)) l.left;
+  belongs : All (Belongs (g.R.OreRing.sig l.ring)) l.left;
 }

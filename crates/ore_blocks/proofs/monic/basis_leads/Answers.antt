@@ -8,7 +8,7 @@ use Rattle.std.proofs.lemmas.Result.{err_from_is_err_and}
 use Rattle.std.specs.declared.result.Result.TheVariants.{Ok}
 use Rattle.ore_rows.specs.Stored.{rows_of}
 use Rattle.ore_blocks.specs.CheckBlock.{basis_leads}
-use Rattle.ore_blocks.specs.Conditions.{◌>>=◌}
+use Rattle.ore_algebra.specs.Results.{◌>>=◌}
 use Rattle.ore_blocks.proofs.Chains.{refuses_as, passed_as}
 use Rattle.ore_blocks.proofs.MonicLeads.{leads_next, leads_end}
 use Rattle.ore_blocks.proofs.monic.basis_leads.Goals as goal

@@ -4,7 +4,7 @@ use Rattle.std.specs.declared.result.Result.TheVariants.{Ok}
 use Rattle.ore_monomial.specs.Signature.{MonomialOf}
 use Rattle.ore_rows.specs.Stored.{rows_of}
 use Rattle.ore_blocks.specs.CheckBlock.{basis_leads}
-use Rattle.ore_blocks.specs.Conditions.{◌>>=◌}
+use Rattle.ore_algebra.specs.Results.{◌>>=◌}
 use Rattle.ore_blocks.proofs.monic.basis_leads.Given as goal
 
 abbrev pub invariant-loop-k : goal.invariant-loop-k

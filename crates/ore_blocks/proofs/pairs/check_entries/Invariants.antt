@@ -5,4 +5,4 @@ use Rattle.ore_blocks.specs.CheckBlock.{check_entries}
 use Rattle.ore_blocks.proofs.pairs.check_entries.Given as goal
 
 abbrev pub invariant-loop-k : goal.invariant-loop-k
-invariant-loop-k g l = check_entries program (g.R.OreRing.signature_of l.ring) (rows_of l.basis) l.leads l.section l.k l.listed (drop l.k l.pairs) ≡ check_entries program (g.R.OreRing.signature_of l.ring) (rows_of l.basis) l.leads l.section 0 [] l.pairs
+invariant-loop-k g l = check_entries program (g.R.OreRing.sig l.ring) (rows_of l.basis) l.leads l.section l.k l.listed (drop l.k l.pairs) ≡ check_entries program (g.R.OreRing.sig l.ring) (rows_of l.basis) l.leads l.section 0 [] l.pairs

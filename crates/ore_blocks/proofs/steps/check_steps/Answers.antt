@@ -15,14 +15,14 @@ use Rattle.ore_blocks.proofs.steps.check_steps.Goals as goal
 
 pub returns-in_err-left : goal.returns-in_err-left
 returns-in_err-left g c =
-    let s = g.R.OreRing.signature_of c.args.ring.now in
+    let s = g.R.OreRing.sig c.args.ring.now in
     let n = c.loop-n.n in
     let p = err_from_is_err_and c.from_residual.result c.from_residual.ensures.1 in
     rw (p.1, p.2) (refuses_as _ _ _ _ (steps_next program s (rows_of c.args.basis.now) c.args.leads.now (record { monomial = c.args.multiple.now; column = c.args.column }) c.args.section c.args.pair (sums_of c.loop-n.left) c.args.steps.now n c.get.result.now c.get.ensures) c.loop-n.invariant.told _ c.in_err-left.ensures.judges)
 
 pub loop-n-preserved : goal.loop-n-preserved
 loop-n-preserved g c =
-    let s = g.R.OreRing.signature_of c.args.ring.now in
+    let s = g.R.OreRing.sig c.args.ring.now in
     let n = c.loop-n.n in
     record {
       told =
@@ -34,7 +34,7 @@ loop-n-preserved g c =
 
 pub returns : goal.returns
 returns g c =
-    let s = g.R.OreRing.signature_of c.args.ring.now in
+    let s = g.R.OreRing.sig c.args.ring.now in
     let n = c.loop-n.n in
     let past : length c.args.steps.now ≤ n = omega arith in
     let e : c.len.result ≡ n = omega arith in

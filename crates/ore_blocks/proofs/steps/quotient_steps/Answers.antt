@@ -17,17 +17,17 @@ use Rattle.ore_blocks.proofs.steps.quotient_steps.Goals as goal
 
 pub quotient_step-requires-clause-row_of : goal.quotient_step-requires-clause-row_of
 quotient_step-requires-clause-row_of g c =
-    let s = g.R.OreRing.signature_of c.args.ring.now in
+    let s = g.R.OreRing.sig c.args.ring.now in
     subst (All (Belongs s)) (sym c.remainder.ensures) (remainder_has (All (Belongs s)) c.loop-n.left c.args.w.now c.loop-n.invariant.belongs c.requires.w_of)
 
 pub quotient_step-requires-clause-step_of : goal.quotient_step-requires-clause-step_of
 quotient_step-requires-clause-step_of g c =
-    let s = g.R.OreRing.signature_of c.args.ring.now in
+    let s = g.R.OreRing.sig c.args.ring.now in
     all_at (λ (t : Step rationals). MonomialOf s t.monomial) c.args.steps.now c.loop-n.n c.get-step.result.now c.get-step.ensures c.requires.steps_of
 
 pub returns-in_err-next-clause-judges : goal.returns-in_err-next-clause-judges
 returns-in_err-next-clause-judges g c =
-    let s = g.R.OreRing.signature_of c.args.ring.now in
+    let s = g.R.OreRing.sig c.args.ring.now in
     let n = c.loop-n.n in
     let basis = rows_of c.args.basis.now in
     let p = err_from_is_err_and c.from_residual.result c.from_residual.ensures.1 in
@@ -38,7 +38,7 @@ returns-in_err-next-clause-judges g c =
 
 pub loop-n-preserved : goal.loop-n-preserved
 loop-n-preserved g c =
-    let s = g.R.OreRing.signature_of c.args.ring.now in
+    let s = g.R.OreRing.sig c.args.ring.now in
     let n = c.loop-n.n in
     let basis = rows_of c.args.basis.now in
     record {
@@ -53,6 +53,6 @@ loop-n-preserved g c =
 
 pub returns-clause-judges : goal.returns-clause-judges
 returns-clause-judges g c =
-    let s = g.R.OreRing.signature_of c.args.ring.now in
+    let s = g.R.OreRing.sig c.args.ring.now in
     let past : length c.args.steps.now ≤ c.loop-n.n = omega arith in
     sym c.loop-n.invariant.told ∙ quotients_end program s (rows_of c.args.basis.now) (sums_of (remainder_of c.loop-n.left c.args.w.now)) c.args.steps.now c.loop-n.n past

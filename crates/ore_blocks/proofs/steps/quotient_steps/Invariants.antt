@@ -10,7 +10,7 @@ use Rattle.ore_blocks.proofs.steps.quotient_steps.Given as goal
 
 abbrev pub invariant-loop-n : goal.invariant-loop-n
 invariant-loop-n g l = record {
-  told : quotient_steps program (g.R.OreRing.signature_of l.ring) (rows_of l.basis) l.n (sums_of (remainder_of l.left l.w)) (drop l.n l.steps) ≡ quotient_steps program (g.R.OreRing.signature_of l.ring) (rows_of l.basis) 0 (sums_of l.w) l.steps;
+  told : quotient_steps program (g.R.OreRing.sig l.ring) (rows_of l.basis) l.n (sums_of (remainder_of l.left l.w)) (drop l.n l.steps) ≡ quotient_steps program (g.R.OreRing.sig l.ring) (rows_of l.basis) 0 (sums_of l.w) l.steps;
   width : IfSome l.left (λ r. length r ≡ l.basis.cols);
-  belongs : IfSome l.left (All (Belongs (g.R.OreRing.signature_of l.ring)));
+  belongs : IfSome l.left (All (Belongs (g.R.OreRing.sig l.ring)));
 }

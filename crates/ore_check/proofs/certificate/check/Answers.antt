@@ -9,12 +9,12 @@ use Rattle.ore_check.proofs.certificate.check.Goals as goal
 
 pub returns-in_default-clause-valid : goal.returns-in_default-clause-valid
 returns-in_default-clause-valid g c = λ e.
-    let s = g.R.OreRing.signature_of c.args.ring.now in
+    let s = g.R.OreRing.sig c.args.ring.now in
     let r = c.args.r.now in
     let columns = subst (λ n. HasColumns n r.rows) c.cols-cols.ensures.value c.cols-cols.ensures.fits in
     let of : MatrixOf s r = record { columns = columns; of = c.requires.of } in
     let claims = no_report c.args.cert.now c.requires.built in
-    check_means program s (plain r) (wide_rows s r of) c.args.cert.now c.requires.cert_of c.requires.built claims (c.in_default.ensures claims)
+    check_means program s (plain r) (wide_rows s r of) c.args.cert.now c.requires.cert_of claims (c.in_default.ensures claims)
 
 pub returns-clause-valid : goal.returns-clause-valid
 returns-clause-valid g c = λ e. absurd (c.answer.ensures.fails e)

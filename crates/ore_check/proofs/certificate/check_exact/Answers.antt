@@ -7,13 +7,13 @@ use Rattle.ore_parts.specs.OfSignature.{MatrixOf}
 use Rattle.ore_blocks.specs.CheckBlock.{plain}
 use Rattle.ore_blocks.specs.declared.place.Section.TheVariants.{Body}
 use Rattle.ore_blocks.proofs.Converted.{wide_rows}
-use Rattle.ore_blocks.proofs.CheckedExact.{exact_block_checked}
+use Rattle.ore_blocks.proofs.CheckedBlocks.{exact_block_checked}
 use Rattle.ore_check.proofs.CertificateKinds.{rows_count}
 use Rattle.ore_check.proofs.certificate.check_exact.Goals as goal
 
 pub returns-in-Ok-clause-exact : goal.returns-in-Ok-clause-exact
 returns-in-Ok-clause-exact g c = λ e.
-    let s = g.R.OreRing.signature_of c.args.ring.now in
+    let s = g.R.OreRing.sig c.args.ring.now in
     let a = c.args.a.now in
     let l = c.args.l.now in
     let a_columns = subst (λ n. HasColumns n a.rows) c.cols-cols.ensures.value c.cols-cols.ensures.fits in
