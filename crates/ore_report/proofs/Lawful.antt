@@ -1,37 +1,29 @@
 -- What the chooser answers against what the rule allows and what a run may do.
---     leads, as_many              the leads of a basis, one for each row
---     can_open                    a pair that may be treated may be chosen
---     may_pass                    a pair that the rule lets be skipped may be skipped in a run
 --     treat_allowed, skip_allowed, spent_allowed     what the rule allows
---     complete_answer             no pair may be treated
 --     treat_answer                the next pair is treated, or the budget is spent
 --     skip_answer                 the next pair is skipped
 --     settled_answer              one of both, as a third row lets it
-use Rattle.std.proofs.Common.{◌≡◌, ℕ, ◌<◌, Bool, true, false, List, [], length, refl, sym, ap, ◌∙◌, subst, true≢false, arith}
+use Rattle.std.proofs.Common.{◌≡◌, ℕ, Bool, true, List, length, refl, sym, ap, ◌∙◌, subst, arith}
 use Rattle.std.specs.Prelude.{◌&&◌, nat_eq, is_none}
 use Rattle.std.specs.Option.{option_eq}
 use Rattle.std.specs.declared.option.Option.{Option}
 use Rattle.std.specs.declared.option.Option.TheVariants.{None, Some}
 use Rattle.std.proofs.lemmas.Bool.Decides.{nat_tests}
-use Rattle.std.proofs.lemmas.List.{length-map}
 use Rattle.ore_monomial.specs.Term.{Term}
-use Rattle.ore_ring.specs.Ordered.{Ordered}
-use Rattle.ore_rows.specs.Reduction.{Monic, leads_of}
+use Rattle.ore_rows.specs.Reduction.{leads_of}
 use Rattle.ore_rows.specs.StoredBasis.{StoredBasis}
 use Rattle.ore_rows.specs.declared.choices.Choice.{Choice}
 use Rattle.ore_rows.specs.declared.choices.Choice.TheVariants.{Treat, Skip}
-use Rattle.ore_pairs.specs.Listed.{is_in}
-use Rattle.ore_pairs.specs.PairRule.{may_treat, may_skip}
-use Rattle.ore_pairs.proofs.PairRuleLaws.{treat_from, treat_to}
-use Rattle.ore_pairs.proofs.StoredPairs.{skip_is}
-use Rattle.ore_groebner.specs.Choosing.{IsOpen, MaySkip, IsLawful, IsAfforded, IsAnswer}
+use Rattle.ore_pairs.specs.PairRule.{may_treat, is_lawful}
+use Rattle.ore_pairs.proofs.SomePair.{pair_some}
+use Rattle.ore_groebner.specs.Choosing.{IsAfforded, IsAnswer}
 use Rattle.ore_groebner.specs.Rules.{IsAllowed}
 use Rattle.ore_groebner.specs.Shown.{Shown, shown_of}
 use Rattle.ore_groebner.specs.declared.chooser.Next.{Next}
 use Rattle.ore_groebner.specs.declared.chooser.Next.TheVariants.{Choose, Complete, Spent, NoLawful}
 use Rattle.ore_report.specs.ChainRule.{order_shown, is_next, least_via, chain_allows, chain_allows_spent}
-use Rattle.ore_report.specs.Live.{IsPaid, IsSettled}
-use Rattle.ore_report.proofs.Nexts.{next_from, next_within, pair_some}
+use Rattle.ore_report.specs.Live.{IsPaid, IsSettled, live_settings}
+use Rattle.ore_report.proofs.Nexts.{next_from, next_within}
 use Rattle.ore_report.proofs.Vias.{via_is}
 
 -- ---- what the rule allows
@@ -56,10 +48,6 @@ module _ (shown : Shown) (ps : List (ℕ × ℕ)) (i j : ℕ) (next : is_next (o
 
 -- ---- what a run may do
 
-not_false : (b : Bool) → (b ≡ false → ⊥) → b ≡ true
-not_false true h = refl
-not_false false h = absurd (h refl)
-
 module _ (basis : StoredBasis) (ps : List (ℕ × ℕ)) where
   abbrev leads : List Term
   leads = leads_of basis.items
@@ -67,32 +55,21 @@ module _ (basis : StoredBasis) (ps : List (ℕ × ℕ)) where
   abbrev shown : Shown
   shown = shown_of basis
 
-  as_many : length leads ≡ length basis.items
-  as_many = length-map basis.items (λ (b : Monic (List Ordered)). b.lead)
-
-  can_open : (i j : ℕ) → may_treat leads ps i j ≡ true → IsOpen basis ps i j
-  can_open i j e = let h = treat_from leads ps i j e in record { ordered = h.ordered; inside = subst (λ n. j < n) as_many h.within; columns = h.columns; unlisted = h.unlisted }
-
-  may_pass : (i j via : ℕ) → may_skip leads ps i j via ≡ true → MaySkip basis ps i j via
-  may_pass i j via e st a b same has at = skip_is basis ps st i j via a b same has at ∙ e
-
-  pub complete_answer : (given : List (List Choice)) (budget : ℕ) → ((i j : ℕ) → may_treat leads ps i j ≡ false) → IsAnswer basis ps given budget false [] Complete
-  complete_answer given budget none i j l k e =
-      not_false (is_in i j ps) (λ f. true≢false (sym (treat_to leads ps i j (record { ordered = l; within = subst (λ n. j < n) (sym as_many) k; columns = e; unlisted = f })) ∙ none i j))
-
   module _ (given : List (List Choice)) (budget i j : ℕ) (next : is_next (order_shown shown) leads ps i j ≡ true) where
-    may_choose : IsOpen basis ps i j
-    may_choose = can_open i j (next_from (order_shown shown) leads ps i j next).may
+    may_choose : may_treat leads ps i j ≡ true
+    may_choose = (next_from (order_shown shown) leads ps i j next).may
 
-    treat_answer : None ≡ least_via leads ps i j → (x : Next) → IsPaid given budget i j x → IsAnswer basis ps given budget false [] x × IsAllowed chain_allows chain_allows_spent shown ps x
-    treat_answer e (Choose c) h = subst (λ d. (IsLawful basis ps d × IsAfforded given budget d) × (chain_allows shown ps d ≡ true)) (sym h.0) ((may_choose, h.1), treat_allowed shown ps i j next e)
+    treat_answer : None ≡ least_via leads ps i j → (x : Next) → IsPaid given budget i j x → IsAnswer leads ps given (live_settings budget) x × IsAllowed chain_allows chain_allows_spent shown ps x
+    unfolding is_lawful
+    treat_answer e (Choose c) h = subst (λ d. ((is_lawful leads ps d ≡ true) × IsAfforded given budget d) × (chain_allows shown ps d ≡ true)) (sym h.0) ((may_choose, h.1), treat_allowed shown ps i j next e)
     treat_answer e Complete h = absurd h
     treat_answer e Spent h = (((i, j, may_choose), refl, h), spent_allowed shown ps i j next (treat_allowed shown ps i j next e))
     treat_answer e NoLawful h = absurd h
 
-    skip_answer : (via : ℕ) → Some via ≡ least_via leads ps i j → (x : Next) → x ≡ Choose (Skip i j via) → IsAnswer basis ps given budget false [] x × IsAllowed chain_allows chain_allows_spent shown ps x
-    skip_answer via e x h = subst (λ y. IsAnswer basis ps given budget false [] y × IsAllowed chain_allows chain_allows_spent shown ps y) (sym h) (((may_choose, may_pass i j via (via_is leads ps i j via (sym e)).1), tt), skip_allowed shown ps i j next via e)
+    skip_answer : (via : ℕ) → Some via ≡ least_via leads ps i j → (x : Next) → x ≡ Choose (Skip i j via) → IsAnswer leads ps given (live_settings budget) x × IsAllowed chain_allows chain_allows_spent shown ps x
+    unfolding is_lawful
+    skip_answer via e x h = subst (λ y. IsAnswer leads ps given (live_settings budget) y × IsAllowed chain_allows chain_allows_spent shown ps y) (sym h) (((λ n. may_choose n && (via_is leads ps i j via (sym e)).1 n, tt)), skip_allowed shown ps i j next via e)
 
-    pub settled_answer : (via : Option ℕ) → via ≡ least_via leads ps i j → (x : Next) → IsSettled given budget i j via x → IsAnswer basis ps given budget false [] x × IsAllowed chain_allows chain_allows_spent shown ps x
+    pub settled_answer : (via : Option ℕ) → via ≡ least_via leads ps i j → (x : Next) → IsSettled given budget i j via x → IsAnswer leads ps given (live_settings budget) x × IsAllowed chain_allows chain_allows_spent shown ps x
     settled_answer None e x h = treat_answer e x h
     settled_answer (Some via) e x h = skip_answer via e x h

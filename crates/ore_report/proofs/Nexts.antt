@@ -1,84 +1,37 @@
 -- The pair that comes next, among those that may be treated.
---     not_true                 a test that isn't true is false
 --     no_keys                  a list that isn't long is empty
---     list_none                a test that no number passes
---     pair_none, pair_some, pair_not      no pair passes a test; one does; a pair of rows doesn't where none does
---     some_in, some_pair_is    the number, and the pair, that pass a test where some does
 --     next_from, next_to       the pair that comes next may be treated, and no such pair comes before it; and so it is
 --     may_within, next_within  the rows of a pair that may be treated, and of the next one, have leads
 --     next_first               the place that is first in the queue is that of the next pair
 --     none_left                where the queue is empty no pair may be treated
 --     first_is                 either, as the queue's least place is found
 --     next_one                 one pair comes next
-use Rattle.std.proofs.Common.{◌≡◌, ℕ, ◌<◌, Bool, true, false, List, [], ◌∷◌, length, refl, sym, ap, ap₂, ◌∙◌, subst, true≢false, arith}
-use Rattle.std.specs.Prelude.{◌&&◌, ◌||◌, ◌↔◌, not, nat_lt, IfSome, IsSome}
+use Rattle.std.proofs.Common.{◌≡◌, ℕ, ◌<◌, Bool, true, false, List, [], ◌∷◌, length, refl, sym, ap, ◌∙◌, true≢false, arith}
+use Rattle.std.specs.Prelude.{◌&&◌, ◌↔◌, not, nat_lt, IfSome, IsSome}
 use Rattle.std.specs.BTreeMap.{is_at}
 use Rattle.std.specs.BTreeSet.{BTreeSet, btree_set_len, contains, IsLowerBound}
 use Rattle.std.specs.Cmp.{alike_right}
-use Rattle.std.specs.List.{list_any, range_with_len}
+use Rattle.std.specs.List.{list_any}
 use Rattle.std.specs.Ordering.{is_eq, is_gt, is_lt, ordering_reverse}
 use Rattle.std.specs.declared.cmp.Ordering.{Ordering}
 use Rattle.std.specs.declared.cmp.Ordering.TheVariants.{Less, Equal, Greater}
 use Rattle.std.specs.declared.option.Option.{Option}
 use Rattle.std.specs.declared.option.Option.TheVariants.{None, Some}
 use Rattle.std.proofs.lemmas.Bool.Decides.{nat_tests}
-use Rattle.std.proofs.lemmas.List.Folds.{list_any_at}
-use Rattle.std.proofs.lemmas.List.FromFn.{length-range_with_len}
 use Rattle.ore_monomial.specs.Term.{Term}
 use Rattle.ore_monomial.specs.declared.order.Order.{Order}
-use Rattle.ore_pairs.specs.PairRule.{may_treat}
+use Rattle.ore_pairs.specs.PairRule.{some_pair, may_treat}
+use Rattle.ore_pairs.proofs.SomePair.{not_true, pair_none, pair_not}
 use Rattle.ore_pairs.proofs.PairRuleLaws.{treat_from}
-use Rattle.ore_report.specs.ChainRule.{pair_cmp, some_pair, is_next}
+use Rattle.ore_report.specs.ChainRule.{pair_cmp, is_next}
 use Rattle.ore_report.specs.Queue.{place_cmp, place_at, is_waiting, IsQueue, IsFirst, IsPlace}
 use Rattle.ore_report.specs.declared.queue.Place.{Place}
 use Rattle.ore_report.proofs.Places.{place_total, pair_place, tied_pair, rows_are}
-use Rattle.ore_report.proofs.Vias.{there}
 use Rattle.ore_report.proofs.Waiting.{eq_true, waiting_there}
-
-pub not_true : (b : Bool) → (b ≡ true → ⊥) → b ≡ false
-not_true true h = absurd (h refl)
-not_true false h = refl
 
 no_keys : {K : Type 0} (xs : List K) → (0 < length xs → ⊥) → xs ≡ []
 no_keys [] h = refl
 no_keys (x ∷ xs) h = absurd (h (omega arith))
-
-list_none : (test : ℕ → Bool) (xs : List ℕ) → ((x : ℕ) → test x ≡ false) → list_any test xs ≡ false
-list_none test [] h = refl
-list_none test (x ∷ xs) h = ap₂ ◌||◌ (h x) (list_none test xs h)
-
-module _ (rows : ℕ) (test : ℕ → ℕ → Bool) where
-  pub pair_none : ((x y : ℕ) → test x y ≡ false) → some_pair rows test ≡ false
-  unfolding some_pair
-  pair_none h = list_none _ (range_with_len 0 rows) (λ x. list_none (test x) (range_with_len 0 rows) (h x))
-
-  within : (x : ℕ) → x < rows → x < length (range_with_len 0 rows)
-  within x l = subst (λ m. x < m) (sym (length-range_with_len 0 rows)) l
-
-  pub pair_some : (x y : ℕ) → x < rows → y < rows → test x y ≡ true → some_pair rows test ≡ true
-  unfolding some_pair
-  pair_some x y l m e =
-      list_any_at (λ i. list_any (test i) (range_with_len 0 rows)) (range_with_len 0 rows) x 0 (within x l)
-      (ap (λ i. list_any (test i) (range_with_len 0 rows)) (there rows x l) ∙ list_any_at (test x) (range_with_len 0 rows) y 0 (within y m) (ap (test x) (there rows y m) ∙ e))
-
-  pub pair_not : some_pair rows test ≡ false → (x y : ℕ) → x < rows → y < rows → test x y ≡ false
-  pair_not h x y l m = not_true (test x y) (λ e. true≢false (sym (pair_some x y l m e) ∙ h))
-
-some_in : (test : ℕ → Bool) (xs : List ℕ) → list_any test xs ≡ true → (x : ℕ) × (test x ≡ true)
-some_in test [] h = absurd (true≢false (sym h))
-some_in test (x ∷ xs) h = by (test x) refl h (some_in test xs)
-  where
-    by : (b : Bool) → test x ≡ b → (b || list_any test xs) ≡ true → (list_any test xs ≡ true → (y : ℕ) × (test y ≡ true)) → (y : ℕ) × (test y ≡ true)
-    by true e g rest = (x, e)
-    by false e g rest = rest g
-
--- some pair passes the test
-pub some_pair_is : (rows : ℕ) (test : ℕ → ℕ → Bool) → some_pair rows test ≡ true → (i : ℕ) × (j : ℕ) × (test i j ≡ true)
-unfolding some_pair
-some_pair_is rows test h =
-    let row = some_in (λ i. list_any (test i) (range_with_len 0 rows)) (range_with_len 0 rows) h in
-    let partner = some_in (test row.0) (range_with_len 0 rows) row.1 in
-    (row.0, partner.0, partner.1)
 
 and_true : (a b : Bool) → (a && not b) ≡ true → (a ≡ true) × (b ≡ false)
 and_true true true h = absurd (true≢false (sym h))

@@ -9,7 +9,8 @@
 --     rank_cmp                    monomials are ordered as their ranks are
 --     by_both, pair_place         pairs are ordered as their places are
 use Rattle.std.proofs.Common.{◌≡◌, ℕ, ◌≤◌, Bool, true, false, cond, List, refl, sym, ap, ◌∙◌, arith, replicate}
-use Rattle.std.specs.Prelude.{nat_lt}
+use Rattle.std.specs.Prelude.{not}
+use Rattle.ore_algebra.specs.Limits.{program, is_within}
 use Rattle.std.specs.Cmp.{IsTotalOrder, tied_itself, nat_cmp_total, bool_cmp_total, on_total, then_total, back_total}
 use Rattle.std.specs.Cmp.Lexicographic.{slice_cmp}
 use Rattle.std.specs.Ordering.{nat_cmp, bool_cmp, ordering_then, ordering_reverse}
@@ -27,10 +28,10 @@ use Rattle.ore_report.specs.ChainRule.{is_past, by_limit, places_cmp, pair_cmp}
 use Rattle.ore_report.specs.Queue.{place_cmp, place_at}
 use Rattle.ore_report.specs.declared.queue.Place.{Place}
 
-not_past : (d : ℕ) → d ≤ 32767 → nat_lt 32767 d ≡ false
+not_past : (d : ℕ) → d ≤ 32767 → not (is_within program.degree d) ≡ false
 not_past d h = grind (arith, nat_tests)
 
-past : (d : ℕ) → (d ≤ 32767 → ⊥) → nat_lt 32767 d ≡ true
+past : (d : ℕ) → (d ≤ 32767 → ⊥) → not (is_within program.degree d) ≡ true
 past d h = grind (arith, nat_tests)
 
 abbrev pub plain_place : Order → Term → ℕ → ℕ → Place

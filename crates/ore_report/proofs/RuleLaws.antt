@@ -1,38 +1,39 @@
 -- What the chain rule allows: one choice, while a pair may be treated, and that the budget is spent where it is a
 -- treatment.
---     and_parts               both tests pass
 --     none_some, some_same, some_is      whether there is a least row, and which
 --     one_choice, spent_where, some_choice, all_lawful     what the law function promises
+--     strict                   of runs it is a strict rule
 --     next_same, via_same, choice_same, by_pairs           lists with the same pairs
 --     answer_same             an answer that is allowed by one of them
-use Rattle.std.proofs.Common.{◌≡◌, ℕ, Bool, true, false, List, length, refl, sym, ap, ap₂, ◌∙◌, true≢false, arith}
+use Rattle.std.proofs.Common.{◌≡◌, ℕ, true, List, length, refl, sym, ap, ap₂, ◌∙◌, true≢false, arith}
 use Rattle.std.specs.Prelude.{◌&&◌, not, nat_eq, is_none}
 use Rattle.std.specs.List.{range_with_len, position}
 use Rattle.std.specs.Option.{option_eq}
 use Rattle.std.specs.Ordering.{is_lt}
 use Rattle.std.specs.declared.option.Option.{Option}
 use Rattle.std.specs.declared.option.Option.TheVariants.{None, Some}
+use Rattle.std.proofs.lemmas.Bool.{and_parts}
 use Rattle.std.proofs.lemmas.Bool.Decides.{nat_tests}
 use Rattle.ore_monomial.specs.Term.{Term}
 use Rattle.ore_monomial.specs.declared.order.Order.{Order}
-use Rattle.ore_pairs.specs.Listed.{is_in}
+use Rattle.ore_pairs.specs.PairRule.{HaveSamePairs, is_lawful, some_pair}
 use Rattle.ore_pairs.proofs.PairRuleLaws.{treat_same, skip_same}
+use Rattle.ore_pairs.proofs.SomePair.{some_pair_is}
 use Rattle.ore_rows.specs.declared.choices.Choice.{Choice}
 use Rattle.ore_rows.specs.declared.choices.Choice.TheVariants.{Treat, Skip}
+use Rattle.ore_pairs.specs.PairList.{pairs_of}
+use Rattle.ore_pairs.specs.Reached.{shown_in}
+use Rattle.ore_pairs.specs.Runner.{treats_pair}
 use Rattle.ore_groebner.specs.Rules.{IsAllowed}
 use Rattle.ore_groebner.specs.Shown.{Shown}
 use Rattle.ore_groebner.specs.declared.chooser.Next.{Next}
 use Rattle.ore_groebner.specs.declared.chooser.Next.TheVariants.{Choose, Complete, Spent, NoLawful}
-use Rattle.ore_report.specs.ChainRule.{order_shown, pair_cmp, some_pair, is_next, least_via, chain_allows, chain_allows_spent}
-use Rattle.ore_report.specs.RuleLaw.{AllowsOneChoice, AllowsSomeChoice, AllowsLawful, AllowsSpentAtTreatment, AllowsByPairs}
+use Rattle.ore_report.specs.ChainRule.{order_shown, pair_cmp, is_next, least_via, chain_allows, chain_allows_spent}
+use Rattle.ore_report.specs.RuleLaw.{AllowsOneChoice, AllowsSomeChoice, AllowsLawful, AllowsSpentAtTreatment, AllowsByPairs, IsStrictRule}
 use Rattle.ore_report.proofs.Lawful.{treat_allowed, skip_allowed, spent_allowed}
-use Rattle.ore_report.proofs.Nexts.{next_from, next_one, some_pair_is}
+use Rattle.ore_report.proofs.Nexts.{next_from, next_one}
 use Rattle.ore_report.proofs.Leasts.{some_next}
 use Rattle.ore_report.proofs.Vias.{via_is}
-
-and_parts : (a b : Bool) → (a && b) ≡ true → (a ≡ true) × (b ≡ true)
-and_parts true b h = (refl, h)
-and_parts false b h = absurd (true≢false (sym h))
 
 none_some : (o : Option ℕ) (n : ℕ) → is_none o ≡ true → option_eq nat_eq o (Some n) ≡ true → ⊥
 none_some None n h k = true≢false (sym k)
@@ -91,16 +92,24 @@ some_is None n h = absurd (true≢false (sym h))
 some_is (Some m) n h = ap Some (let e : m ≡ n = grind (arith, nat_tests) in e)
 
 pub all_lawful : AllowsLawful chain_allows
-all_lawful shown ps i j = (
-  λ h. (next_from (order_shown shown) shown.leads ps i j (and_parts (is_next (order_shown shown) shown.leads ps i j) (is_none (least_via shown.leads ps i j)) h).0).may,
-  λ via h.
-      let parts = and_parts (is_next (order_shown shown) shown.leads ps i j) (option_eq nat_eq (least_via shown.leads ps i j) (Some via)) h in
-      ((next_from (order_shown shown) shown.leads ps i j parts.0).may, (via_is shown.leads ps i j via (some_is (least_via shown.leads ps i j) via parts.1)).1),
-)
+unfolding is_lawful
+all_lawful shown ps (Treat i j) h = (next_from (order_shown shown) shown.leads ps i j (and_parts (is_next (order_shown shown) shown.leads ps i j) (is_none (least_via shown.leads ps i j)) h).0).may
+all_lawful shown ps (Skip i j via) h =
+    let parts = and_parts (is_next (order_shown shown) shown.leads ps i j) (option_eq nat_eq (least_via shown.leads ps i j) (Some via)) h in
+    λ n. (next_from (order_shown shown) shown.leads ps i j parts.0).may n && (via_is shown.leads ps i j via (some_is (least_via shown.leads ps i j) via parts.1)).1 n
+
+-- where a treatment may come and a choice may, the choice is that treatment
+pub strict : IsStrictRule chain_allows chain_allows_spent
+strict l s = record {
+  one = λ st c d h k. one_choice (shown_in s st) (pairs_of st.listed) c d h k;
+  treats_last = λ st c spent h.
+      let treatment = (spent_where (shown_in s st) (pairs_of st.listed)).0 spent in
+      ap treats_pair (one_choice (shown_in s st) (pairs_of st.listed) c (Treat treatment.0 treatment.1) h treatment.2);
+}
 
 -- ---- lists with the same pairs
 
-module _ (o : Order) (leads : List Term) (ps qs : List (ℕ × ℕ)) (same : (i j : ℕ) → is_in i j ps ≡ is_in i j qs) where
+module _ (o : Order) (leads : List Term) (ps qs : List (ℕ × ℕ)) (same : HaveSamePairs ps qs) where
   next_same : (i j : ℕ) → is_next o leads ps i j ≡ is_next o leads qs i j
   unfolding is_next
   next_same i j = λ n. treat_same leads ps i j qs (same i j) n && not (some_pair (length leads) (λ x y. treat_same leads ps x y qs (same x y) n && is_lt (pair_cmp o leads (x, y) (i, j))))
@@ -109,7 +118,7 @@ module _ (o : Order) (leads : List Term) (ps qs : List (ℕ × ℕ)) (same : (i 
   unfolding least_via
   via_same i j = λ n. position (λ via. skip_same leads ps i j via qs same n) (range_with_len 0 (length leads))
 
-choice_same : (shown : Shown) (ps qs : List (ℕ × ℕ)) → ((i j : ℕ) → is_in i j ps ≡ is_in i j qs) → (c : Choice) → chain_allows shown ps c ≡ chain_allows shown qs c
+choice_same : (shown : Shown) (ps qs : List (ℕ × ℕ)) → HaveSamePairs ps qs → (c : Choice) → chain_allows shown ps c ≡ chain_allows shown qs c
 choice_same shown ps qs same (Treat i j) = λ n. next_same (order_shown shown) shown.leads ps qs same i j n && is_none (via_same (order_shown shown) shown.leads ps qs same i j n)
 choice_same shown ps qs same (Skip i j via) = λ n. next_same (order_shown shown) shown.leads ps qs same i j n && option_eq nat_eq (via_same (order_shown shown) shown.leads ps qs same i j n) (Some via)
 
@@ -117,7 +126,7 @@ pub by_pairs : AllowsByPairs chain_allows chain_allows_spent
 by_pairs shown ps qs same = (choice_same shown ps qs same, λ n. some_pair (length shown.leads) (λ i j. choice_same shown ps qs same (Treat i j) n))
 
 -- an answer that the rule allows by one list it allows by the other
-pub answer_same : (shown : Shown) (ps qs : List (ℕ × ℕ)) → ((i j : ℕ) → is_in i j ps ≡ is_in i j qs) → (x : Next) → IsAllowed chain_allows chain_allows_spent shown ps x → IsAllowed chain_allows chain_allows_spent shown qs x
+pub answer_same : (shown : Shown) (ps qs : List (ℕ × ℕ)) → HaveSamePairs ps qs → (x : Next) → IsAllowed chain_allows chain_allows_spent shown ps x → IsAllowed chain_allows chain_allows_spent shown qs x
 answer_same shown ps qs same (Choose c) h = sym (choice_same shown ps qs same c) ∙ h
 answer_same shown ps qs same Complete h = tt
 answer_same shown ps qs same Spent h = sym (by_pairs shown ps qs same).1 ∙ h

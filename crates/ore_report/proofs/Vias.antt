@@ -1,24 +1,23 @@
 -- The least row by way of which a pair may be skipped.
 --     there                 the number at a place of 0, 1, ..
---     position_is           the first number that passes a test
+--     first_is, answer      the first number that passes a test, and what is found
+--     position_found, position_none     it is found where it is below the end
 --     one_more              one more number fails
 --     via_found, via_none   the least row is this one, where those before don't serve; there is none
 --     via_is                what is known of the least row
-use Rattle.std.proofs.Common.{◌≡◌, ⊎_elim, ℕ, ◌+◌, ◌<◌, ◌≤◌, Bool, true, false, cond, List, length, get_or, sym, ap, ap₂, ◌∙◌, subst, arith, zero-add}
+use Rattle.std.proofs.Common.{◌≡◌, ⊎_elim, ℕ, ◌+◌, ◌<◌, ◌≤◌, Bool, true, false, cond, List, length, sym, ap, ap₂, ◌∙◌, subst, arith}
 use Rattle.std.specs.Prelude.{nat_lt}
 use Rattle.std.specs.List.{range_with_len, position, position_or_len}
 use Rattle.std.specs.declared.option.Option.TheVariants.{None, Some}
 use Rattle.std.proofs.lemmas.Bool.{cases_lt}
 use Rattle.std.proofs.lemmas.Bool.Decides.{nat_tests}
-use Rattle.std.proofs.lemmas.List.FromFn.{get_or-range_with_len, length-range_with_len}
+use Rattle.std.proofs.lemmas.List.FromFn.{length-range_with_len}
 use Rattle.std.proofs.lemmas.List.Quantifiers.{position-Some}
 use Rattle.std.proofs.lemmas.List.Sums.{position_or_len_is}
 use Rattle.ore_monomial.specs.Term.{Term}
+use Rattle.ore_pairs.proofs.SomePair.{there}
 use Rattle.ore_pairs.specs.PairRule.{may_skip}
 use Rattle.ore_report.specs.ChainRule.{least_via}
-
-pub there : (n x : ℕ) → x < n → get_or (range_with_len 0 n) x 0 ≡ x
-there n x l = get_or-range_with_len 0 n x 0 l ∙ zero-add x
 
 below : (i n : ℕ) → i < n → nat_lt i n ≡ true
 below i n l = grind (arith, nat_tests)

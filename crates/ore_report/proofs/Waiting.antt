@@ -12,6 +12,7 @@
 --     grown_test, not_empty, within_rows, waiting_grown     a queue goes on where leads are added
 use Rattle.std.proofs.Common.{◌≡◌, ◌≢◌, ℕ, ◌<◌, ◌≤◌, Bool, true, false, cond, List, [], ◌∷◌, ◌++◌, length, refl, sym, ap, ap₂, ◌∙◌, true≢false, arith}
 use Rattle.std.specs.Prelude.{◌&&◌, ◌||◌, not, nat_eq, nat_lt}
+use Rattle.ore_algebra.specs.Limits.{program, is_within}
 use Rattle.std.specs.BTreeMap.{is_at}
 use Rattle.std.specs.BTreeSet.{BTreeSet, contains}
 use Rattle.std.specs.List.{list_any}
@@ -25,8 +26,7 @@ use Rattle.ore_monomial.specs.Monomial.{degree, lcm}
 use Rattle.ore_monomial.specs.Term.{Term}
 use Rattle.ore_monomial.specs.declared.order.Order.{Order}
 use Rattle.ore_rows.specs.Reduction.{origin}
-use Rattle.ore_pairs.specs.Listed.{is_in}
-use Rattle.ore_pairs.specs.PairRule.{is_pair, may_treat}
+use Rattle.ore_pairs.specs.PairRule.{is_listed, is_pair, may_treat}
 use Rattle.ore_pairs.specs.Steps.{lead_at, pair_term}
 use Rattle.ore_pairs.proofs.PairRuleLaws.{treat_from, treat_to}
 use Rattle.ore_report.specs.Queue.{place_cmp, place_at, is_waiting, AreWaiting, IsPlace}
@@ -93,7 +93,7 @@ module _ (o : Order) (leads : List Term) (ps : List (ℕ × ℕ)) where
       (at_pair o leads i j p) (pair_at o leads i j p)
 
   -- one more pair is listed, and its place is gone
-  pub left : (E : ℕ → ℕ → Bool) (qs : List (ℕ × ℕ)) (place : Place) (old new : BTreeSet Place) → IsPlace o leads place → ((x y : ℕ) → is_in x y qs ≡ ((nat_eq x place.first && nat_eq y place.second) || is_in x y ps)) → AreWaiting o leads ps E old
+  pub left : (E : ℕ → ℕ → Bool) (qs : List (ℕ × ℕ)) (place : Place) (old new : BTreeSet Place) → IsPlace o leads place → ((x y : ℕ) → is_listed x y qs ≡ ((nat_eq x place.first && nat_eq y place.second) || is_listed x y ps)) → AreWaiting o leads ps E old
       → ((p : Place) → contains place_cmp new p ≡ cond (is_eq (place_cmp place p)) false (contains place_cmp old p)) → AreWaiting o leads qs E new
   unfolding is_waiting may_treat
   left E qs place old new is listed held now p =
@@ -101,7 +101,7 @@ module _ (o : Order) (leads : List Term) (ps : List (ℕ × ℕ)) where
       let same : is_eq (place_cmp at p) ≡ is_eq (place_cmp place p) = ap is_eq (sym (place_total.congr place at p is)) in
       now p ∙ ap (cond (is_eq (place_cmp place p)) false) (held p)
       ∙ left_test (E p.first p.second) (may_treat leads ps p.first p.second) (may_treat leads qs p.first p.second) (is_eq (place_cmp p (place_at o leads p.first p.second))) (is_eq (place_cmp place p)) (nat_eq p.first place.first && nat_eq p.second place.second)
-      (listed_test (is_pair leads p.first p.second) (nat_eq p.first place.first && nat_eq p.second place.second) (is_in p.first p.second qs) (is_in p.first p.second ps) (listed p.first p.second))
+      (listed_test (is_pair leads p.first p.second) (nat_eq p.first place.first && nat_eq p.second place.second) (is_listed p.first p.second qs) (is_listed p.first p.second ps) (listed p.first p.second))
       (λ h. at_pair o leads place.first place.second p h ∙ same)
       (λ h. pair_at o leads place.first place.second p (same ∙ h))
 
@@ -178,7 +178,7 @@ module _ (o now : Order) (leads rest : List Term) (ps : List (ℕ × ℕ)) where
 
   place_kept : (i j : ℕ) → i < length leads → j < length leads → place_at o leads i j ≡ place_at o (leads ++ rest) i j
   unfolding place_at
-  place_kept i j l m = ap (λ t. cond (nat_lt 32767 (degree t.monomial)) (past_place i j) (plain_place o t i j)) (sym (term_kept i j l m))
+  place_kept i j l m = ap (λ t. cond (not (is_within program.degree (degree t.monomial))) (past_place i j) (plain_place o t i j)) (sym (term_kept i j l m))
 
   -- a queue goes on where leads are added
   pub waiting_grown : (rows : ℕ) (places : BTreeSet Place) → rows ≤ length leads → (leads ≢ [] → now ≡ o) → AreWaiting o leads ps (λ i j. nat_lt j rows) places → AreWaiting now (leads ++ rest) ps (λ i j. nat_lt j rows) places

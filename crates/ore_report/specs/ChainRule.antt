@@ -7,26 +7,26 @@
 --     places_cmp           pairs by their first place, then by their second
 --     by_limit             an order of terms and one of places, where some pairs are past the limit
 --     pair_cmp             which of two pairs comes first
---     some_pair            some two places pass a test
 --     is_next              the least pair that may be treated
 --     least_via            the least row by way of which a pair may be skipped
 --     chain_allows         the choice that comes next
 --     chain_allows_spent   that choice is a treatment
-use Rattle.std.specs.Prelude.{ℕ, Bool, true, false, not, ◌&&◌, nat_eq, nat_lt, List, length, is_none}
-use Rattle.std.specs.List.{list_any, range_with_len, position}
+use Rattle.std.specs.Prelude.{ℕ, Bool, true, false, not, ◌&&◌, nat_eq, List, length, is_none}
+use Rattle.std.specs.List.{range_with_len, position}
 use Rattle.std.specs.Option.{option_eq}
 use Rattle.std.specs.Ordering.{nat_cmp, ordering_then, is_lt}
 use Rattle.std.specs.declared.cmp.Ordering.{Ordering}
 use Rattle.std.specs.declared.cmp.Ordering.TheVariants.{Less, Greater}
 use Rattle.std.specs.declared.option.Option.{Option}
 use Rattle.std.specs.declared.option.Option.TheVariants.{None, Some}
+use Rattle.ore_algebra.specs.Limits.{program, is_within}
 use Rattle.ore_monomial.specs.Monomial.{degree}
 use Rattle.ore_monomial.specs.Term.{Term, term_cmp}
 use Rattle.ore_monomial.specs.declared.order.Order.{Order}
 use Rattle.ore_monomial.specs.declared.order.Order.TheVariants.{DegLex}
 use Rattle.ore_rows.specs.declared.choices.Choice.{Choice}
 use Rattle.ore_rows.specs.declared.choices.Choice.TheVariants.{Treat, Skip}
-use Rattle.ore_pairs.specs.PairRule.{may_treat, may_skip}
+use Rattle.ore_pairs.specs.PairRule.{some_pair, may_treat, may_skip}
 use Rattle.ore_pairs.specs.Steps.{pair_term}
 use Rattle.ore_groebner.specs.Shown.{Shown}
 
@@ -34,9 +34,9 @@ use Rattle.ore_groebner.specs.Shown.{Shown}
 abbrev pub order_shown : Shown → Order
 order_shown shown = elim shown.order [ None ↦ DegLex | Some o ↦ o ]
 
--- the degree is greater than that of any monomial of the program
+-- the degree is past the greatest one of the program
 abbrev pub is_past : List Term → ℕ → ℕ → Bool
-is_past leads i j = nat_lt 32767 (degree (pair_term leads i j).monomial)
+is_past leads i j = not (is_within program.degree (degree (pair_term leads i j).monomial))
 
 -- the lesser first place comes first, then the lesser second
 abbrev pub places_cmp : ℕ × ℕ → ℕ × ℕ → Ordering
@@ -52,10 +52,6 @@ by_limit true true terms places = places
 -- by the order of the terms of both pairs, then by their places; pairs past the limit come last
 unfoldable pub pair_cmp : Order → List Term → ℕ × ℕ → ℕ × ℕ → Ordering
 pair_cmp o leads p q = by_limit (is_past leads p.0 p.1) (is_past leads q.0 q.1) (term_cmp o (pair_term leads p.0 p.1) (pair_term leads q.0 q.1)) (places_cmp p q)
-
--- two of the rows, in any order
-unfoldable pub some_pair : ℕ → (ℕ → ℕ → Bool) → Bool
-some_pair rows test = list_any (λ i. list_any (test i) (range_with_len 0 rows)) (range_with_len 0 rows)
 
 -- it may be treated, and no pair that may be treated comes before it
 unfoldable pub is_next : Order → List Term → List (ℕ × ℕ) → ℕ → ℕ → Bool

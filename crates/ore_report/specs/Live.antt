@@ -1,19 +1,18 @@
 -- What contracts see of a live chooser, and what it answers.
 --     LiveState          its budget, the choices that it gave, run by run, and what it was shown last
 --     live_code          the code of these as numbers
---     pairs_of           the pairs of some choices (of ore_groebner)
 --     IsLive             what its parts say of each other
 --     IsPaid             what is answered of a pair that may be treated
 --     IsSettled          what is answered of the pair that comes next
---     keeps_nothing      a chooser that doesn't replay keeps no choices
+--     live_settings      the budget of a live chooser, which doesn't replay
+--     keeps_nothing      it keeps no choices
 use Rattle.std.specs.Prelude.{◌≡◌, ℕ, ◌<◌, ◌≤◌, false, List, [], refl}
 use Rattle.std.specs.declared.option.Option.{Option}
 use Rattle.std.specs.declared.option.Option.TheVariants.{None, Some}
 use Rattle.std.specs.Coded.{Coded, coded×, coded_ℕ, code_by}
 use Rattle.ore_rows.specs.declared.choices.Choice.{Choice}
 use Rattle.ore_rows.specs.declared.choices.Choice.TheVariants.{Treat, Skip}
-pub use Rattle.ore_groebner.specs.Choosing.{pairs_of}
-use Rattle.ore_groebner.specs.Choosing.{present, treats_in, IsPrefixOfKept}
+use Rattle.ore_groebner.specs.Choosing.{chosen_pairs, present, treats_in, Settings, IsPrefixOfKept}
 use Rattle.ore_groebner.specs.Shown.{Shown}
 use Rattle.ore_groebner.specs.declared.chooser.Next.{Next}
 use Rattle.ore_groebner.specs.declared.chooser.Next.TheVariants.{Choose, Complete, Spent, NoLawful}
@@ -34,7 +33,7 @@ live_code = code_by ((ℕ × List (List Choice)) × Shown) (coded× (coded× cod
 pub record IsLive (budget treated : ℕ) (given : List (List Choice)) (shown : Shown) (queue : Queue) : Type 0 where
   pub counted : treated ≡ treats_in given
   pub afforded : treated ≤ budget
-  pub queued : IsQueue (order_shown shown) shown.leads (pairs_of (present given)) queue.rows queue.places
+  pub queued : IsQueue (order_shown shown) shown.leads (chosen_pairs (present given)) queue.rows queue.places
 
 -- the pair is treated where the budget allows
 abbrev pub IsPaid : (given : List (List Choice)) → (budget i j : ℕ) → Next → Type 0
@@ -48,5 +47,9 @@ abbrev pub IsSettled : (given : List (List Choice)) → (budget i j : ℕ) → O
 IsSettled given budget i j None x = IsPaid given budget i j x
 IsSettled given budget i j (Some via) x = x ≡ Choose (Skip i j via)
 
-pub keeps_nothing : (given : List (List Choice)) → IsPrefixOfKept false [] given
-keeps_nothing given = record { keeps_none = λ _. refl; gives_kept = λ h k. cc }
+-- a live chooser has a budget, doesn't replay, and keeps no choices
+abbrev pub live_settings : ℕ → Settings
+live_settings budget = record { budget = budget; replays = false; kept = [] }
+
+pub keeps_nothing : (budget : ℕ) (given : List (List Choice)) → IsPrefixOfKept (live_settings budget) given
+keeps_nothing budget given = record { keeps_none = λ _. refl; gives_kept = λ h k. cc }

@@ -4,11 +4,16 @@
 --     AllowsLawful               a choice that may come is lawful, by the leads and the listed pairs
 --     AllowsSpentAtTreatment     the budget may be spent exactly where a treatment may come
 --     AllowsByPairs              lists with the same pairs let the same come
+--     IsStrictRule               of runs it is a strict rule (Bounded of ore_course)
 use Rattle.std.specs.Prelude.{◌≡◌, ℕ, Bool, true, List, ◌↔◌}
 use Rattle.ore_rows.specs.declared.choices.Choice.{Choice}
-use Rattle.ore_rows.specs.declared.choices.Choice.TheVariants.{Treat, Skip}
-use Rattle.ore_pairs.specs.Listed.{is_in}
-use Rattle.ore_pairs.specs.PairRule.{may_treat, may_skip}
+use Rattle.ore_rows.specs.declared.choices.Choice.TheVariants.{Treat}
+use Rattle.ore_algebra.specs.Limits.{Limits}
+use Rattle.ore_course.specs.Bounded.{IsStrict}
+use Rattle.ore_monomial.specs.Signature.{Signature}
+use Rattle.ore_pairs.specs.PairRule.{HaveSamePairs, may_treat, is_lawful}
+use Rattle.ore_pairs.specs.Reached.{rule_of}
+use Rattle.ore_pairs.specs.Runner.{runner_within}
 use Rattle.ore_groebner.specs.Shown.{Shown}
 
 -- two choices that may come are the same
@@ -19,11 +24,9 @@ AllowsOneChoice allows = (shown : Shown) (ps : List (ℕ × ℕ)) (c d : Choice)
 abbrev pub AllowsSomeChoice : (Shown → List (ℕ × ℕ) → Choice → Bool) → Type 0
 AllowsSomeChoice allows = (shown : Shown) (ps : List (ℕ × ℕ)) (i j : ℕ) → may_treat shown.leads ps i j ≡ true → (c : Choice) × (allows shown ps c ≡ true)
 
--- a treated pair may be treated, and a skipped one also skipped
+-- each choice that may come is lawful
 abbrev pub AllowsLawful : (Shown → List (ℕ × ℕ) → Choice → Bool) → Type 0
-AllowsLawful allows = (shown : Shown) (ps : List (ℕ × ℕ)) (i j : ℕ)
-    → (allows shown ps (Treat i j) ≡ true → may_treat shown.leads ps i j ≡ true)
-    × ((via : ℕ) → allows shown ps (Skip i j via) ≡ true → (may_treat shown.leads ps i j ≡ true) × (may_skip shown.leads ps i j via ≡ true))
+AllowsLawful allows = (shown : Shown) (ps : List (ℕ × ℕ)) (c : Choice) → allows shown ps c ≡ true → is_lawful shown.leads ps c ≡ true
 
 -- the answer that the budget is spent may come where some pair may come as a treatment, and only there
 abbrev pub AllowsSpentAtTreatment : (Shown → List (ℕ × ℕ) → Choice → Bool) → (Shown → List (ℕ × ℕ) → Bool) → Type 0
@@ -31,5 +34,9 @@ AllowsSpentAtTreatment allows allows_spent = (shown : Shown) (ps : List (ℕ × 
 
 -- the order in which the pairs were listed doesn't count, nor how often
 abbrev pub AllowsByPairs : (Shown → List (ℕ × ℕ) → Choice → Bool) → (Shown → List (ℕ × ℕ) → Bool) → Type 0
-AllowsByPairs allows allows_spent = (shown : Shown) (ps qs : List (ℕ × ℕ)) → ((i j : ℕ) → is_in i j ps ≡ is_in i j qs)
+AllowsByPairs allows allows_spent = (shown : Shown) (ps qs : List (ℕ × ℕ)) → HaveSamePairs ps qs
     → ((c : Choice) → allows shown ps c ≡ allows shown qs c) × (allows_spent shown ps ≡ allows_spent shown qs)
+
+-- one choice at most may come in a state, and where the budget may be spent that choice is a treatment
+abbrev pub IsStrictRule : (Shown → List (ℕ × ℕ) → Choice → Bool) → (Shown → List (ℕ × ℕ) → Bool) → Type 0
+IsStrictRule allows allows_spent = (l : Limits) (s : Signature) → IsStrict (runner_within l s) (rule_of s allows allows_spent)

@@ -1,6 +1,7 @@
 //! The choices that a chooser gave, run by run.
 
 ghost use Rattle.std.specs.Prelude.{◌≡◌, ◌≢◌, [], ◌∷◌, ◌++◌, IfOk, IfErr};
+ghost use Rattle.ore_course.specs.Choices.{but_last, without_last};
 ghost use Rattle.ore_groebner.specs.Choosing.{with_choice};
 
 use ore_monomial::NoMemory;
@@ -62,6 +63,17 @@ impl Given {
         push_choice(alloc, &mut self.runs[last], choice)
     }
 
+    /// The last run loses its last choice. Nothing changes where there is none.
+    pub fn pop(&mut self, alloc: Global)
+        ensures { self.new ≡ without_last self.old }
+    {
+        if self.runs.is_empty() {
+            return;
+        }
+        let last = self.runs.len() - 1;
+        pop_choice(alloc, &mut self.runs[last]);
+    }
+
     /// The runs.
     pub fn into_runs(self) -> Runs
         ensures { result ≡ self }
@@ -86,4 +98,13 @@ fn push_choice(alloc: Global, run: &mut Choices, choice: Choice) -> Result<(), N
             Err(NoMemory)
         }
     }
+}
+
+// All choices but the last.
+fn pop_choice(alloc: Global, run: &mut Choices)
+    ensures { run.new ≡ but_last run.old }
+{
+    let mut items = mem::replace(run, Choices::from_vec(Vec::new(alloc))).into_vec();
+    items.pop();
+    *run = Choices::from_vec(items);
 }

@@ -6,6 +6,10 @@
 //! by their places alone. The pair is skipped by way of the least row that lets it be, and treated where no row does;
 //! there, and only there, the budget may be spent. It keeps the choices that it gave, run by run.
 //!
+//! [`LiveChooser::into_report`] is the report of a call that halted: a function of the choices that were given, the
+//! budget, the plan and the halt. Where nothing was given before a call that follows a course, it is an honest report
+//! of this course, by the rule and within the budget (`law_followed` of `ore_course`).
+//!
 //! Its rule is that choice and no other (`chain_allows` and `chain_allows_spent` in `specs/ChainRule.antt`): at each
 //! state one choice may come ([`law_rule`]).
 //!
@@ -13,8 +17,9 @@
 //! stand in a queue (`specs/Queue.antt`), an ordered set, each with a place whose order is that of the rule. The pairs
 //! of a new basis row enter once, and a choice takes one out.
 //!
-//! The crate stands on `ore_groebner` for the traits of choosers, on `ore_pairs` for listed pairs, common multiples and
-//! the rule by which a pair may be skipped, and on `ore_rows` and `ore_leads` for the leads of a basis.
+//! The crate stands on `ore_cert` for reports, on `ore_groebner` for the traits of choosers, on `ore_pairs` for listed
+//! pairs, common multiples and the rule by which a pair may be skipped, and on `ore_rows` and `ore_leads` for the leads
+//! of a basis.
 #![tactic(auto)]
 
 pub mod given;

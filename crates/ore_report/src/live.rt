@@ -1,20 +1,27 @@
 //! The chooser of a live run.
 
 ghost use Rattle.std.specs.Prelude.{◌≡◌, ◌≢◌, ◌≤◌, [], ◌∷◌, ◌++◌, false, IfOk, IfErr};
-ghost use Rattle.ore_groebner.specs.Choosing.{present, given_after, ListsChoices, AreAfforded};
+ghost use Rattle.ore_algebra.specs.Limits as limits;
+ghost use Rattle.ore_course.specs.Following.{IsReportable, Passed, report_of};
+ghost use Rattle.ore_course.specs.Report.{ByStop};
+ghost use Rattle.ore_cert.specs.CourseReport.{course_report, reported_as};
+ghost use Rattle.ore_pairs.specs.PairRule.{HaveSamePairs};
+ghost use Rattle.ore_groebner.specs.Courses.{halt_of, place_of};
+ghost use Rattle.ore_groebner.specs.Choosing.{present, chosen_pairs, given_after, AreAfforded};
 ghost use Rattle.ore_groebner.specs.Shown.{none_shown, shown_of, IsGrownFrom};
 ghost use Rattle.ore_groebner.specs.declared.chooser.Next.TheVariants.{Choose};
 ghost use Rattle.ore_rows.specs.Reduction.{leads_of};
 ghost use Rattle.ore_rows.specs.declared.choices.Choice.TheVariants.{Skip};
 ghost use Rattle.ore_report.specs.ChainRule.{chain_allows, chain_allows_spent, order_shown};
-ghost use Rattle.ore_report.specs.Live.{IsPaid, IsSettled, keeps_nothing};
+ghost use Rattle.ore_report.specs.Live.{IsPaid, IsSettled, live_settings, keeps_nothing};
 ghost use Rattle.ore_report.specs.Queue.{IsFirst, IsPlace};
 
 use crate::given::Given;
 use crate::pairs::least_via;
 use crate::queue::{Place, Queue};
 use crate::showing::Showing;
-use ore_groebner::{Chooser, Next, Rule};
+use ore_cert::{Cause, Plan, Report, Stop};
+use ore_groebner::{Chooser, Halt, Next, Rule, StopAt};
 use ore_monomial::NoMemory;
 use ore_pairs::Listed;
 use ore_rows::{Basis, Choice, Runs};
@@ -68,9 +75,49 @@ impl LiveChooser {
         self.given.into_runs()
     }
 
+    /// The report of a call of this plan that halted so: why and where it stopped, with the choices that it was given. A
+    /// choice whose treatment stopped is the stop, and not one of the choices.
+    pub fn into_report(self, plan: Plan, halt: &Halt) -> Report
+        requires { IsReportable (halt_of halt.now) }
+        ensures plan { result.plan ≡ plan }
+        ensures report { course_report result ≡ report_of self.given self.budget (halt_of halt.now) }
+    {
+        match *halt {
+            Halt::Overflow(at) => self.stopped(plan, Cause::Overflow, at),
+            Halt::Degree(at) => self.stopped(plan, Cause::Degree, at),
+            Halt::Spent | Halt::NoLawful | Halt::Memory => Report {
+                cause: Cause::Budget(self.budget),
+                plan,
+                runs: self.given.into_runs(),
+                stop: Stop::Budget,
+            },
+        }
+    }
+
+    // The report of an operation that stopped for the cause.
+    fn stopped(self, plan: Plan, cause: Cause, at: StopAt) -> Report
+        ensures plan { result.plan ≡ plan }
+        ensures report { (why : limits.Cause) → reported_as cause ≡ ByStop why → course_report result ≡ report_of self.given self.budget (Passed why (place_of at)) }
+    {
+        let mut given = self.given;
+        let stop = match at {
+            StopAt::Forced => Stop::Forced,
+            StopAt::Treat { i, j } => {
+                given.pop(self.alloc);
+                Stop::Treat { i, j }
+            }
+        };
+        Report {
+            cause,
+            plan,
+            runs: given.into_runs(),
+            stop,
+        }
+    }
+
     // The next pair, if there is one.
     fn next_place(&mut self, basis: &Basis, listed: &Listed) -> Result<Option<Place>, NoMemory>
-        requires lists { ListsChoices listed.now (present self.old.given) }
+        requires lists { HaveSamePairs listed.now (chosen_pairs (present self.old.given)) }
         requires grown { IsGrownFrom self.old.shown basis.now }
         ensures first { IfOk result (IsFirst (order_shown (shown_of basis.now)) (leads_of basis.now.items) listed.now) }
         ensures given { self.new.given ≡ self.old.given }
@@ -148,15 +195,11 @@ impl Rule for LiveChooser {
 impl Chooser for LiveChooser {
     ghost given = { λ c. c.given };
 
-    ghost budget = { λ c. c.budget };
-
-    ghost replays = { λ c. false };
-
-    ghost kept = { λ c. [] };
+    ghost settings = { λ c. live_settings c.budget };
 
     ghost shown = { λ c. c.shown };
 
-    ghost keeps = { λ c. keeps_nothing c.given };
+    ghost keeps = { λ c. keeps_nothing c.budget c.given };
 
     fn start_run(&mut self) -> Result<(), NoMemory> {
         self.given.begin(self.alloc)?;

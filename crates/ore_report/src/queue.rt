@@ -8,11 +8,11 @@ ghost use Rattle.ore_pairs.specs.PairRule.{may_treat};
 ghost use Rattle.ore_report.specs.Queue.{place_cmp, place_at, AreWaiting, IsQueue, IsFirst};
 ghost use Rattle.ore_report.specs.declared.queue.Place.{Place as Seen};
 
-use crate::pairs::may_treat;
 use ore_leads::Leads;
 use ore_monomial::{NoMemory, Order};
 use ore_pairs::Listed;
 use ore_pairs::multiples::common_multiple;
+use ore_pairs::rule::may_treat;
 use std::alloc::Global;
 use std::cmp::Reverse;
 use std::collections::BTreeSet;
