@@ -1,0 +1,10 @@
+use Rattle.std.proofs.Common.{◌≡◌, drop}
+use Rattle.ore_rational.proofs.FractionLaws.{rationals}
+use Rattle.ore_rows.specs.Rows.{zero_row}
+use Rattle.ore_pairs.specs.RunBlocks.{row_from}
+use Rattle.ore_blocks.specs.BlockOfRun.{ordered_row}
+use Rattle.ore_syzygy.proofs.inside.row_at.Given as goal
+
+abbrev pub invariant-loop-k : goal.invariant-loop-k
+invariant-loop-k g l = row_from l.origins l.given.rows (ordered_row (g.R.OreRing.sig l.ring).order (zero_row rationals l.given.cols)) l.origin
+    ≡ row_from (drop l.k l.origins) (drop l.k l.given.rows) (ordered_row (g.R.OreRing.sig l.ring).order (zero_row rationals l.given.cols)) l.origin

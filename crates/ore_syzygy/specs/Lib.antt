@@ -1,0 +1,3 @@
+pub mod RunBlock
+pub mod Kernels
+pub mod Laws
