@@ -16,7 +16,8 @@ use Rattle.ore_monomial.specs.Signature.{Signature}
 use Rattle.ore_text.specs.Names.{AreNames}
 use Rattle.ore_problem.specs.Accepted.{AllDeclare}
 use Rattle.ore_problem.specs.Lines.{Cursor}
-use Rattle.ore_problem.specs.Problems.{System, Read, ◌>>=◌, prefix_of, prefix_sizes}
+use Rattle.ore_problem.specs.Problems.{System, Read, prefix_of, prefix_sizes}
+use Rattle.ore_algebra.specs.Results.{◌>>=◌}
 use Rattle.ore_problem.proofs.AcceptedReads.{prefix_stands}
 use Rattle.ore_cert.specs.declared.certificate.Certificate.{Certificate}
 use Rattle.ore_cert.specs.declared.certificate.Certificate.TheVariants.{Controllable, AutonomousElement, LeftInverse, RightInverse, NoLeftInverse, NoRightInverse, Kernel, Resolution, ExtZero, ExtNonzero, Halted}

@@ -19,7 +19,7 @@ use Rattle.ore_parts.specs.FaultyLine.{IsFaultyLine}
 use Rattle.ore_blocks.specs.declared.place.Place.{Place}
 use Rattle.ore_blocks.specs.ReasonWords.{reason_word}
 use Rattle.ore_blocks.specs.Conditions.{Trouble, Fails, Stops, Checked}
-use Rattle.ore_blocks.specs.CheckBlock.{Plain}
+use Rattle.ore_blocks.specs.CheckBlock.{RowMatrix}
 use Rattle.ore_check.specs.Check.{check, capped, IsBuilt, IsNoReport}
 use Rattle.ore_check.specs.Layout.{line_in}
 use Rattle.ore_check.specs.Meaning.{Means}
@@ -37,7 +37,7 @@ checked_reply line lines word (Ok x) = valid word
 checked_reply line lines word (Err failing) = trouble_reply (lines + capped (line failing.place)) failing.trouble
 
 -- as the check takes it: the number of columns, and the rows of plain operators
-abbrev pub matrix_of : System → Plain
+abbrev pub matrix_of : System → RowMatrix
 matrix_of p = record { cols = p.cols; rows = p.rows }
 
 -- a certificate of a kind that is built is checked; another is refused at the line of its kind

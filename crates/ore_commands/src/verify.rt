@@ -73,7 +73,7 @@ fn checked(alloc: Global, problem: &Problem, cert: &Certificate) -> Checked
 
 // The answer of the check, by the operations of a ring of the problem's signature.
 fn checked_in<R: OreRing>(ring: &R, alloc: Global, problem: &Problem, cert: &Certificate) -> Checked
-    requires same { R.signature_of ring.now ≡ problem.now.signature }
+    requires same { R.sig ring.now ≡ problem.now.signature }
     requires problem { IsProblem problem.now }
     requires of { IsCertificateOf problem.now.signature cert.now }
     requires built { IsBuilt cert.now }

@@ -13,7 +13,7 @@ pub struct ArgList {
 }
 
 impl Model for ArgList {
-    ghost use Rattle.std.specs.Prelude.{ℕ, List, map, vec_items};
+    ghost use Rattle.std.specs.Prelude.{ℕ, List, map};
 
     ghost Value = { List (List ℕ) };
 

@@ -9,7 +9,7 @@
 //! own reply to the bytes of an input as a parameter: the crate above has the commands.
 //!
 //! The crate stands on `ore_io` for sources and sinks, on `ore_problem`, `ore_expr` and `ore_monomial` for the faults of
-//! problems, and on `itoa` for numbers.
+//! problems, and on `ore_text` for numbers.
 #![tactic(auto)]
 
 pub mod args;

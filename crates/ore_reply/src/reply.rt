@@ -1,12 +1,12 @@
 //! Replies: a status, and what is written with it.
 
-ghost use Rattle.std.specs.Prelude.{◌≡◌, [], IfOk};
+ghost use Rattle.std.specs.Prelude.{◌≡◌, IfOk};
 ghost use Rattle.ore_reply.specs.Replies as answer;
 ghost use Rattle.ore_reply.specs.MadeReply.{reply_of};
 
 use crate::status::Status;
-use itoa::Buffer;
 use ore_monomial::NoMemory;
+use ore_text::append_number;
 use std::alloc::Global;
 
 /// A status and its text.
@@ -94,10 +94,9 @@ pub fn degree_at(alloc: Global, line: u128) -> Result<Reply, NoMemory>
 fn at_line(alloc: Global, word: &[u8], line: u128) -> Result<Vec<u8>, NoMemory>
     ensures { IfOk result (λ text. text.items ≡ answer.at_line word.now line) }
 {
-    let mut buffer = Buffer::new();
     let mut text = Vec::from_slice(alloc, word)?;
     text.push(b' ')?;
-    text.extend_from_slice(buffer.format(line).as_bytes())?;
+    append_number(&mut text, line)?;
     Ok(text)
 }
 

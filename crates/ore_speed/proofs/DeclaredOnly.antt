@@ -7,7 +7,7 @@ use Rattle.std.specs.Prelude.{OnErr}
 use Rattle.std.specs.declared.result.Result.{Result}
 use Rattle.std.specs.declared.result.Result.TheVariants.{Ok, Err}
 use Rattle.ore_algebra.specs.Limits.{program}
-use Rattle.ore_algebra.specs.Free.{none, single}
+use Rattle.ore_algebra.specs.Free.{empty_sum, single}
 use Rattle.ore_rational.specs.Fraction.{Fraction}
 use Rattle.ore_rational.proofs.FractionLaws.{rationals}
 use Rattle.ore_monomial.specs.Gives.{Turns}
@@ -21,7 +21,7 @@ use Rattle.ore_ring.specs.Within.{plus_within}
 use Rattle.ore_ring.proofs.Belonging.{of_none, of_single, of_plus}
 use Rattle.ore_ring.proofs.WithinLaws.{plus_value}
 
-pub zero_belongs : (s : Signature) (o : Order) (f : Ordered) → o ≡ s.order → f ≡ record { by = o; sum = none rationals plain_cmp } → Belongs s f
+pub zero_belongs : (s : Signature) (o : Order) (f : Ordered) → o ≡ s.order → f ≡ record { by = o; sum = empty_sum rationals plain_cmp } → Belongs s f
 zero_belongs s o f h e = subst (Belongs s) (sym e) (record { order = h; variables = of_none rationals s })
 
 module _ (s : Signature) (f g : Ordered) (m : Monomial) (k : Fraction) (b : Belongs s f) (l : MonomialOf s m) (o : g.by ≡ f.by) where
