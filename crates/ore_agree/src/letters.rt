@@ -2,7 +2,8 @@
 
 ghost use Rattle.std.specs.Prelude.{◌≡◌, ◌<◌, length};
 
-use crate::operators::{commuting, gives, mixed, powers, unshifted};
+use crate::operators::{commuting, mixed, unshifted};
+use crate::products::gives;
 use ore_commutative::CommutativeRing;
 use ore_mixed::MixedRing;
 use ore_monomial::{Order, VarKind};
@@ -10,6 +11,21 @@ use ore_ring::OreRing;
 use ore_weyl::WeylRing;
 use std::alloc::Global;
 use std::test::Fail;
+
+// The exponents of the product of a power of one letter and a power of another.
+fn powers(first: usize, a: u16, second: usize, b: u16) -> [u16; 12]
+    requires first_index { first < 12 }
+    requires second_index { second < 12 }
+{
+    let mut values = [0; 12];
+    values[first] = a;
+    values[second] = if first == second {
+        a.saturating_add(b)
+    } else {
+        b
+    };
+    values
+}
 
 // Whether a variable acts on another.
 fn acts_on(kind: VarKind, variable: usize) -> bool {
@@ -28,7 +44,7 @@ fn powers_commute<R: OreRing>(
     first: usize,
     second: usize,
 ) -> Result<bool, Fail>
-    requires twelve { length (R.signature_of ring.now).kinds ≡ 12 }
+    requires twelve { length (R.sig ring.now).kinds ≡ 12 }
     requires first_index { first < 12 }
     requires second_index { second < 12 }
 {
@@ -55,7 +71,7 @@ fn powers_commute<R: OreRing>(
 
 // Whether a letter commutes with all letters on its right on which it doesn't act.
 fn letter_commutes<R: OreRing>(ring: &R, alloc: Global, letter: usize) -> Result<bool, Fail>
-    requires twelve { length (R.signature_of ring.now).kinds ≡ 12 }
+    requires twelve { length (R.sig ring.now).kinds ≡ 12 }
     requires letter_index { letter < 12 }
 {
     let kind = ring.signature().kind(letter);
@@ -69,7 +85,7 @@ fn letter_commutes<R: OreRing>(ring: &R, alloc: Global, letter: usize) -> Result
 
 // Whether each letter does.
 fn letters_commute<R: OreRing>(ring: &R, alloc: Global) -> Result<bool, Fail>
-    requires { length (R.signature_of ring.now).kinds ≡ 12 }
+    requires { length (R.sig ring.now).kinds ≡ 12 }
 {
     for letter in 0..12 {
         if !letter_commutes(ring, alloc, letter)? {
@@ -179,7 +195,7 @@ fn passes<R: OreRing>(
     spent: u16,
     table: &[Passing],
 ) -> Result<bool, Fail>
-    requires twelve { length (R.signature_of ring.now).kinds ≡ 12 }
+    requires twelve { length (R.sig ring.now).kinds ≡ 12 }
     requires letter_index { letter < 12 }
     requires coordinate_index { coordinate < 12 }
 {

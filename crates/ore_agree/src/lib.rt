@@ -1,4 +1,4 @@
-//! Tests that cross crates: each ring of operators on one table, and the calls on rows over a ring.
+//! Tests of rings, which run each ring of operators on one table; signatures and operators for tests.
 //!
 //! The rings `CommutativeRing`, `WeylRing` and `MixedRing` have products of monomials of their own. Where
 //! a signature has more than one of them, their contracts promise the same answers, and the tests here run
@@ -12,34 +12,17 @@
 //! - a shift `s` by `h` gives `s^c t^a = (t + c h)^a s^c`, and a delay by `h` the same with `-h`;
 //! - products of letters on two coordinates, and of several letters on one, are written out.
 //!
-//! `rows` has one value for each call of `ore_rows`, at `MixedRing`, `adjoint` two for the transposed adjoint, and
-//! `division` one for lead reduction.
-//! `expressions` has values and faults of texts that `ore_expr` reads. `pairs` has the calls of `ore_pairs`, and `runs`
-//! has runs with the live chooser of `ore_report`, one or two in each kind of algebra, two whose budget is spent, and a
-//! pair that is skipped; their rows are given as texts.
+//! `polynomials` has one value for each call of a ring, and a degree that is looked at before a number.
 //!
-//! The crate has nothing but tests, and promises nothing. It stands on the rings, on `ore_report`, `ore_groebner`,
-//! `ore_pairs`, `ore_division`, `ore_adjoint`, `ore_rows` and `ore_expr`, and on `ore_ring`, `ore_monomial`,
-//! `ore_rational` and `ore_algebra` for operators and signatures.
+//! `operators` is what the tests here and in `ore_row_tests` and `ore_run_tests` have in common: signatures of the same
+//! twelve letters, and operators over them. It stands on `ore_ring`, `ore_monomial`, `ore_rational` and `ore_algebra`,
+//! and the tests on the three rings too.
 #![tactic(auto)]
 
 #[cfg(test)]
-mod adjoint;
-#[cfg(test)]
-mod division;
-#[cfg(test)]
-mod expressions;
-#[cfg(test)]
 mod letters;
+pub mod operators;
 #[cfg(test)]
-mod operators;
-#[cfg(test)]
-mod pairs;
+mod polynomials;
 #[cfg(test)]
 mod products;
-#[cfg(test)]
-mod rows;
-#[cfg(test)]
-mod runs;
-#[cfg(test)]
-mod texts;

@@ -1,11 +1,11 @@
 //! Signatures of twelve variables, and operators over them.
 
-ghost use Rattle.std.specs.Prelude.{◌≡◌, ◌<◌, IfOk, length};
+ghost use Rattle.std.specs.Prelude.{◌≡◌, IfOk, length};
 ghost use Rattle.ore_ring.specs.Belongs.{Belongs};
 
 use ore_monomial::{Exps, Order, Signature, SignatureFault, VarKind};
 use ore_rational::Rational;
-use ore_ring::{Op, OreRing};
+use ore_ring::Op;
 use std::alloc::Global;
 use std::test::Fail;
 
@@ -13,7 +13,7 @@ use std::test::Fail;
 ///
 /// The coordinates are t and u, the constants b and c, and p and q commute with all. On t act d, the
 /// shift s by 2 and the delay l by 3; on u act e, the shift v by 1 and the delay w by 1.
-pub(crate) type Term = (i128, [u16; 12]);
+pub type Term = (i128, [u16; 12]);
 
 const T: VarKind = VarKind::Coordinate;
 
@@ -26,21 +26,21 @@ const D: VarKind = VarKind::Differential { on: 0 };
 const E: VarKind = VarKind::Differential { on: 1 };
 
 /// Letters that commute stand for all that act.
-pub(crate) fn commuting(order: Order) -> Result<Signature, SignatureFault>
+pub fn commuting(order: Order) -> Result<Signature, SignatureFault>
     ensures { IfOk result (λ s. length s.kinds ≡ 12) }
 {
     Signature::new(&[T, T, C, C, P, P, P, P, P, P, P, P], order)
 }
 
 /// Letters that commute stand for the shifts and delays.
-pub(crate) fn unshifted(order: Order) -> Result<Signature, SignatureFault>
+pub fn unshifted(order: Order) -> Result<Signature, SignatureFault>
     ensures { IfOk result (λ s. length s.kinds ≡ 12) }
 {
     Signature::new(&[T, T, C, C, P, P, D, E, P, P, P, P], order)
 }
 
 /// All letters are as they are named.
-pub(crate) fn mixed(order: Order) -> Result<Signature, SignatureFault>
+pub fn mixed(order: Order) -> Result<Signature, SignatureFault>
     ensures { IfOk result (λ s. length s.kinds ≡ 12) }
 {
     let mut kinds = [T, T, C, C, P, P, D, E, P, P, P, P];
@@ -51,23 +51,8 @@ pub(crate) fn mixed(order: Order) -> Result<Signature, SignatureFault>
     Signature::new(&kinds, order)
 }
 
-/// The exponents of the product of a power of one letter and a power of another.
-pub(crate) fn powers(first: usize, a: u16, second: usize, b: u16) -> [u16; 12]
-    requires first_index { first < 12 }
-    requires second_index { second < 12 }
-{
-    let mut values = [0; 12];
-    values[first] = a;
-    values[second] = if first == second {
-        a.saturating_add(b)
-    } else {
-        b
-    };
-    values
-}
-
 /// The sum of some terms.
-pub(crate) fn operator(signature: &Signature, alloc: Global, terms: &[Term]) -> Result<Op, Fail>
+pub fn operator(signature: &Signature, alloc: Global, terms: &[Term]) -> Result<Op, Fail>
     requires { length signature.now.kinds ≡ 12 }
     ensures { IfOk result (Belongs signature.now) }
 {
@@ -76,35 +61,4 @@ pub(crate) fn operator(signature: &Signature, alloc: Global, terms: &[Term]) -> 
         made.add_term(Exps::from_list(exponents)?, Rational::new(*number, 1)?)?;
     }
     Ok(made)
-}
-
-/// Whether a ring gives this product.
-pub(crate) fn gives<R: OreRing>(
-    ring: &R,
-    alloc: Global,
-    left: &[Term],
-    right: &[Term],
-    product: &[Term],
-) -> Result<bool, Fail>
-    requires { length (R.signature_of ring.now).kinds ≡ 12 }
-{
-    let signature = ring.signature();
-    let f = operator(signature, alloc, left)?;
-    let g = operator(signature, alloc, right)?;
-    let expected = operator(signature, alloc, product)?;
-    Ok(ring.mul(alloc, &f, &g)?.equal(&expected))
-}
-
-// The power of t.
-fn power_of_t(exponent: u16) -> Result<Exps, Fail> {
-    Ok(Exps::from_list(&[exponent, 0, 0, 0, 0, 0, 0, 0, 0, 0, 0, 0])?)
-}
-
-#[test]
-fn a_term_is_appended(rt: HostRuntime) -> Result<(), Fail> {
-    let mut op = Op::zero(rt.alloc(), Order::DegRevLex);
-    op.push(power_of_t(3)?, Rational::one())?;
-    assert_eq!(rt; op.len(), 1);
-    assert!(rt; op.get(0) == Some((power_of_t(3)?, Rational::one())));
-    Ok(())
 }

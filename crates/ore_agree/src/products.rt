@@ -2,7 +2,7 @@
 
 ghost use Rattle.std.specs.Prelude.{◌≡◌, length};
 
-use crate::operators::{gives, mixed, unshifted};
+use crate::operators::{Term, mixed, operator, unshifted};
 use ore_mixed::MixedRing;
 use ore_monomial::Order;
 use ore_ring::OreRing;
@@ -10,9 +10,26 @@ use ore_weyl::WeylRing;
 use std::alloc::Global;
 use std::test::Fail;
 
+/// Whether a ring gives this product.
+pub(crate) fn gives<R: OreRing>(
+    ring: &R,
+    alloc: Global,
+    left: &[Term],
+    right: &[Term],
+    product: &[Term],
+) -> Result<bool, Fail>
+    requires { length (R.sig ring.now).kinds ≡ 12 }
+{
+    let signature = ring.signature();
+    let f = operator(signature, alloc, left)?;
+    let g = operator(signature, alloc, right)?;
+    let expected = operator(signature, alloc, product)?;
+    Ok(ring.mul(alloc, &f, &g)?.equal(&expected))
+}
+
 // Whether products of differential operators and coordinates are as written.
 fn differentials_agree<R: OreRing>(ring: &R, alloc: Global) -> Result<bool, Fail>
-    requires { length (R.signature_of ring.now).kinds ≡ 12 }
+    requires { length (R.sig ring.now).kinds ≡ 12 }
 {
     for (left, right, product) in [
         // d e by t u
@@ -47,7 +64,7 @@ fn differentials_agree<R: OreRing>(ring: &R, alloc: Global) -> Result<bool, Fail
 
 // Whether products with shifts and delays are as written.
 fn shifts_agree<R: OreRing>(ring: &R, alloc: Global) -> Result<bool, Fail>
-    requires { length (R.signature_of ring.now).kinds ≡ 12 }
+    requires { length (R.sig ring.now).kinds ≡ 12 }
 {
     for (left, right, product) in [
         // s v by t u, which is (t + 2) (u + 1) s v

@@ -1,7 +1,6 @@
 //! Canonical texts of operators in a coordinate t and a differential operator d.
 
 ghost use Rattle.std.specs.Prelude.{◌≡◌, length, IfOk};
-ghost use Rattle.ore_text.specs.Names.{AreNames};
 
 use ore_monomial::{Exps, Order, Signature, VarKind};
 use ore_rational::Rational;
@@ -17,8 +16,7 @@ fn two_variables() -> Result<Signature, Fail>
 }
 
 fn two_names(alloc: Global) -> Result<Names, Fail>
-    ensures form { IfOk result (λ names. AreNames names) }
-    ensures count { IfOk result (λ names. length names ≡ 2) }
+    ensures { IfOk result (λ names. length names ≡ 2) }
 {
     let mut names = Names::new(alloc);
     names.add(b"t")?;

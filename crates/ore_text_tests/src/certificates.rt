@@ -1,7 +1,6 @@
 //! Texts of certificates and of their parts, read and printed. There are no variables, so the operators are numbers.
 
 ghost use Rattle.std.specs.Prelude.{◌≡◌, length};
-ghost use Rattle.ore_text.specs.Names.{AreNames};
 ghost use Rattle.ore_cert.specs.CertificateOf.{IsCertificateOf};
 
 use ore_cert::{
@@ -56,7 +55,6 @@ fn is_printed_again(
     names: &Names,
     text: &[u8],
 ) -> Result<bool, Fail>
-    requires names { AreNames names.now }
     requires count { length names.now ≡ length sig.now.kinds }
 {
     match read_certificate(alloc, sig, names, text) {

@@ -2,14 +2,12 @@
 
 ghost use Rattle.std.specs.Prelude.{◌≡◌, ◌<◌, ◌^◌, IfOk, length};
 ghost use Rattle.std.specs.List.{All};
-ghost use Rattle.ore_rational.proofs.FractionLaws.{rationals};
 ghost use Rattle.ore_ring.specs.Belongs.{Belongs};
-ghost use Rattle.ore_rows.specs.Reduction.{AreMonic};
-ghost use Rattle.ore_rows.specs.StoredBasis.{AllBelong, monics};
+ghost use Rattle.ore_rows.specs.StoredBasis.{AllBelong};
 
-use crate::division::add;
 use ore_expr::read_operator;
 use ore_ring::OreRing;
+use ore_row_tests::bases::add;
 use ore_rows::{Basis, Matrix, Row};
 use ore_text::Names;
 use std::alloc::Global;
@@ -23,8 +21,8 @@ pub(crate) fn row_from<R: OreRing>(
     cols: usize,
     text: &str,
 ) -> Result<Row, Fail>
-    requires { length names.now ≡ length (R.signature_of ring.now).kinds }
-    ensures of { IfOk result (All (Belongs (R.signature_of ring.now))) }
+    requires { length names.now ≡ length (R.sig ring.now).kinds }
+    ensures of { IfOk result (All (Belongs (R.sig ring.now))) }
     ensures wide { IfOk result (λ r. length r ≡ cols) }
 {
     let mut entries = Vec::new(alloc);
@@ -48,9 +46,9 @@ pub(crate) fn matrix_from<R: OreRing>(
     cols: usize,
     text: &str,
 ) -> Result<Matrix, Fail>
-    requires names { length names.now ≡ length (R.signature_of ring.now).kinds }
+    requires names { length names.now ≡ length (R.sig ring.now).kinds }
     requires few { cols < 2 ^ 63 }
-    ensures of { IfOk result (λ m. All (All (Belongs (R.signature_of ring.now))) m.rows) }
+    ensures of { IfOk result (λ m. All (All (Belongs (R.sig ring.now))) m.rows) }
     ensures cols { IfOk result (λ m. m.cols ≡ cols) }
 {
     let mut rows = Vec::new(alloc);
@@ -68,7 +66,7 @@ pub(crate) fn row_is<R: OreRing>(
     row: &Row,
     text: &str,
 ) -> Result<bool, Fail>
-    requires { length names.now ≡ length (R.signature_of ring.now).kinds }
+    requires { length names.now ≡ length (R.sig ring.now).kinds }
 {
     let expected = row_from(ring, alloc, names, row.len(), text)?;
     for k in 0..row.len() {
@@ -87,7 +85,7 @@ pub(crate) fn rows_are<R: OreRing>(
     m: &Matrix,
     text: &str,
 ) -> Result<bool, Fail>
-    requires { length names.now ≡ length (R.signature_of ring.now).kinds }
+    requires { length names.now ≡ length (R.sig ring.now).kinds }
 {
     let mut count = 0;
     for line in text.split(';') {
@@ -111,7 +109,7 @@ pub(crate) fn basis_is<R: OreRing>(
     rows: &str,
     cofactors: &str,
 ) -> Result<bool, Fail>
-    requires { length names.now ≡ length (R.signature_of ring.now).kinds }
+    requires { length names.now ≡ length (R.sig ring.now).kinds }
 {
     let mut count = 0;
     for (row, cofactor) in rows.split(';').zip(cofactors.split(';')) {
@@ -138,9 +136,8 @@ pub(crate) fn basis_from<R: OreRing>(
     rows: &str,
     cofactors: &str,
 ) -> Result<Basis, Fail>
-    requires { length names.now ≡ length (R.signature_of ring.now).kinds }
-    ensures of { IfOk result (λ b. AllBelong (R.signature_of ring.now) b.items) }
-    ensures monic { IfOk result (λ b. AreMonic rationals (R.signature_of ring.now).order (monics b)) }
+    requires { length names.now ≡ length (R.sig ring.now).kinds }
+    ensures of { IfOk result (λ b. AllBelong (R.sig ring.now) b.items) }
 {
     let signature = ring.signature();
     let mut basis = Basis::new(alloc, 1, width);

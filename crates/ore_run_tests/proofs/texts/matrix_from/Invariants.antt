@@ -1,10 +1,10 @@
 use Rattle.std.specs.List.{All}
 use Rattle.ore_ring.specs.Belongs.{Belongs}
 use Rattle.ore_rows.specs.Stored.{HasColumns}
-use Rattle.ore_agree.proofs.texts.matrix_from.Given as goal
+use Rattle.ore_run_tests.proofs.texts.matrix_from.Given as goal
 
 abbrev pub invariant-loop-line : goal.invariant-loop-line
 invariant-loop-line g l = record {
-  of : All (All (Belongs (g.R.OreRing.signature_of l.ring))) l.rows.items;
+  of : All (All (Belongs (g.R.OreRing.sig l.ring))) l.rows.items;
   wide : HasColumns l.cols l.rows.items;
 }

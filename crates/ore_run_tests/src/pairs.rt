@@ -1,25 +1,27 @@
 //! Pairs of basis rows, over a ring that has all kinds of letters.
 
 ghost use Rattle.std.specs.Prelude.{◌≡◌, ◌<◌, IfOk, length};
-ghost use Rattle.ore_rows.specs.Reduction.{lead_at};
+ghost use Rattle.ore_rows.specs.Reduction.{basis_lead};
+ghost use Rattle.ore_rows.specs.StoredBasis.{AllBelong};
 
-use crate::expressions::letters;
-use crate::operators::mixed;
 use crate::texts::{basis_from, row_is};
+use ore_agree::operators::mixed;
 use ore_groebner::entries::entry_row;
 use ore_mixed::MixedRing;
 use ore_monomial::{Exps, Order};
 use ore_pairs::{Listed, common, may_skip, s_row};
 use ore_rational::Rational;
 use ore_ring::OreRing;
+use ore_row_tests::names::letters;
 use ore_rows::Basis;
+use ore_text::Names;
 use std::alloc::Global;
 use std::test::Fail;
 
 // The first two rows have equal lead columns.
 fn check_columns(basis: &Basis) -> Result<(), Fail>
     ensures second { IfOk result (λ _. 1 < length basis.now.items) }
-    ensures columns { IfOk result (λ _. (lead_at basis.now.items 0).column ≡ (lead_at basis.now.items 1).column) }
+    ensures columns { IfOk result (λ _. (basis_lead basis.now.items 0).column ≡ (basis_lead basis.now.items 1).column) }
 {
     if basis.len() < 2 {
         return Err(Fail::new("there is no second row"));
@@ -32,28 +34,44 @@ fn check_columns(basis: &Basis) -> Result<(), Fail>
     Ok(())
 }
 
+// Whether the common multiple of d and t is t d.
+fn has_common(basis: &Basis) -> Result<bool, Fail>
+    requires rows { 1 < length basis.now.items }
+    requires columns { (basis_lead basis.now.items 0).column ≡ (basis_lead basis.now.items 1).column }
+{
+    let t_d = Exps::from_list(&[1, 0, 0, 0, 0, 0, 1, 0, 0, 0, 0, 0])?;
+    Ok(common(basis, 0, 1)? == t_d)
+}
+
+// Whether t d - d t = -1.
+fn combines<R: OreRing>(ring: &R, alloc: Global, names: &Names, basis: &Basis) -> Result<bool, Fail>
+    requires names { length names.now ≡ length (R.sig ring.now).kinds }
+    requires of { AllBelong (R.sig ring.now) basis.now.items }
+    requires rows { 1 < length basis.now.items }
+    requires columns { (basis_lead basis.now.items 0).column ≡ (basis_lead basis.now.items 1).column }
+{
+    let (row, cofactor) = s_row(ring, alloc, basis, 0, 1)?;
+    if !row_is(ring, alloc, names, &row, "-1")? {
+        return Ok(false);
+    }
+    row_is(ring, alloc, names, &cofactor, "t,-d")
+}
+
 #[test]
 fn a_combination(rt: HostRuntime) -> Result<(), Fail> {
     let ring = MixedRing::new(mixed(Order::DegRevLex)?);
     let names = letters(rt.alloc())?;
-    if names.len() != 12 {
-        return Err(Fail::new("a letter is missing"));
-    }
     let basis = basis_from(&ring, rt.alloc(), &names, 2, "d;t", "1,0;0,1")?;
     check_columns(&basis)?;
-    let t_d = Exps::from_list(&[1, 0, 0, 0, 0, 0, 1, 0, 0, 0, 0, 0])?;
-    assert_eq!(rt; common(&basis, 0, 1)?, t_d);
-    // t d - d t = -1
-    let (row, cofactor) = s_row(&ring, rt.alloc(), &basis, 0, 1)?;
-    assert!(rt; row_is(&ring, rt.alloc(), &names, &row, "-1")?);
-    assert!(rt; row_is(&ring, rt.alloc(), &names, &cofactor, "t,-d")?);
+    assert!(rt; has_common(&basis)?);
+    assert!(rt; combines(&ring, rt.alloc(), &names, &basis)?);
     Ok(())
 }
 
 // Whether the pair of the first two rows may be skipped by way of the third just where both its pairs are listed.
 fn skips_by_third(alloc: Global, basis: &Basis) -> Result<bool, Fail>
     requires rows { 1 < length basis.now.items }
-    requires columns { (lead_at basis.now.items 0).column ≡ (lead_at basis.now.items 1).column }
+    requires columns { (basis_lead basis.now.items 0).column ≡ (basis_lead basis.now.items 1).column }
 {
     let mut listed = Listed::new(alloc);
     listed.add(0, 2)?;
@@ -67,7 +85,7 @@ fn skips_by_third(alloc: Global, basis: &Basis) -> Result<bool, Fail>
 // fourth are listed.
 fn skips_by_others(alloc: Global, basis: &Basis) -> Result<bool, Fail>
     requires rows { 1 < length basis.now.items }
-    requires columns { (lead_at basis.now.items 0).column ≡ (lead_at basis.now.items 1).column }
+    requires columns { (basis_lead basis.now.items 0).column ≡ (basis_lead basis.now.items 1).column }
 {
     let mut listed = Listed::new(alloc);
     listed.add(0, 2)?;
@@ -96,9 +114,6 @@ fn listed_pairs(rt: HostRuntime) -> Result<(), Fail> {
 fn skipped_pairs(rt: HostRuntime) -> Result<(), Fail> {
     let ring = MixedRing::new(mixed(Order::DegRevLex)?);
     let names = letters(rt.alloc())?;
-    if names.len() != 12 {
-        return Err(Fail::new("a letter is missing"));
-    }
     // t u divides the common multiple of t and u, and b doesn't
     let basis = basis_from(&ring, rt.alloc(), &names, 1, "t;u;t*u;b", "0;0;0;0")?;
     check_columns(&basis)?;
@@ -111,13 +126,8 @@ fn skipped_pairs(rt: HostRuntime) -> Result<(), Fail> {
 fn a_row_with_one_fraction(rt: HostRuntime) -> Result<(), Fail> {
     let ring = MixedRing::new(mixed(Order::DegRevLex)?);
     let names = letters(rt.alloc())?;
-    if names.len() != 12 {
-        return Err(Fail::new("a letter is missing"));
-    }
     let half = Rational::new(1, 2)?;
-    for (place, text) in [(0, "1/2,0,0"), (2, "0,0,1/2"), (3, "0,0,0")] {
-        let row = entry_row(rt.alloc(), OreRing::signature(&ring), 3, place, half)?;
-        assert!(rt; row_is(&ring, rt.alloc(), &names, &row, text)?);
-    }
+    let row = entry_row(rt.alloc(), OreRing::signature(&ring), 3, 2, half)?;
+    assert!(rt; row_is(&ring, rt.alloc(), &names, &row, "0,0,1/2")?);
     Ok(())
 }

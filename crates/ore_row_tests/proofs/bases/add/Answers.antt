@@ -2,12 +2,11 @@ use Rattle.std.proofs.Common.{◌≡◌, Bool, true, false, refl, sym, ◌∙◌
 use Rattle.std.specs.Prelude.{not}
 use Rattle.ore_rational.proofs.FractionLaws.{rationals}
 use Rattle.ore_rational.proofs.Stored.{Decides-fraction_eq}
-use Rattle.ore_rows.specs.Reduction.{AreMonic}
 use Rattle.ore_rows.specs.RowLead.{IsRowLead}
 use Rattle.ore_rows.specs.Stored.{sums_of}
-use Rattle.ore_rows.specs.StoredBasis.{AllBelong, monics}
-use Rattle.ore_rows.proofs.StoredBases.{are_monic-push, all_belong-push}
-use Rattle.ore_agree.proofs.division.add.Goals as goal
+use Rattle.ore_rows.specs.StoredBasis.{AllBelong}
+use Rattle.ore_rows.proofs.StoredBases.{all_belong-push}
+use Rattle.ore_row_tests.proofs.bases.add.Goals as goal
 
 not_false : (b : Bool) → false ≡ not b → b ≡ true
 not_false true e = refl
@@ -22,8 +21,3 @@ pub returns-clause-of : goal.returns-clause-of
 returns-clause-of c =
     subst (λ b. AllBelong c.args.signature.now b.items) (sym c.in_ok-push.ensures.pushed.2)
     (all_belong-push c.args.signature.now c.args.basis.now (record { row = c.args.row; cofactor = c.args.cofactor; lead = c.in_ok-push.ensures.pushed.0 }) c.requires.of c.requires.row_of c.requires.cofactor_of)
-
-pub returns-clause-monic : goal.returns-clause-monic
-returns-clause-monic c =
-    subst (λ b. AreMonic rationals c.args.signature.now.order (monics b)) (sym c.in_ok-push.ensures.pushed.2)
-    (are_monic-push c.args.signature.now.order c.args.basis.now (record { row = c.args.row; cofactor = c.args.cofactor; lead = c.in_ok-push.ensures.pushed.0 }) c.requires.monic c.in_ok-push.ensures.pushed.1)
