@@ -68,32 +68,31 @@ fn a_combination(rt: HostRuntime) -> Result<(), Fail> {
     Ok(())
 }
 
-// Whether the pair of the first two rows may be skipped by way of the third just where both its pairs are listed.
-fn skips_by_third(alloc: Global, basis: &Basis) -> Result<bool, Fail>
-    requires rows { 1 < length basis.now.items }
-    requires columns { (basis_lead basis.now.items 0).column ≡ (basis_lead basis.now.items 1).column }
-{
+// The list of these pairs.
+fn listed_of(alloc: Global, pairs: &[(usize, usize)]) -> Result<Listed, Fail> {
     let mut listed = Listed::new(alloc);
-    listed.add(0, 2)?;
-    listed.add(2, 3)?;
-    let early = may_skip(basis, &listed, 0, 1, 2);
-    listed.add(1, 2)?;
-    Ok(!early && may_skip(basis, &listed, 0, 1, 2))
+    for (i, j) in pairs {
+        if i >= j {
+            return Err(Fail::new("a pair isn't in order"));
+        }
+        listed.add(*i, *j)?;
+    }
+    Ok(listed)
 }
 
-// Whether it may be skipped by way of one of both, of the fourth, or of none, where their pairs with the third and the
-// fourth are listed.
-fn skips_by_others(alloc: Global, basis: &Basis) -> Result<bool, Fail>
+// Whether the pair of the first two rows may be skipped by way of one of these, where some pairs are listed.
+fn may_skip_by(
+    basis: &Basis,
+    alloc: Global,
+    pairs: &[(usize, usize)],
+    ways: &[usize],
+) -> Result<bool, Fail>
     requires rows { 1 < length basis.now.items }
     requires columns { (basis_lead basis.now.items 0).column ≡ (basis_lead basis.now.items 1).column }
 {
-    let mut listed = Listed::new(alloc);
-    listed.add(0, 2)?;
-    listed.add(1, 2)?;
-    listed.add(0, 3)?;
-    listed.add(1, 3)?;
-    for via in [0, 1, 3, 9] {
-        if may_skip(basis, &listed, 0, 1, via) {
+    let listed = listed_of(alloc, pairs)?;
+    for via in ways {
+        if may_skip(basis, &listed, 0, 1, *via) {
             return Ok(true);
         }
     }
@@ -102,9 +101,7 @@ fn skips_by_others(alloc: Global, basis: &Basis) -> Result<bool, Fail>
 
 #[test]
 fn listed_pairs(rt: HostRuntime) -> Result<(), Fail> {
-    let mut listed = Listed::new(rt.alloc());
-    listed.add(0, 2)?;
-    listed.add(1, 3)?;
+    let listed = listed_of(rt.alloc(), &[(0, 2), (1, 3)])?;
     assert!(rt; listed.has(0, 2) && listed.has(1, 3));
     assert!(rt; !listed.has(0, 1) && !listed.has(0, 3));
     Ok(())
@@ -117,8 +114,11 @@ fn skipped_pairs(rt: HostRuntime) -> Result<(), Fail> {
     // t u divides the common multiple of t and u, and b doesn't
     let basis = basis_from(&ring, rt.alloc(), &names, 1, "t;u;t*u;b", "0;0;0;0")?;
     check_columns(&basis)?;
-    assert!(rt; skips_by_third(rt.alloc(), &basis)?);
-    assert!(rt; !skips_by_others(rt.alloc(), &basis)?);
+    assert!(rt; may_skip_by(&basis, rt.alloc(), &[(0, 2), (1, 2)], &[2])?);
+    assert!(rt; !may_skip_by(&basis, rt.alloc(), &[(0, 2), (2, 3)], &[2])?);
+    // by way of one of both, of the fourth, or of none
+    let all = [(0, 2), (1, 2), (0, 3), (1, 3)];
+    assert!(rt; !may_skip_by(&basis, rt.alloc(), &all, &[0, 1, 3, 9])?);
     Ok(())
 }
 

@@ -59,15 +59,6 @@ fn treated<R: OreRing>(
     }
 }
 
-// The pair of the first two rows is treated, and then those of each with the third.
-fn three_treated<R: OreRing>(ring: &R, alloc: Global, a: &Matrix) -> Result<Progress, Fail>
-    requires { All (All (Belongs (R.sig ring.now))) a.now.rows }
-{
-    let one = treated(ring, alloc, begin(ring, alloc, a)?, 0, 1)?;
-    let two = treated(ring, alloc, one, 0, 2)?;
-    treated(ring, alloc, two, 1, 2)
-}
-
 // Whether there are two syzygies, each the row of a text, the first from the second event and the other from the third.
 fn come_from_two<R: OreRing>(
     ring: &R,
@@ -87,6 +78,23 @@ fn come_from_two<R: OreRing>(
         }
     }
     Ok(progress.origins[0] == Origin::Event(1) && progress.origins[1] == Origin::Event(2))
+}
+
+// Whether they come so where the pair of the first two rows is treated, and then those of each with the third.
+fn makes_two<R: OreRing>(
+    ring: &R,
+    alloc: Global,
+    names: &Names,
+    rows: &str,
+    text: &str,
+) -> Result<bool, Fail>
+    requires { length names.now ≡ length (R.sig ring.now).kinds }
+{
+    let a = matrix_from(ring, alloc, names, 1, rows)?;
+    let one = treated(ring, alloc, begin(ring, alloc, &a)?, 0, 1)?;
+    let two = treated(ring, alloc, one, 0, 2)?;
+    let three = treated(ring, alloc, two, 1, 2)?;
+    come_from_two(ring, alloc, names, &three, text)
 }
 
 // Whether a skip of the first two rows by way of the third lists their pair, and is noted.
@@ -124,9 +132,8 @@ fn a_skipped_pair(rt: HostRuntime) -> Result<(), Fail> {
 fn two_equal_syzygies(rt: HostRuntime) -> Result<(), Fail> {
     let ring = CommutativeRing::new(commuting(Order::DegRevLex)?).expect(&rt, "all commute");
     let names = letters(rt.alloc())?;
-    let a = matrix_from(&ring, rt.alloc(), &names, 1, "p*q + p;q*d")?;
     // d (p q + p) - p q d = p d is new; d (p q + p) - q p d - p d and p q d - q p d are zero
-    let progress = three_treated(&ring, rt.alloc(), &a)?;
-    assert!(rt; come_from_two(&ring, rt.alloc(), &names, &progress, "-q*d,p*q + p")?);
+    let rows = "p*q + p;q*d";
+    assert!(rt; makes_two(&ring, rt.alloc(), &names, rows, "-q*d,p*q + p")?);
     Ok(())
 }

@@ -6,7 +6,7 @@ ghost use Rattle.ore_ring.specs.Belongs.{Belongs};
 ghost use Rattle.ore_rows.specs.StoredBasis.{AllBelong};
 
 use ore_expr::read_operator;
-use ore_ring::OreRing;
+use ore_ring::{Op, OreRing};
 use ore_row_tests::bases::add;
 use ore_rows::{Basis, Matrix, Row};
 use ore_text::Names;
@@ -58,6 +58,16 @@ pub(crate) fn matrix_from<R: OreRing>(
     Ok(Matrix::from_rows(cols, rows))
 }
 
+// Whether operators are equal, as far as there are others beside them.
+fn are_equal(operators: &[Op], others: &[Op]) -> bool {
+    for (operator, other) in operators.iter().zip(others) {
+        if !operator.equal(other) {
+            return false;
+        }
+    }
+    true
+}
+
 /// Whether a row is that of the text.
 pub(crate) fn row_is<R: OreRing>(
     ring: &R,
@@ -69,12 +79,7 @@ pub(crate) fn row_is<R: OreRing>(
     requires { length names.now ≡ length (R.sig ring.now).kinds }
 {
     let expected = row_from(ring, alloc, names, row.len(), text)?;
-    for k in 0..row.len() {
-        if !row.entry(k).equal(expected.entry(k)) {
-            return Ok(false);
-        }
-    }
-    Ok(true)
+    Ok(are_equal(row.entries(), expected.entries()))
 }
 
 /// Whether the rows of a matrix are those of the text.
