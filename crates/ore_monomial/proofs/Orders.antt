@@ -4,6 +4,7 @@
 --     product_above       a monomial is not greater than its product with another
 --     divisor_not_above   a divisor is not greater
 --     degree_decides, degrees_apart    a monomial of smaller degree is smaller
+--     exponents_decide, degrees_same   of two of the same degree the exponents decide
 --     upto_less, less_upto, upto_upto    of a total order: x not above y and y below z give x below z, and so on
 use Rattle.std.proofs.Common.{◌≡◌, ◌≢◌, ℕ, ◌<◌, false, reverse, refl, sym, ap, ◌∙◌, subst, true≢false, arith}
 use Rattle.std.specs.declared.cmp.Ordering.{Ordering}
@@ -42,6 +43,17 @@ then_decided Greater b n = refl
 pub degrees_apart : (o : Order) (m n : Monomial) → nat_cmp (degree m) (degree n) ≢ Equal → nat_cmp (degree m) (degree n) ≡ order_cmp o m n
 degrees_apart DegLex m n h = then_decided (nat_cmp (degree m) (degree n)) (plain_cmp m n) h
 degrees_apart DegRevLex m n h = then_decided (nat_cmp (degree m) (degree n)) (slice_cmp nat_cmp (reverse n.exponents) (reverse m.exponents)) h
+
+-- the order of two monomials of the same degree
+abbrev pub exponents_decide : Order → Monomial → Monomial → Ordering
+exponents_decide DegLex m n = slice_cmp nat_cmp m.exponents n.exponents
+exponents_decide DegRevLex m n = slice_cmp nat_cmp (reverse n.exponents) (reverse m.exponents)
+
+-- where the degrees are the same, the exponents decide
+pub degrees_same : (o : Order) (m n : Monomial) → nat_cmp (degree m) (degree n) ≡ Equal → exponents_decide o m n ≡ order_cmp o m n
+unfolding plain_cmp
+degrees_same DegLex m n e = ap (λ r. ordering_then r (plain_cmp m n)) (sym e)
+degrees_same DegRevLex m n e = ap (λ r. ordering_then r (slice_cmp nat_cmp (reverse n.exponents) (reverse m.exponents))) (sym e)
 
 pub unit_least : (o : Order) (m : Monomial) → is_gt (order_cmp o unit m) ≡ false
 unit_least o m = by (dec_lt (degree unit) (degree m))

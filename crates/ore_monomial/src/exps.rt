@@ -165,9 +165,20 @@ pub fn compare(order: Order, a: &Exps, b: &Exps) -> Ordering
     ensures { result ≡ order_cmp order a.now b.now }
 {
     match a.total.cmp(&b.total) {
-        Ordering::Equal => a.rank(order).cmp(&b.rank(order)),
+        Ordering::Equal => match order {
+            Order::DegLex => a.values.cmp(&b.values),
+            Order::DegRevLex => reversed(&b.values).cmp(&reversed(&a.values)),
+        },
         other => other,
     }
+}
+
+// The numbers from the last one on.
+fn reversed(a: &[u16; 12]) -> [u16; 12]
+    ensures { result ≡ reverse a.now }
+{
+    let [a0, a1, a2, a3, a4, a5, a6, a7, a8, a9, a10, a11] = *a;
+    [a11, a10, a9, a8, a7, a6, a5, a4, a3, a2, a1, a0]
 }
 
 // The sums of the numbers at each place.
