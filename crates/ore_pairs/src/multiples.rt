@@ -19,7 +19,7 @@ use ore_leads::Leads;
 use ore_monomial::{DegreePassed, Exps, RingStop};
 use ore_rational::Rational;
 use ore_ring::{Op, OreRing};
-use ore_rows::{Row, row_take, scale};
+use ore_rows::{Row, row_less, scale};
 use std::alloc::Global;
 
 /// The least common multiple of the leads at two places.
@@ -89,7 +89,7 @@ fn multiplier<R: OreRing>(
 }
 
 // The first multiple of a row less the second multiple of another.
-#[tactic(auto, unfolding(crate::specs::Steps::multiples_less))]
+#[tactic(auto, unfolding(crate::specs::Steps::multiples_less, ore_rows::specs::Reduction::less_multiple))]
 fn multiples_less<R: OreRing>(
     ring: &R,
     alloc: Global,
@@ -108,6 +108,5 @@ fn multiples_less<R: OreRing>(
     ensures width { IfOk result (λ r. length r ≡ length row.now) }
 {
     let multiple = scale(ring, alloc, first, row)?;
-    let taken = scale(ring, alloc, second, other)?;
-    row_take(ring, alloc, multiple, &taken)
+    row_less(ring, alloc, multiple, second, other)
 }
