@@ -134,7 +134,7 @@ fn parse_parts(
     ensures of { IfOk result (λ ps. All (λ p. All (IsOf (length names.now)) p.items) ps.items) }
     ensures wide { IfOk result (λ ps. length ps.items ≡ length parts.now) }
 {
-    let mut programs = Vec::new(alloc);
+    let mut programs = Vec::with_capacity(alloc, parts.len())?;
     for part in parts {
         programs.push(parse_part(alloc, names, line, part)?)?;
     }
@@ -177,7 +177,7 @@ fn evaluate_programs(
     ensures wide { IfOk result (λ es. length es.items ≡ length programs.now) }
 {
     let ring = MixedRing::new(signature.copy());
-    let mut entries = Vec::new(alloc);
+    let mut entries = Vec::with_capacity(alloc, programs.len())?;
     for instructions in programs {
         entries.push(evaluate_program(alloc, &ring, line, instructions)?)?;
     }

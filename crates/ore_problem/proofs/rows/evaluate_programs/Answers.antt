@@ -11,7 +11,7 @@ use Rattle.ore_problem.proofs.rows.evaluate_programs.Goals as goal
 
 pub returns-in_err-evaluate_program-clause-reads : goal.returns-in_err-evaluate_program-clause-reads
 returns-in_err-evaluate_program-clause-reads c =
-    let p = err_from_is_err_and c.from_residual.result c.from_residual.ensures.1 in
+    let p = err_from_is_err_and c.from_residual-in_err-evaluate_program.result c.from_residual-in_err-evaluate_program.ensures.1 in
     let same = ap (λ is. value_read c.args.line (value_of program c.new-ring.result is)) (c.deref.ensures.value ∙ ap (λ v. v.items) c.instructions-item.is) in
     rw (p.1, p.2) (fault_reads_like _ _ _ _
     (λ e h. sym (ap (λ s. evaluated s c.args.line (map (λ p. p.items) c.args.programs.now)) (c.new-ring.ensures ∙ c.copy.ensures))

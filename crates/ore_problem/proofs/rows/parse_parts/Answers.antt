@@ -8,7 +8,7 @@ use Rattle.ore_problem.proofs.rows.parse_parts.Goals as goal
 
 pub returns-in_err-parse_part-clause-reads : goal.returns-in_err-parse_part-clause-reads
 returns-in_err-parse_part-clause-reads c =
-    let p = err_from_is_err_and c.from_residual.result c.from_residual.ensures.1 in
+    let p = err_from_is_err_and c.from_residual-in_err-parse_part.result c.from_residual-in_err-parse_part.ensures.1 in
     rw (p.1, p.2) (fault_reads_like _ _ _ _
     (each_stops _ _ (reads_parsed c.args.names.now c.args.line) _ _ (λ w. w.now) c.args.parts.now c.loop-part.part-index c.loop-part.invariant.reads _ c.loop-part-test.true)
     c.in_err-parse_part.ensures.reads)
