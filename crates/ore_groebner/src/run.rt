@@ -12,7 +12,7 @@ ghost use Rattle.ore_pairs.specs.Runner.{run_within};
 ghost use Rattle.ore_groebner.specs.Choosing.{present, chosen_pairs, AreAfforded};
 ghost use Rattle.ore_groebner.specs.Courses.{last_of, FollowsTo, HaltsIn};
 ghost use Rattle.ore_groebner.specs.Following.{earlier, given_with, IsNext, IsNextAllowed, IsRefusal, IsRefusalAllowed, IsLed};
-ghost use Rattle.ore_groebner.specs.Honest.{AreAllowed, HasOneMoreRun, HasRunsAfter, IsHonest, IsHalted, MayBeSpent};
+ghost use Rattle.ore_groebner.specs.Honest.{AreAllowed, IsHonest, IsHalted, MayBeSpent};
 ghost use Rattle.ore_groebner.specs.Shown.{shown_of, IsGrownFrom};
 ghost use Rattle.ore_groebner.specs.declared.outcome.Halt.TheVariants.{Spent};
 
@@ -41,14 +41,8 @@ pub fn run<R: OreRing, C: Chooser>(
 ) -> Result<Finished, Halt>
     requires { All (All (Belongs (R.sig ring.now))) a.now.rows }
     ensures honest { IfOk result (IsHonest (R.sig ring.now) a.now (present (C.given chooser.new))) }
-    ensures allowed { IfOk result (λ _. AreAllowed (R.sig ring.now) a.now C.allows (present (C.given chooser.new))) }
-    ensures given { IfOk result (λ _. HasOneMoreRun (C.given chooser.old) (C.given chooser.new)) }
     ensures answered { IfOk result (λ f. FollowsTo (R.sig ring.now) C.allows C.allows_spent (run_within program (R.sig ring.now) (rows_of a.now)) (C.given chooser.old) (C.given chooser.new) (last_of f)) }
-    ensures halted { IfErr result (IsHalted (R.sig ring.now) a.now (C.given chooser.new) (C.settings chooser.new)) }
     ensures halts { IfErr result (HaltsIn (R.sig ring.now) C.allows C.allows_spent (run_within program (R.sig ring.now) (rows_of a.now)) (C.given chooser.old) (C.given chooser.new) (C.settings chooser.new)) }
-    ensures halted_given { IfErr result (HasRunsAfter (C.given chooser.old) (C.given chooser.new)) }
-    ensures halted_allowed { IfErr result (λ _. HasOneMoreRun (C.given chooser.old) (C.given chooser.new) → AreAllowed (R.sig ring.now) a.now C.allows (present (C.given chooser.new))) }
-    ensures spent_allowed { IfErr result (λ halt. halt ≡ Spent → MayBeSpent (R.sig ring.now) a.now C.allows_spent (present (C.given chooser.new))) }
     ensures afforded { AreAfforded (C.given chooser.old) (C.settings chooser.old).budget → AreAfforded (C.given chooser.new) (C.settings chooser.new).budget }
     ensures settings { C.settings chooser.new ≡ C.settings chooser.old }
 {

@@ -1,5 +1,4 @@
 use Rattle.std.proofs.Common.{refl, sym, ap, ◌∙◌, subst, arith}
-use Rattle.std.proofs.Common.{inr}
 use Rattle.std.proofs.lemmas.Result.{err_from_is_err_and}
 use Rattle.std.specs.List.{All}
 use Rattle.ore_ring.specs.Belongs.{Belongs}
@@ -60,22 +59,6 @@ returns-clause-honest g c =
       from_of = subst (λ (m : OperatorMatrix). All (All (Belongs s)) m.rows) (sym f.from) (subst (λ (v : Signature). All (All (Belongs v)) c.in-Ok-from_matrix.from.rows) c.signature.ensures e.of);
     })
 
-pub returns-in_err-progress-clause-halted_given : goal.returns-in_err-progress-clause-halted_given
-returns-in_err-progress-clause-halted_given g c =
-    let s = g.R.OreRing.sig c.args.ring.now in
-    let p = c.in-Ok.progress in
-    let x = c.complete.new.chooser in
-    let given = g.C.Chooser.given x in
-    let more = one_more (g.C.Chooser.given c.args.chooser.now) given c.complete.ensures.begun (c.complete.ensures.earlier ∙ ap earlier c.in-Ok-start_run.ensures.begun) in
-    let e = err_from_is_err_and c.from_residual.result c.from_residual.ensures.1 in
-    rw (e.1, e.2) (runs_after s c.args.a.now g.C.Rule.allows p (g.C.Chooser.given c.args.chooser.now) given (state_of p) c.in-Ok.ensures.gives more (g.C.Chooser.settings x) _ c.in_err-progress.ensures.halted)
-
-pub returns-in_default-from_matrix-clause-halted_given : goal.returns-in_default-from_matrix-clause-halted_given
-returns-in_default-from_matrix-clause-halted_given g c = inr (one_more (g.C.Chooser.given c.args.chooser.now) (g.C.Chooser.given c.complete.new.chooser) c.complete.ensures.begun (c.complete.ensures.earlier ∙ ap earlier c.in-Ok-start_run.ensures.begun))
-
-pub returns-clause-given : goal.returns-clause-given
-returns-clause-given g c = one_more (g.C.Chooser.given c.args.chooser.now) (g.C.Chooser.given c.complete.new.chooser) c.complete.ensures.begun (c.complete.ensures.earlier ∙ ap earlier c.in-Ok-start_run.ensures.begun)
-
 pub returns-in_err-progress-clause-afforded : goal.returns-in_err-progress-clause-afforded
 returns-in_err-progress-clause-afforded g c h =
     let x = c.args.chooser.now in
@@ -127,4 +110,5 @@ returns-clause-answered g c =
     let led = c.in_ok-progress.ensures.led in
     let f = c.finished.ensures in
     run_answered s g.C.Rule.allows g.C.Rule.allows_spent c.args.a.now (g.C.Chooser.given c.args.chooser.now) (g.C.Chooser.given c.complete.new.chooser) p c.finished.result led c.in_ok-progress.ensures.listed
-    (last_led s p c.finished.result led.kept f.basis f.events (ap rows_of f.syzygies) f.origins) (returns-clause-given g c)
+    (last_led s p c.finished.result led.kept f.basis f.events (ap rows_of f.syzygies) f.origins)
+    (one_more (g.C.Chooser.given c.args.chooser.now) (g.C.Chooser.given c.complete.new.chooser) c.complete.ensures.begun (c.complete.ensures.earlier ∙ ap earlier c.in-Ok-start_run.ensures.begun))
