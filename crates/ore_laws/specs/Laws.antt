@@ -7,6 +7,8 @@
 --     HasNoZeroDivisor                           a product is zero only where a factor is
 --     AdjointIsAdditive, AdjointReversesProducts, AdjointIsInvolution    of the adjoint
 --     IsClosedUnderSums, IsClosedUnderProducts, IsClosedUnderAdjoints    no variable past the declared ones comes in
+--     HasCommonLeftMultiples, HasCommonRightMultiples    nonzero operators of the signature have a nonzero common
+--                                                multiple, by operators of the signature
 --     Matrix                                     a list of rows of operators
 --     AdjointOfMatrixProduct, AdjointOfMatrixTwice    of the transposed adjoint of matrices
 use Rattle.std.specs.Prelude.{◌≡◌, ◌≢◌, ◌⊎◌, ℕ, List, length}
@@ -101,6 +103,18 @@ module _ (s : Signature) where
 
   abbrev pub IsClosedUnderAdjoints : Type 0
   IsClosedUnderAdjoints = (f : Operator) → OperatorOf rationals s f → OperatorOf rationals s (adjoint f)
+
+  -- ---- common multiples of nonzero operators f and g of the signature (Ore 1933)
+
+  -- l f = m g for some nonzero operators l and m of the signature
+  abbrev pub HasCommonLeftMultiples : Type 0
+  HasCommonLeftMultiples = (f g : Operator) → OperatorOf rationals s f → OperatorOf rationals s g → f ≢ zero → g ≢ zero
+      → (l : Operator) × (m : Operator) × OperatorOf rationals s l × OperatorOf rationals s m × (l ≢ zero) × (m ≢ zero) × (l · f ≡ m · g)
+
+  -- f l = g m for some nonzero operators l and m of the signature
+  abbrev pub HasCommonRightMultiples : Type 0
+  HasCommonRightMultiples = (f g : Operator) → OperatorOf rationals s f → OperatorOf rationals s g → f ≢ zero → g ≢ zero
+      → (l : Operator) × (m : Operator) × OperatorOf rationals s l × OperatorOf rationals s m × (l ≢ zero) × (m ≢ zero) × (f · l ≡ g · m)
 
   -- ---- matrices, with the number of columns beside each operation
 

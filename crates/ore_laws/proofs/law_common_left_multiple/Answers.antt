@@ -1,0 +1,6 @@
+use Rattle.ore_rational.proofs.FractionLaws.{rationals, rational_inverses}
+use Rattle.ore_laws.proofs.CommonMultiples.{common_left_multiple}
+use Rattle.ore_laws.proofs.law_common_left_multiple.Goals as goal
+
+pub returns : goal.returns
+returns c = common_left_multiple rationals c.args.sig.now rational_inverses
