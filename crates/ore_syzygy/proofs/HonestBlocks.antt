@@ -55,7 +55,7 @@ module _ (s : Signature) where
   ordered-sums [] h = refl
   ordered-sums (f ∷ r) h = λ i. record { by = sym (All-head (Belongs s) f r h).order i; sum = f.sum } ∷ ordered-sums r (All-tail (Belongs s) f r h) i
 
-  ordered-rows : (rows : List (List Ordered)) → All (All (Belongs s)) rows → map (ordered_row s.order) (map sums_of rows) ≡ rows
+  pub ordered-rows : (rows : List (List Ordered)) → All (All (Belongs s)) rows → map (ordered_row s.order) (map sums_of rows) ≡ rows
   ordered-rows [] h = refl
   ordered-rows (r ∷ rows) h = λ i. ordered-sums r (All-head (All (Belongs s)) r rows h) i ∷ ordered-rows rows (All-tail (All (Belongs s)) r rows h) i
 

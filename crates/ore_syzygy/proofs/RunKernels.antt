@@ -2,6 +2,7 @@
 --     matrix_of        a stored matrix of a signature
 --     run_exact        the kernel of the matrix of the run
 --     right_is         by way of transposed adjoints
+--     adjoint_is       the stored transposed adjoint
 --     syzygies_width, answer_is     the width of the syzygies; the answer of the course of a right kernel
 use Rattle.std.proofs.Common.{◌≡◌, ℕ, List, length, sym, ap, ◌∙◌, subst}
 use Rattle.std.specs.List.{All}
@@ -19,16 +20,20 @@ use Rattle.ore_rows.proofs.RowLaws as Rows
 use Rattle.ore_adjoint.specs.AdjointMatrix.{transpose_adjoint_within}
 use Rattle.ore_adjoint.proofs.AdjointValues.{matrix_value}
 use Rattle.ore_parts.specs.OfSignature.{MatrixOf}
+use Rattle.ore_blocks.specs.CheckBlock.{plain}
 use Rattle.ore_blocks.proofs.Converted.{wide_rows, rows_are_of}
 use Rattle.ore_groebner.proofs.Complete.{complete_exact}
 use Rattle.ore_groebner.proofs.Holding.{wide_syzygies}
 use Rattle.ore_groebner.specs.Honest.{IsHonest}
 use Rattle.ore_groebner.specs.declared.outcome.Finished.{Finished}
 use Rattle.ore_groebner.specs.Courses.{last_of}
-use Rattle.ore_syzygy.specs.Kernels.{IsRightKernel, right_answer}
+use Rattle.ore_syzygy.specs.Kernels.{IsRightKernel, adjoint_rows, right_answer}
 use Rattle.ore_syzygy.proofs.HonestBlocks.{holds}
 
 module _ (s : Signature) where
+  pub adjoint_is : (r a : OperatorMatrix) → a.cols ≡ length r.rows → transpose_adjoint_within program s r.cols (rows_of r) ≡ Ok (rows_of a) → plain a ≡ adjoint_rows s r
+  adjoint_is r a cols formed = λ i. record { cols = cols i; rows = matrix_value program s r.cols (rows_of r) (rows_of a) formed i }
+
   pub matrix_of : (m : OperatorMatrix) (n : ℕ) → HasColumns n m.rows → n ≡ m.cols → All (All (Belongs s)) m.rows → MatrixOf s m
   matrix_of m n columns e of = record { columns = subst (λ n. HasColumns n m.rows) e columns; of = of }
 

@@ -1,15 +1,20 @@
 -- Kernels of matrices, beside the courses by which they are found.
 --     IsLeftKernel       the rows of the generators are those of all rows that take a matrix to zeros
 --     IsRightKernel      likewise the columns, of all columns that the matrix takes to zeros, by way of adjoints
+--     adjoint_rows       the transposed adjoint of a matrix
+--     IsRunOnAdjoint     a run by these choices on the transposed adjoint of a matrix
 --     right_answer       the answer of the course of a right kernel
-use Rattle.std.specs.Prelude.{◌≡◌, length}
+use Rattle.std.specs.Prelude.{◌≡◌, List, length}
 use Rattle.ore_rational.proofs.FractionLaws.{rationals}
 use Rattle.ore_monomial.specs.Signature.{Signature}
 use Rattle.ore_rows.specs.Rows.{IsExact, transpose_adjoint}
 use Rattle.ore_rows.specs.Stored.{OperatorMatrix, rows_of}
-use Rattle.ore_blocks.specs.CheckBlock.{plain}
+use Rattle.ore_rows.specs.declared.choices.Choice.{Choice}
+use Rattle.ore_blocks.specs.CheckBlock.{RowMatrix, plain}
 use Rattle.ore_blocks.specs.KernelCourse.{RightKernel}
 use Rattle.ore_groebner.specs.Courses.{last_of}
+use Rattle.ore_groebner.specs.Honest.{IsHonest}
+use Rattle.ore_groebner.specs.declared.outcome.Finished.{Finished}
 use Rattle.ore_syzygy.specs.declared.kernel.Kernel.{Kernel}
 
 module _ (s : Signature) where
@@ -26,6 +31,14 @@ module _ (s : Signature) where
     pub generators : rows_of k.generators ≡ transpose_adjoint rationals s r.cols (rows_of k.run.syzygies)
     pub exact : IsExact rationals s (length r.rows) (transpose_adjoint rationals s r.cols (rows_of r)) (transpose_adjoint rationals s k.generators.cols (rows_of k.generators))
 
+  -- a row for each column, and a column for each row
+  abbrev pub adjoint_rows : OperatorMatrix → RowMatrix
+  adjoint_rows r = record { cols = length r.rows; rows = transpose_adjoint rationals s r.cols (rows_of r) }
+
+  -- the choices lead to it
+  abbrev pub IsRunOnAdjoint : OperatorMatrix → List Choice → Finished → Type 0
+  IsRunOnAdjoint r choices f = (a : OperatorMatrix) × (plain a ≡ adjoint_rows r) × IsHonest s a choices f
+
   -- the transposed adjoint, the last state of the run on its rows, and the generators
   abbrev pub right_answer : OperatorMatrix → Kernel → RightKernel
-  right_answer r k = record { adjoint = record { cols = length r.rows; rows = transpose_adjoint rationals s r.cols (rows_of r) }; last = last_of k.run; generators = plain k.generators }
+  right_answer r k = record { adjoint = adjoint_rows r; last = last_of k.run; generators = plain k.generators }

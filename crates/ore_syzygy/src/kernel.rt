@@ -9,7 +9,7 @@ ghost use Rattle.ore_blocks.specs.KernelCourse as courses;
 ghost use Rattle.ore_groebner.specs.Choosing.{present, AreAfforded};
 ghost use Rattle.ore_groebner.specs.Courses.{last_of, FollowsTo, HaltsIn};
 ghost use Rattle.ore_groebner.specs.Honest.{IsHonest};
-ghost use Rattle.ore_syzygy.specs.Kernels.{IsLeftKernel, IsRightKernel, right_answer};
+ghost use Rattle.ore_syzygy.specs.Kernels.{IsLeftKernel, IsRightKernel, IsRunOnAdjoint, right_answer};
 ghost use Rattle.ore_syzygy.specs.RunBlock.{HasRun};
 
 use crate::copies::matrix_copy;
@@ -74,6 +74,7 @@ pub fn right_kernel<R: OreRing, C: Chooser>(
     ensures kernel { IfOk result (IsRightKernel (R.sig ring.now) r.now) }
     ensures of { IfOk result (λ k. All (All (Belongs (R.sig ring.now))) k.generators.rows) }
     ensures run { IfOk result (λ k. HasRun (R.sig ring.now) k.run) }
+    ensures honest { IfOk result (λ k. IsRunOnAdjoint (R.sig ring.now) r.now (present (C.given chooser.new)) k.run) }
     ensures answered { IfOk result (λ k. FollowsTo (R.sig ring.now) C.allows C.allows_spent (courses.right_kernel program (R.sig ring.now) (plain r.now)) (C.given chooser.old) (C.given chooser.new) (right_answer (R.sig ring.now) r.now k)) }
     ensures halts { IfErr result (HaltsIn (R.sig ring.now) C.allows C.allows_spent (courses.right_kernel program (R.sig ring.now) (plain r.now)) (C.given chooser.old) (C.given chooser.new) (C.settings chooser.new)) }
     ensures afforded { AreAfforded (C.given chooser.old) (C.settings chooser.old).budget → AreAfforded (C.given chooser.new) (C.settings chooser.new).budget }

@@ -10,7 +10,7 @@ use Rattle.ore_blocks.specs.KernelCourse.{syzygies_of, transposed_adjoint_within
 use Rattle.ore_groebner.specs.Choosing.{present}
 use Rattle.ore_groebner.specs.Courses.{last_of, FollowsTo, HaltsIn}
 use Rattle.ore_syzygy.proofs.FollowedKernels as followed
-use Rattle.ore_syzygy.proofs.RunKernels.{matrix_of, right_is, syzygies_width, answer_is}
+use Rattle.ore_syzygy.proofs.RunKernels.{adjoint_is, matrix_of, right_is, syzygies_width, answer_is}
 use Rattle.ore_syzygy.proofs.kernel.right_kernel.Goals as goal
 
 pub returns-in-Err-clause-halts : goal.returns-in-Err-clause-halts
@@ -39,6 +39,11 @@ returns-in-Ok-transpose_adjoint-clause-kernel g c =
     let back = c.in-Ok-transpose_adjoint.ensures in
     right_is s c.in_ok-run.run' adjoint (present (g.C.Chooser.given c.run.new.chooser)) c.in_ok-run.ensures.honest (matrix_of s adjoint c.cols-fits.result c.cols-fits.ensures.fits c.cols-fits.ensures.value e.of)
     c.args.r.now c.in-Ok-transpose_adjoint.generators e.cols e.count e.gives back.cols back.count back.gives
+
+pub returns-in-Ok-transpose_adjoint-clause-honest : goal.returns-in-Ok-transpose_adjoint-clause-honest
+returns-in-Ok-transpose_adjoint-clause-honest g c =
+    let s = g.R.OreRing.sig c.args.ring.now in
+    (c.in-Ok.adjoint, adjoint_is s c.args.r.now c.in-Ok.adjoint c.in-Ok.ensures.cols c.in-Ok.ensures.gives, c.in_ok-run.ensures.honest)
 
 pub returns-in-Ok-transpose_adjoint-clause-answered : goal.returns-in-Ok-transpose_adjoint-clause-answered
 returns-in-Ok-transpose_adjoint-clause-answered g c =
