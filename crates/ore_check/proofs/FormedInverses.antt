@@ -113,7 +113,7 @@ module _ (s : Signature) where
 
   -- ---- left inverses
 
-  abbrev left_ends : RowMatrix → State rationals → Reductions rationals → RunCourse Certificate
+  abbrev pub left_ends : RowMatrix → State rationals → Reductions rationals → RunCourse Certificate
   left_ends r a units = elim units [
     | AllReduce combinations ↦ certified program s r (LeftInverse (stored s (record { cols = length r.rows; rows = combinations }))) tt
     | LeavesRest k w ↦ certified program s r (NoLeftInverse k (outside_block_of s r a w.steps w.row)) tt
@@ -146,13 +146,13 @@ module _ (s : Signature) where
 
   -- ---- right inverses
 
-  abbrev right_ends : RowMatrix → RowMatrix → State rationals → Reductions rationals → RunCourse Certificate
+  abbrev pub right_ends : RowMatrix → RowMatrix → State rationals → Reductions rationals → RunCourse Certificate
   right_ends r adjoint a units = elim units [
     | AllReduce combinations ↦ forced (transposed_adjoint_within program s (record { cols = r.cols; rows = combinations })) >>= (λ inverse. certified program s r (RightInverse (stored s inverse)) tt)
     | LeavesRest k w ↦ certified program s r (NoRightInverse k (outside_block_of s adjoint a w.steps w.row)) tt
   ]
 
-  abbrev right_runs : RowMatrix → RowMatrix → RunCourse Certificate
+  abbrev pub right_runs : RowMatrix → RowMatrix → RunCourse Certificate
   right_runs r adjoint = run_on program s adjoint >>= (λ a. forced (reduced program s adjoint a (identity_rows rationals (length r.rows))) >>= right_ends r adjoint a)
 
   module _ (r : RowMatrix) (long : AreLong rationals r.cols r.rows) (of_r : AllByRecursion (RowOf rationals s) r.rows) where

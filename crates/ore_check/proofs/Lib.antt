@@ -16,3 +16,4 @@ pub mod KindsAtMost
 pub mod ValidKinds
 pub mod ValidMeans
 pub mod ValidAnswers
+pub mod FormedIdentities

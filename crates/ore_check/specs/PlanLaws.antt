@@ -6,8 +6,6 @@
 --     IsRight                    a certificate is of the signature, valid, true, and one that the check accepts
 --     FormsRight                 a course forms such certificates alone
 --     ResolveFormsRight, ExtFormsRight     so do the plans resolve and ext
---     IsRightAnalysis            an answer of plan analyse is right
---     AnalyseFormsRight          plan analyse forms such answers alone
 use Rattle.std.specs.Prelude.{◌≡◌, ◌↔◌, ℕ, List, []}
 use Rattle.std.specs.declared.result.Result.TheVariants.{Ok, Err}
 use Rattle.ore_algebra.specs.Limits.{Cause, program}
@@ -16,7 +14,7 @@ use Rattle.ore_course.specs.Leading.{Rule, IsFormedBy}
 use Rattle.ore_course.specs.Report.{HasNoReport}
 use Rattle.ore_rational.proofs.FractionLaws.{rationals}
 use Rattle.ore_monomial.specs.Signature.{Signature}
-use Rattle.ore_rows.specs.Rows.{AreLong, InRowModule}
+use Rattle.ore_rows.specs.Rows.{AreLong}
 use Rattle.ore_rows.specs.declared.choices.Choice.{Choice}
 use Rattle.ore_pairs.specs.Run.{State}
 use Rattle.ore_cert.specs.CertificateOf.{IsCertificateOf}
@@ -34,7 +32,7 @@ use Rattle.ore_blocks.specs.KernelCourse.{RunCourse, transposed_adjoint_within}
 use Rattle.ore_check.specs.declared.answer.Checked.TheVariants.{Valid}
 use Rattle.ore_check.specs.Check.{check, IsNoReport}
 use Rattle.ore_check.specs.Meaning.{RowsOf, Means}
-use Rattle.ore_check.specs.Plans.{Analysis, Verdict, Undecided, analyse, resolve, ext}
+use Rattle.ore_check.specs.Plans.{resolve, ext}
 use Rattle.ore_check.specs.Reports.{program_runner, plan_course, IsHonestReport, HasNoReportOf, check_report}
 use Rattle.ore_check.specs.Valid.{IsValid}
 
@@ -76,12 +74,3 @@ module _ (s : Signature) where
   -- of an extension module from 1 to 12
   abbrev pub ExtFormsRight : Type 0
   ExtFormsRight = (k : ℕ) → IsLength k → FormsRight (ext program s k)
-
-  -- a verdict is right; an undecided row isn't in the row module of r
-  abbrev pub IsRightAnalysis : RowMatrix → Analysis → Type 0
-  IsRightAnalysis r (Verdict c) = IsRight r c
-  IsRightAnalysis r (Undecided z d) = ¬ InRowModule rationals s r.cols r.rows z
-
-  -- whatever the choices
-  abbrev pub AnalyseFormsRight : Type 0
-  AnalyseFormsRight = (r : RowMatrix) → AreLong rationals r.cols r.rows → RowsOf s r.rows → (runs : List (List Choice)) (x : Analysis) → IsFormedBy (program_runner s) (analyse program s r) runs x → IsRightAnalysis r x

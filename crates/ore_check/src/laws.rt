@@ -5,8 +5,8 @@
 
 ghost use Rattle.ore_check.specs.Laws.{CheckIsTrue, ExactIsTorsionFree, HasOneVerdict, LastLineIsEnd, PartsBeginAtLines, RightKernelIsExact};
 ghost use Rattle.ore_algebra.specs.Limits.{program};
-ghost use Rattle.ore_check.specs.PlanLaws.{AdjointHasItsReport, AnalyseFormsRight, ExtFormsRight, FormsRight, NoReportIsNone, ReportIsTrueIfValid, ResolveFormsRight};
-ghost use Rattle.ore_check.specs.Plans.{inverse_left, inverse_right, kernel_left, kernel_right};
+ghost use Rattle.ore_check.specs.PlanLaws.{AdjointHasItsReport, ExtFormsRight, FormsRight, NoReportIsNone, ReportIsTrueIfValid, ResolveFormsRight};
+ghost use Rattle.ore_check.specs.Plans.{analyse, inverse_left, inverse_right, kernel_left, kernel_right};
 ghost use Rattle.ore_check.specs.ValidLaws.{CheckAtMost, CheckIsValid, CheckShowsValid, ValidIsNotInvalid, ValidIsTrue, ValidPasses};
 
 use ore_monomial::Signature;
@@ -105,7 +105,7 @@ pub fn law_resolutions_formed(sig: &Signature)
 
 /// The verdicts that plan analyse forms are true, and the check accepts them.
 pub fn law_verdicts_formed(sig: &Signature)
-    ensures { AnalyseFormsRight sig.now }
+    ensures { FormsRight sig.now (analyse program sig.now) }
 {}
 
 /// The certificates that plan ext forms are true, and the check accepts them.

@@ -29,9 +29,11 @@
 pub mod answer;
 pub mod certificate;
 mod formed;
+pub mod identities;
 pub mod laws;
 mod layout;
 
 pub use answer::Checked;
 pub use certificate::{check, check_exact, check_outside};
+pub use identities::form_identities;
 pub use ore_blocks::Reason;

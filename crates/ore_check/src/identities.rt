@@ -1,0 +1,53 @@
+//! The identities of a certificate that was found.
+
+ghost use Rattle.std.specs.Prelude.{◌≡◌};
+ghost use Rattle.std.specs.List.{All};
+ghost use Rattle.ore_algebra.specs.Limits.{program};
+ghost use Rattle.ore_monomial.specs.Gives.{Gives};
+ghost use Rattle.ore_ring.specs.Belongs.{Belongs};
+ghost use Rattle.ore_cert.specs.CertificateOf.{IsCertificateOf};
+ghost use Rattle.ore_blocks.specs.CheckBlock.{plain};
+ghost use Rattle.ore_check.specs.Check.{IsBuilt, IsNoReport, check};
+ghost use Rattle.ore_check.specs.InnerContracts.{stop_of};
+ghost use Rattle.ore_check.specs.Plans.{formed_as};
+
+use crate::answer::Checked;
+use crate::certificate::check;
+use ore_cert::Certificate;
+use ore_monomial::RingStop;
+use ore_ring::OreRing;
+use ore_rows::Matrix;
+use std::alloc::Global;
+
+/// Forms the identities that the check of a certificate of the matrix `r` calls for: the last work of every search for a
+/// certificate. A condition that fails is passed over; of a certificate that a search finds none does.
+///
+/// The operators of both are of the signature of the ring, and the certificate of a kind that is checked.
+///
+/// # Errors
+/// The stop of the first operation that stops, and want of memory.
+pub fn form_identities<R: OreRing>(
+    ring: &R,
+    alloc: Global,
+    r: &Matrix,
+    cert: &Certificate,
+) -> Result<(), RingStop>
+    requires of { All (All (Belongs (R.sig ring.now))) r.now.rows }
+    requires cert_of { IsCertificateOf (R.sig ring.now) cert.now }
+    requires built { IsBuilt cert.now }
+    ensures formed { (claims : IsNoReport cert.now) → Gives (λ _. cert.now) result (formed_as cert.now (check program (R.sig ring.now) (plain r.now) cert.now claims)) }
+{
+    stop_of(check(ring, alloc, r, cert))
+}
+
+// Why an operation stopped, where one did.
+fn stop_of(answer: Checked) -> Result<(), RingStop>
+    ensures { result ≡ stop_of answer }
+{
+    match answer {
+        Checked::Valid | Checked::Invalid { .. } => Ok(()),
+        Checked::Overflow { .. } => Err(RingStop::Overflow),
+        Checked::Degree { .. } => Err(RingStop::Degree),
+        Checked::Memory => Err(RingStop::Memory),
+    }
+}
