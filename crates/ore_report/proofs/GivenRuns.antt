@@ -1,8 +1,12 @@
 -- Choices, run by run.
 --     treats_in-treated, treats_in-skipped    how many pairs are treated with one more choice that treats, or that skips
 --     with_choice-set                      the choice goes to the end of the last run
+--     taken_more                the first items of a list, with one more
 --     but_last-take, without_last-set      the last choice leaves the last run
-use Rattle.std.proofs.Common.{◌≡◌, ◌≢◌, ◌-◌, ℕ, zero, suc, List, [], ◌∷◌, ◌++◌, length, take, get_or, refl, ap, ◌∙◌, arith, set}
+use Rattle.std.proofs.Common.{◌≡◌, ◌≢◌, ◌+◌, ◌-◌, ℕ, zero, suc, List, [], ◌∷◌, ◌++◌, length, take, get_or, slice_get, refl, ap, ◌∙◌, arith, set}
+use Rattle.std.specs.declared.option.Option.TheVariants.{Some}
+use Rattle.std.proofs.Math.Seq.{take-suc}
+use Rattle.std.proofs.lemmas.Option.{slice_get_within, get_or_from_slice_get}
 use Rattle.ore_rows.specs.declared.choices.Choice.{Choice}
 use Rattle.ore_rows.specs.declared.choices.Choice.TheVariants.{Treat, Skip}
 use Rattle.ore_course.specs.Choices as course
@@ -25,6 +29,12 @@ with_choice-set (r ∷ []) c zero h = refl
 with_choice-set (r ∷ []) c (suc k) h = absurd (omega arith)
 with_choice-set (r ∷ s ∷ runs) c zero h = absurd (omega arith)
 with_choice-set (r ∷ s ∷ runs) c (suc k) h = ap (λ rs. r ∷ rs) (with_choice-set (s ∷ runs) c k (omega arith))
+
+pub taken_more : {A : Type 0} (xs : List A) (k : ℕ) (x : A) → slice_get xs k ≡ Some x → take (k + 1) xs ≡ take k xs ++ x ∷ []
+taken_more xs k x e =
+    ap (λ n. take n xs) (let next : k + 1 ≡ suc k = omega arith in next)
+    ∙ take-suc xs k x (slice_get_within xs k x e)
+    ∙ ap (λ y. take k xs ++ y ∷ []) (get_or_from_slice_get xs k x x e)
 
 pub but_last-take : (cs : List Choice) (n : ℕ) → n ≡ length cs - 1 → take n cs ≡ but_last cs
 unfolding but_last

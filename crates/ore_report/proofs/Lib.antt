@@ -8,3 +8,4 @@ pub mod GivenRuns
 pub mod Lives
 pub mod Lawful
 pub mod RuleLaws
+pub mod Replays

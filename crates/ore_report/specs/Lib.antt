@@ -3,3 +3,4 @@ pub mod RuleLaw
 pub mod Codes
 pub mod Queue
 pub mod Live
+pub mod Replay

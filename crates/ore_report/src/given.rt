@@ -13,7 +13,7 @@ use std::mem;
 /// The choices of runs, run by run, of which the last may grow.
 #[derive(Drop)]
 pub struct Given {
-    runs: Vec<Choices>,
+    runs: Runs,
 }
 
 impl Model for Given {
@@ -25,7 +25,7 @@ impl Model for Given {
 
     ghost coded = { runs_code };
 
-    ghost view = { λ a. a.runs.items };
+    ghost view = { λ a. a.runs };
 }
 
 impl Given {
@@ -34,8 +34,24 @@ impl Given {
         ensures { result ≡ [] }
     {
         Given {
-            runs: Vec::new(alloc),
+            runs: Runs::from_vec(Vec::new(alloc)),
         }
+    }
+
+    /// The choices of these runs, run by run.
+    ///
+    /// # Errors
+    /// Want of memory.
+    pub fn copy_of(alloc: Global, runs: &Runs) -> Result<Given, NoMemory>
+        ensures { IfOk result (λ given. given ≡ runs.now) }
+    {
+        let mut items = Vec::new(alloc);
+        for k in 0..runs.len() {
+            items.push(copied(alloc, runs.get(k))?)?;
+        }
+        Ok(Given {
+            runs: Runs::from_vec(items),
+        })
     }
 
     /// One more run, without choices.
@@ -46,8 +62,17 @@ impl Given {
         ensures begun { IfOk result (λ _. self.new ≡ self.old ++ [] ∷ []) }
         ensures kept { IfErr result (λ _. self.new ≡ self.old) }
     {
-        self.runs.push(Choices::from_vec(Vec::new(alloc)))?;
-        Ok(())
+        let mut items = self.take(alloc);
+        match items.push(Choices::from_vec(Vec::new(alloc))) {
+            Ok(()) => {
+                self.runs = Runs::from_vec(items);
+                Ok(())
+            }
+            Err(_) => {
+                self.runs = Runs::from_vec(items);
+                Err(NoMemory)
+            }
+        }
     }
 
     /// One more choice of the last run.
@@ -59,27 +84,57 @@ impl Given {
         ensures pushed { IfOk result (λ _. self.new ≡ with_choice self.old choice) }
         ensures kept { IfErr result (λ _. self.new ≡ self.old) }
     {
-        let last = self.runs.len() - 1;
-        push_choice(alloc, &mut self.runs[last], choice)
+        let mut items = self.take(alloc);
+        let last = items.len() - 1;
+        let pushed = push_choice(alloc, &mut items[last], choice);
+        self.runs = Runs::from_vec(items);
+        pushed
     }
 
     /// The last run loses its last choice. Nothing changes where there is none.
     pub fn pop(&mut self, alloc: Global)
         ensures { self.new ≡ without_last self.old }
     {
-        if self.runs.is_empty() {
+        if self.runs.len() == 0 {
             return;
         }
-        let last = self.runs.len() - 1;
-        pop_choice(alloc, &mut self.runs[last]);
+        let mut items = self.take(alloc);
+        let last = items.len() - 1;
+        pop_choice(alloc, &mut items[last]);
+        self.runs = Runs::from_vec(items);
+    }
+
+    /// The runs, which stay here.
+    pub fn runs(&self) -> &Runs
+        ensures { result.now ≡ self.now }
+    {
+        &self.runs
     }
 
     /// The runs.
     pub fn into_runs(self) -> Runs
         ensures { result ≡ self }
     {
-        Runs::from_vec(self.runs)
+        self.runs
     }
+
+    // The runs as a vector. None are left.
+    fn take(&mut self, alloc: Global) -> Vec<Choices>
+        ensures { result.items ≡ self.old }
+    {
+        mem::replace(&mut self.runs, Runs::from_vec(Vec::new(alloc))).into_vec()
+    }
+}
+
+// The choices of a run.
+fn copied(alloc: Global, run: &Choices) -> Result<Choices, NoMemory>
+    ensures { IfOk result (λ copy. copy ≡ run.now) }
+{
+    let mut items = Vec::new(alloc);
+    for k in 0..run.len() {
+        items.push(*run.get(k))?;
+    }
+    Ok(Choices::from_vec(items))
 }
 
 // One more choice at the end.

@@ -10,8 +10,13 @@
 //! budget, the plan and the halt. Where nothing was given before a call that follows a course, it is an honest report
 //! of this course, by the rule and within the budget (`law_followed` of `ore_course`).
 //!
-//! Its rule is that choice and no other (`chain_allows` and `chain_allows_spent` in `specs/ChainRule.antt`): at each
+//! The rule of the live chooser is that choice and no other (`chain_allows` and `chain_allows_spent` in `specs/ChainRule.antt`): at each
 //! state one choice may come ([`law_rule`]).
+//!
+//! A [`ReplayChooser`] gives the choices of a report, run by run, while each is lawful where it comes; the pair whose
+//! treatment stopped comes behind those of the last run. Its rule is that every lawful choice may come, and its budget
+//! is that of all the treatments that it keeps, so it is never spent. By where a call that follows a course stops with it,
+//! the first line of the report that fails is known (`law_replay` of `ore_course`).
 //!
 //! [`Given`] is a list of choices, run by run; [`Showing`] is what a run has shown of its basis. The pairs that wait
 //! stand in a queue (`specs/Queue.antt`), an ordered set, each with a place whose order is that of the rule. The pairs
@@ -27,9 +32,11 @@ mod laws;
 pub mod live;
 mod pairs;
 mod queue;
+pub mod replay;
 pub mod showing;
 
 pub use given::Given;
 pub use laws::law_rule;
 pub use live::LiveChooser;
+pub use replay::ReplayChooser;
 pub use showing::Showing;
