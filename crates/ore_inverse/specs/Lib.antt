@@ -1,0 +1,2 @@
+pub mod StoredReductions
+pub mod Inverses
