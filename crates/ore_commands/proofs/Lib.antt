@@ -4,3 +4,7 @@ pub mod Verdicts
 pub mod OneVerdict
 pub mod Faultless
 pub mod SomeVerdict
+pub mod Searches
+pub mod FoundBy
+pub mod Completeness
+pub mod AdjointReplies

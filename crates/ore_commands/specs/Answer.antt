@@ -4,23 +4,30 @@
 --     IsDueTo          the reply that a command is to give
 --     IsDue            the reply that words are to get
 --     TellsTruth       what was said is true of the input, where the source tells it
-use Rattle.std.specs.Prelude.{◌≡◌, ◌⊎◌, ℕ, List, IfSome}
+--     IsUnhalted       the input of a search is a problem of which no report is honest
+use Rattle.std.specs.Prelude.{◌≡◌, ◌⊎◌, ℕ, ◌≤◌, List, length, IfSome}
 use Rattle.std.specs.declared.option.Option.{Option}
+use Rattle.std.specs.declared.option.Option.TheVariants.{Some}
+use Rattle.ore_cert.specs.declared.report.Plan.{Plan}
 use Rattle.ore_reply.specs.Replies.{Reply, unknown_words}
 use Rattle.ore_reply.specs.Answered.{IsDueFrom, given_input}
 use Rattle.ore_commands.specs.declared.command.Command.{Command}
-use Rattle.ore_commands.specs.declared.command.Command.TheVariants.{Check}
-use Rattle.ore_commands.specs.Commands.{words_of, IsKnown, input_limit}
+use Rattle.ore_commands.specs.declared.command.Command.TheVariants.{Check, Search}
+use Rattle.ore_commands.specs.Commands.{Calls, IsKnown, input_limit}
 use Rattle.ore_commands.specs.Verdict.{IsVerdict, HoldsCertificate}
+use Rattle.ore_commands.specs.Finding.{default_budget, IsSearchVerdict, HoldsAnswer, IsUnreported}
 
--- of `check`, the verdict
+-- of `check`, the verdict; of a search, the answer that its plan forms, or an honest report
 abbrev pub IsReplyOf : Command → List ℕ → Reply → Type 0
 IsReplyOf Check bytes reply = IsVerdict bytes reply
+IsReplyOf (Search plan) bytes reply = IsSearchVerdict default_budget plan bytes reply
 
 -- Of `check`, the bytes are a problem and a certificate of the kind that is named. What this says of the matrix is true,
--- over numbers of any size.
+-- over numbers of any size. Of a search, the bytes are a problem, and what is said is the text of an answer that its plan
+-- forms: a certificate that is true and that the check accepts, or the problem with its transposed adjoint.
 abbrev pub IsTrueOf : Command → List ℕ → List ℕ → Type 0
 IsTrueOf Check said bytes = HoldsCertificate said bytes
+IsTrueOf (Search plan) said bytes = HoldsAnswer default_budget plan said bytes
 
 -- by what a source has left before and after
 abbrev pub IsDueTo : Command → Option (List ℕ) → Option (List ℕ) → Reply → Type 0
@@ -29,8 +36,12 @@ IsDueTo c before after reply = IsDueFrom (IsReplyOf c) (input_limit c) before af
 -- words that are no command are answered whatever the input
 abbrev pub IsDue : List (List ℕ) → Option (List ℕ) → Option (List ℕ) → Reply → Type 0
 IsDue words before after reply =
-    ((¬ IsKnown words) × (reply ≡ unknown_words)) ⊎ ((c : Command) × (words ≡ words_of c) × IsDueTo c before after reply)
+    ((¬ IsKnown words) × (reply ≡ unknown_words)) ⊎ ((c : Command) × Calls words c × IsDueTo c before after reply)
 
 -- of the bytes that the command is given
 abbrev pub TellsTruth : Command → List ℕ → Option (List ℕ) → Type 0
 TellsTruth c said before = IfSome (given_input (input_limit c) before) (IsTrueOf c said)
+
+-- the source tells it, it is within the limit, and accepted
+abbrev pub IsUnhalted : Plan → Option (List ℕ) → Type 0
+IsUnhalted plan before = (bytes : List ℕ) × (before ≡ Some bytes) × (length bytes ≤ 1048576) × IsUnreported default_budget plan bytes

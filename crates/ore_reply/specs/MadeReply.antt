@@ -8,7 +8,7 @@ use Rattle.std.specs.declared.result.Result.TheVariants.{Ok, Err}
 use Rattle.ore_reply.specs.declared.input.InputEnd.{InputEnd}
 use Rattle.ore_reply.specs.declared.input.InputEnd.TheVariants as end
 use Rattle.ore_reply.specs.declared.status.Status.{Status}
-use Rattle.ore_reply.specs.declared.status.Status.TheVariants.{Done, Invalid, Words, Malformed, Overflow, Degree, ReadFault, WriteFault, TooLong, Memory}
+use Rattle.ore_reply.specs.declared.status.Status.TheVariants.{Done, Invalid, Words, Malformed, Overflow, Degree, Budget, ReadFault, WriteFault, TooLong, Memory}
 use Rattle.ore_reply.specs.declared.reply.Reply.{Reply as MadeReply}
 use Rattle.ore_reply.specs.Replies.{Reply, without_text, too_long}
 
@@ -34,6 +34,7 @@ IsOfBytes Invalid = Unit {0}
 IsOfBytes Malformed = Unit {0}
 IsOfBytes Overflow = Unit {0}
 IsOfBytes Degree = Unit {0}
+IsOfBytes Budget = Unit {0}
 IsOfBytes Words = ⊥
 IsOfBytes ReadFault = ⊥
 IsOfBytes WriteFault = ⊥

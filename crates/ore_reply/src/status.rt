@@ -3,7 +3,7 @@
 /// How a call of the program ended. Its number is the program's exit status.
 #[derive(Clone, Copy, Debug, PartialEq, Eq, Drop)]
 pub enum Status {
-    /// The certificate is valid.
+    /// The certificate is valid, or what was asked for was found.
     Done = 0,
     /// A condition of the certificate fails.
     Invalid = 1,
@@ -15,6 +15,8 @@ pub enum Status {
     Overflow = 4,
     /// A degree is greater than 32,767.
     Degree = 5,
+    /// The budget of treated pairs is spent.
+    Budget = 6,
     /// The source failed.
     ReadFault = 7,
     /// The sink failed.

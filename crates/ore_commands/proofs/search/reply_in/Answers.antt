@@ -1,0 +1,28 @@
+use Rattle.std.proofs.Common.{◌≡◌, inl, [], ap, sym, subst, ◌∙◌}
+use Rattle.ore_blocks.specs.CheckBlock.{plain}
+use Rattle.ore_groebner.specs.Choosing.{AreAfforded}
+use Rattle.ore_problem.specs.Stored.{system_of}
+use Rattle.ore_reply.specs.MadeReply.{reply_of}
+use Rattle.ore_reply.specs.declared.status.Status.TheVariants.{Done}
+use Rattle.ore_report.specs.ChainRule.{chain_allows, chain_allows_spent}
+use Rattle.ore_commands.specs.Finding.{default_budget, found_text, IsSearchReply}
+use Rattle.ore_commands.specs.Search.{IsFoundBy, IsRightFound}
+use Rattle.ore_commands.proofs.Searches.{none_treated, found_replied}
+use Rattle.ore_commands.proofs.Verdicts.{if_ok}
+use Rattle.ore_commands.proofs.search.reply_in.Goals as goal
+
+pub returns-in-Ok : goal.returns-in-Ok
+returns-in-Ok g c =
+    let p = system_of c.args.problem in
+    let r = plain c.args.problem.matrix in
+    let found = c.in-Ok.found in
+    let before = c.new-chooser.result in
+    let after = c.find.new.chooser in
+    let start : before.given ≡ [] = ap (λ x. x.given) c.new-chooser.ensures in
+    let budget : after.budget ≡ default_budget = ap (λ x. x.budget) c.in-Ok.ensures.settings ∙ ap (λ x. x.budget) c.new-chooser.ensures in
+    let paid : AreAfforded after.given default_budget = subst (AreAfforded after.given) budget (c.in-Ok.ensures.afforded (subst (λ runs. AreAfforded runs before.budget) (sym start) (none_treated before.budget))) in
+    let by = subst (λ s. IsFoundBy s r chain_allows chain_allows_spent c.args.plan before.given after.given found) c.requires.same c.in-Ok.ensures.answered in
+    let since = subst (λ runs. IsFoundBy c.args.problem.signature r chain_allows chain_allows_spent c.args.plan runs after.given found) start by in
+    let right = subst (λ s. IsRightFound s r found) c.requires.same c.in-Ok.ensures.right in
+    if_ok c.found_reply.result (λ reply. reply_of reply ≡ record { status = Done; text = found_text p found }) (λ reply. IsSearchReply p default_budget c.args.plan (reply_of reply)) c.found_reply.ensures
+    (λ reply e. inl (found_replied p default_budget c.args.plan after.given paid found since right (reply_of reply) e))

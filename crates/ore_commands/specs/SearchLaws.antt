@@ -1,0 +1,46 @@
+-- Laws of the commands and of their replies to a problem.
+--     CallOneCommand         words call one command
+--     AnswersUnreported      where no report is honest, a search has an answer
+--     stopped_adjoint        the report of a transposed adjoint that stops
+--     adjoint_reply          the reply of `adjoint` to a problem
+--     HasOneAdjointReply     no other is its own
+use Rattle.std.specs.Prelude.{◌≡◌, ℕ, List, []}
+use Rattle.std.specs.declared.result.Result.TheVariants.{Ok, Err}
+use Rattle.ore_algebra.specs.Limits.{Cause, program}
+use Rattle.ore_problem.specs.Problems.{System}
+use Rattle.ore_cert.specs.declared.certificate.Certificate.TheVariants.{Halted}
+use Rattle.ore_cert.specs.declared.report.Plan.{Plan}
+use Rattle.ore_cert.specs.declared.report.Plan.TheVariants.{Adjoint}
+use Rattle.ore_cert.specs.declared.report.Report.{Report}
+use Rattle.ore_cert.specs.declared.report.Stop.TheVariants.{Forced}
+use Rattle.ore_blocks.specs.KernelCourse.{transposed_adjoint_within}
+use Rattle.ore_check.specs.PlanLaws.{cause_word}
+use Rattle.ore_reply.specs.declared.status.Status.TheVariants.{Done}
+use Rattle.ore_reply.specs.Replies.{Reply}
+use Rattle.ore_commands.specs.declared.command.Command.{Command}
+use Rattle.ore_commands.specs.Commands.{Calls}
+use Rattle.ore_commands.specs.Finding.{halt_status, text_of, matrix_text, IsSearchReply, IsSearchVerdict, IsUnreported}
+use Rattle.ore_commands.specs.Verdict.{matrix_of}
+
+-- two commands that the same words call are one
+abbrev pub CallOneCommand : Type 0
+CallOneCommand = (words : List (List ℕ)) (c d : Command) → Calls words c → Calls words d → c ≡ d
+
+-- the only reply to such bytes has status `Done`
+abbrev pub AnswersUnreported : Type 0
+AnswersUnreported = (budget : ℕ) (plan : Plan) (bytes : List ℕ) (reply : Reply) → IsUnreported budget plan bytes → IsSearchVerdict budget plan bytes reply → reply.status ≡ Done
+
+-- the work is forced, and nothing is chosen
+abbrev pub stopped_adjoint : Cause → Report
+stopped_adjoint why = record { cause = cause_word why; plan = Adjoint; runs = []; stop = Forced }
+
+-- the text of the problem with the transposed adjoint; where forming that stops, the text of its report
+abbrev pub adjoint_reply : System → Reply
+adjoint_reply p = elim (transposed_adjoint_within program p.signature (matrix_of p)) [
+  | Ok m ↦ record { status = Done; text = matrix_text p m }
+  | Err why ↦ record { status = halt_status (cause_word why); text = text_of p (Halted (stopped_adjoint why)) }
+]
+
+-- whatever the budget
+abbrev pub HasOneAdjointReply : Type 0
+HasOneAdjointReply = (budget : ℕ) (p : System) (reply : Reply) → IsSearchReply p budget Adjoint reply → reply ≡ adjoint_reply p

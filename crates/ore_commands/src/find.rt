@@ -1,0 +1,68 @@
+//! Follows the plan of a command.
+
+ghost use Rattle.std.specs.Prelude.{◌≡◌, IfOk, IfErr};
+ghost use Rattle.std.specs.List.{All};
+ghost use Rattle.ore_ring.specs.Belongs.{AllBelong};
+ghost use Rattle.ore_blocks.specs.CheckBlock.{plain};
+ghost use Rattle.ore_groebner.specs.Choosing.{AreAfforded};
+ghost use Rattle.ore_commands.specs.Search.{IsBuiltPlan, IsFoundBy, IsHaltedBy, IsRightFound, certified_of, transposed_of};
+
+use crate::found::Found;
+use ore_adjoint::transpose_adjoint;
+use ore_cert::{Certificate, Plan, Side};
+use ore_groebner::{Chooser, Halt};
+use ore_inverse::{left_certificate, right_certificate};
+use ore_kernels::kernel_certificate;
+use ore_monomial::RingStop;
+use ore_ring::OreRing;
+use ore_rows::Matrix;
+use std::alloc::Global;
+
+/// What the plan of a command finds of the matrix `r`, by the choices of a chooser.
+///
+/// The operators of the matrix are of the signature of the ring.
+///
+/// # Errors
+/// The first operation of the plan that stops, a spent budget, or a kept choice that is absent or not lawful, as the choices
+/// given lead to it; and want of memory.
+pub fn find<R: OreRing, C: Chooser>(
+    ring: &R,
+    alloc: Global,
+    plan: Plan,
+    r: &Matrix,
+    chooser: &mut C,
+) -> Result<Found, Halt>
+    requires built { IsBuiltPlan plan }
+    requires of { All (AllBelong (R.sig ring.now)) r.now.rows }
+    // It is right, and what the plan answers by the choices given; or these lead the plan to the halt.
+    ensures right { IfOk result (IsRightFound (R.sig ring.now) (plain r.now)) }
+    ensures answered { IfOk result (IsFoundBy (R.sig ring.now) (plain r.now) C.allows C.allows_spent plan (C.given chooser.old) (C.given chooser.new)) }
+    ensures halts { IfErr result (IsHaltedBy (R.sig ring.now) (plain r.now) C.allows C.allows_spent plan (C.given chooser.old) (C.given chooser.new) (C.settings chooser.new)) }
+    ensures afforded { AreAfforded (C.given chooser.old) (C.settings chooser.old).budget → AreAfforded (C.given chooser.new) (C.settings chooser.new).budget }
+    ensures settings { C.settings chooser.new ≡ C.settings chooser.old }
+{
+    match plan {
+        Plan::KernelLeft => certified(kernel_certificate(ring, alloc, Side::Left, r, chooser)),
+        Plan::KernelRight => certified(kernel_certificate(ring, alloc, Side::Right, r, chooser)),
+        Plan::InverseLeft => certified(left_certificate(ring, alloc, r, chooser)),
+        Plan::InverseRight => certified(right_certificate(ring, alloc, r, chooser)),
+        Plan::Adjoint => transposed(transpose_adjoint(ring, alloc, r)),
+        Plan::Analyse => unreachable!(),
+        Plan::Resolve(_) => unreachable!(),
+        Plan::Ext(_) => unreachable!(),
+    }
+}
+
+// A certificate as what is found.
+fn certified(answer: Result<Certificate, Halt>) -> Result<Found, Halt>
+    ensures { result ≡ certified_of answer }
+{
+    Ok(Found::Certified(answer?))
+}
+
+// The transposed adjoint as what is found. Where it stops, forced work does.
+fn transposed(answer: Result<Matrix, RingStop>) -> Result<Found, Halt>
+    ensures { result ≡ transposed_of answer }
+{
+    Ok(Found::Transposed(answer?))
+}
