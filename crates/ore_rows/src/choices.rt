@@ -1,7 +1,7 @@
 //! What a run does with its pairs of basis rows, one after another, which of that a rule allows, and what the syzygies
 //! come from.
 
-ghost use Rattle.std.specs.Prelude.{◌≡◌, ◌<◌, ℕ, Bool, List, length, slice_get};
+ghost use Rattle.std.specs.Prelude.{◌≡◌, ◌<◌, ◌^◌, ℕ, Bool, List, length, slice_get};
 ghost use Rattle.ore_rows.specs.declared.choices.Choice as choices;
 ghost use Rattle.ore_rows.specs.Shown.{Shown};
 
@@ -68,7 +68,8 @@ impl Choices {
 
     /// The number of choices.
     pub fn len(&self) -> usize
-        ensures { result ≡ length self.now }
+        ensures count { result ≡ length self.now }
+        ensures few { result < 2 ^ 63 }
     {
         self.items.len()
     }
@@ -114,7 +115,8 @@ impl Runs {
 
     /// The number of runs.
     pub fn len(&self) -> usize
-        ensures { result ≡ length self.now }
+        ensures count { result ≡ length self.now }
+        ensures few { result < 2 ^ 63 }
     {
         self.items.len()
     }

@@ -1,6 +1,6 @@
 //! Steps of a lead reduction.
 
-ghost use Rattle.std.specs.Prelude.{◌≡◌, ◌<◌, length, slice_get};
+ghost use Rattle.std.specs.Prelude.{◌≡◌, ◌<◌, ◌^◌, length, slice_get};
 
 use ore_monomial::Exps;
 use ore_rational::Rational;
@@ -65,7 +65,8 @@ impl Steps {
 
     /// The number of steps.
     pub fn len(&self) -> usize
-        ensures { result ≡ length self.now }
+        ensures count { result ≡ length self.now }
+        ensures few { result < 2 ^ 63 }
     {
         self.items.len()
     }

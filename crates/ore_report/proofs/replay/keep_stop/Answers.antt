@@ -8,4 +8,4 @@ use Rattle.ore_report.proofs.replay.keep_stop.Goals as goal
 pub returns-then-len-eq0 : goal.returns-then-len-eq0
 returns-then-len-eq0 c =
     sym (ap (λ stop. kept_with c.args.kept.now (stop_as stop)) c.in-Treat.is
-    ∙ none_with c.args.kept.now (Treat c.in-Treat.i c.in-Treat.j) (sym (ap length c.runs.ensures) ∙ sym c.len.ensures ∙ c.if-len-eq0.true))
+    ∙ none_with c.args.kept.now (Treat c.in-Treat.i c.in-Treat.j) (sym (ap length c.runs.ensures) ∙ sym c.len.ensures.count ∙ c.if-len-eq0.true))
