@@ -6,3 +6,4 @@ pub mod MadeFormats
 pub mod WholeLaws
 pub mod ReadingLaws
 pub mod WrittenCertificates
+pub mod StorableParts

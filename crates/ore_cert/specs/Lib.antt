@@ -7,3 +7,4 @@ pub mod ReportFormats
 pub mod WholeFormats
 pub mod CertificateLaws
 pub mod CourseReport
+pub mod Storable

@@ -29,6 +29,7 @@ mod line_words;
 pub mod print_whole;
 pub mod report;
 mod report_lines;
+pub mod storable;
 pub mod whole;
 
 pub use certificate::{Certificate, Side};
@@ -40,4 +41,5 @@ pub use ore_parts::{
 };
 pub use print_whole::{print_brief, print_certificate};
 pub use report::{Cause, Plan, Report, Stop};
+pub use storable::law_certificate_is_storable;
 pub use whole::read_certificate;
