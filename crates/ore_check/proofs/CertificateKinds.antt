@@ -1,7 +1,6 @@
 -- A certificate that passes the check is valid and true.
 --     check_shows_valid        it is valid, within whatever limits it is checked
 --     check_means              so it is true
---     no_report                a certificate that is checked so far is no report
 --     at_kind                  what is judged of a kind is judged of a certificate of the kind
 --     controllable_free        a true controllable certificate says that its matrix leaves no torsion
 --     torsion_outside          one with a true autonomous certificate leaves some
@@ -19,12 +18,12 @@ use Rattle.ore_rows.proofs.RowLaws as Rows
 use Rattle.ore_rows.proofs.RowModules.{length-module}
 use Rattle.ore_rows.proofs.StoredRows.{row_of_stored}
 use Rattle.ore_cert.specs.declared.certificate.Certificate.{Certificate}
-use Rattle.ore_cert.specs.declared.certificate.Certificate.TheVariants.{Controllable, AutonomousElement, LeftInverse, RightInverse, NoLeftInverse, NoRightInverse, Kernel, Resolution, ExtZero, ExtNonzero, Halted}
+use Rattle.ore_cert.specs.declared.certificate.Certificate.TheVariants.{Controllable, AutonomousElement}
 use Rattle.ore_cert.specs.CertificateOf.{IsCertificateOf}
 use Rattle.ore_blocks.specs.declared.refusal.Refusal.{Refusal}
 use Rattle.ore_blocks.specs.Judging.{Judges}
 use Rattle.ore_blocks.specs.CheckBlock.{RowMatrix}
-use Rattle.ore_check.specs.Check.{check, IsBuilt, IsNoReport}
+use Rattle.ore_check.specs.Check.{check, IsNoReport}
 use Rattle.ore_check.specs.Meaning.{Means}
 use Rattle.ore_check.specs.Valid.{IsValid}
 use Rattle.ore_check.specs.Laws.{IsControllable, IsAutonomous}
@@ -42,19 +41,6 @@ module _ (l : Limits) (s : Signature) (r : RowMatrix) (long : AreLong rationals 
   check_means h = valid_means s r c long of (check_shows_valid h)
 
 -- ---- kinds
-
-pub no_report : (c : Certificate) → IsBuilt c → IsNoReport c
-no_report (Controllable q block) built = tt
-no_report (AutonomousElement element operator cofactor block) built = tt
-no_report (LeftInverse m) built = tt
-no_report (RightInverse m) built = tt
-no_report (NoLeftInverse unit block) built = tt
-no_report (NoRightInverse unit block) built = tt
-no_report (Kernel side generators block) built = tt
-no_report (Resolution links) built = absurd built
-no_report (ExtZero links block) built = absurd built
-no_report (ExtNonzero links element block) built = absurd built
-no_report (Halted report) built = absurd built
 
 pub at_kind : (s : Signature) (r : RowMatrix) (c kind : Certificate) (judged : Result (Unit {0}) Refusal) → c ≡ kind → ((claims : IsNoReport kind) → Judges (λ u. u) judged (check program s r kind claims))
     → (claims : IsNoReport c) → Judges (λ u. u) judged (check program s r c claims)

@@ -17,3 +17,6 @@ pub mod ValidKinds
 pub mod ValidMeans
 pub mod ValidAnswers
 pub mod FormedIdentities
+pub mod LinkConditions
+pub mod SameLines
+pub mod NonZeroSteps

@@ -8,7 +8,6 @@
 --     capped                     a line, as a number below 2^64
 --     answer_at, answer_of       the answer: valid, or the first line that isn't right
 --     Answers                    what was answered, where there was memory
---     IsBuilt                    the kinds that are checked so far
 use Rattle.std.specs.Prelude.{◌≡◌, ℕ, suc, not, ◌&&◌, nat_eq, nat_lt, nat_le, cond, List, [], ◌∷◌, length}
 use Rattle.std.specs.declared.result.Result.{Result}
 use Rattle.std.specs.declared.result.Result.TheVariants.{Ok, Err}
@@ -137,11 +136,3 @@ answer_of line (Err failing) = answer_at (line failing.place) failing.trouble
 abbrev pub Answers : (Place → ℕ) → Answer → Checked (Unit {0}) → Type 0
 Answers line answer.Memory checked = Unit {0}
 Answers line given checked = given ≡ answer_of line checked
-
--- all kinds but resolutions, extension modules and reports
-abbrev pub IsBuilt : Certificate → Type 0
-IsBuilt (Resolution links) = ⊥
-IsBuilt (ExtZero links block) = ⊥
-IsBuilt (ExtNonzero links element block) = ⊥
-IsBuilt (Halted report) = ⊥
-IsBuilt certificate = Unit {0}

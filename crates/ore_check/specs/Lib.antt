@@ -9,3 +9,4 @@ pub mod InnerContracts
 pub mod PlanLaws
 pub mod Valid
 pub mod ValidLaws
+pub mod NonZeroSteps

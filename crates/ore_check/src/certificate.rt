@@ -13,7 +13,7 @@ ghost use Rattle.ore_ring.specs.Belongs.{Belongs};
 ghost use Rattle.ore_rows.specs.Stored.{sums_of};
 ghost use Rattle.ore_rows.specs.Rows.{InRowModule, IsExact};
 ghost use Rattle.ore_rows.specs.Stored.{rows_of};
-ghost use Rattle.ore_check.specs.Check.{Answers, IsBuilt, IsNoReport, capped, check};
+ghost use Rattle.ore_check.specs.Check.{Answers, IsNoReport, capped, check};
 ghost use Rattle.ore_check.specs.InnerContracts.{place_of};
 ghost use Rattle.ore_check.specs.Meaning.{Means};
 ghost use Rattle.ore_check.specs.Layout.{exact_line, line_in, outside_line};
@@ -22,6 +22,7 @@ ghost use Rattle.ore_blocks.specs.Conditions as conditions;
 ghost use Rattle.ore_blocks.specs.Judging.{Judges, Refuses};
 
 use crate::answer::Checked;
+use crate::extensions::{extension_nonzero, extension_zero, resolution};
 use crate::formed::{scaled, transposed_adjoint};
 use crate::layout::{exact_line, line_in, outside_line};
 use ore_blocks::equal::{are_same, have_same_rows};
@@ -37,13 +38,12 @@ use std::alloc::Global;
 /// Whether a certificate of the matrix `r` is valid, or the first line of its text that isn't right, from 1: the line of
 /// the first place whose condition fails, or of which an operation stops. Where it is valid, what it says of `r` is true.
 ///
-/// The operators of both are of the signature of the ring. A resolution, a certificate of an extension module and a
-/// report must not be handed in: their check isn't built yet. The certificate may have any sizes: that they fit `r` is
-/// a condition of its lines.
+/// The operators of both are of the signature of the ring. A report must not be handed in: it claims nothing of `r`. The
+/// certificate may have any sizes: that they fit `r` is a condition of its lines.
 pub fn check<R: OreRing>(ring: &R, alloc: Global, r: &Matrix, cert: &Certificate) -> Checked
     requires of { All (All (Belongs (R.sig ring.now))) r.now.rows }
     requires cert_of { IsCertificateOf (R.sig ring.now) cert.now }
-    requires built { IsBuilt cert.now }
+    requires claims { IsNoReport cert.now }
     ensures answers { (claims : IsNoReport cert.now) → Answers (line_in cert.now) result (check program (R.sig ring.now) (plain r.now) cert.now claims) }
     ensures valid { result ≡ Checked.Valid → Means (R.sig ring.now) (plain r.now) cert.now }
 {
@@ -110,10 +110,10 @@ pub fn check_outside<R: OreRing>(
     }
 }
 
-// The answer to a refusal, whose place has that line.
+// The answer to a refusal, whose place has that line, or both are past 2^64 - 1.
 fn answer(refusal: Refusal, line: u128) -> Checked
     ensures fails { result ≢ Checked.Valid }
-    ensures answers { (at : Place → ℕ) (given : conditions.Checked (Unit {0})) → line ≡ at (place_of refusal) → Refuses refusal given → Answers at result given }
+    ensures answers { (at : Place → ℕ) (given : conditions.Checked (Unit {0})) → capped line ≡ capped (at (place_of refusal)) → Refuses refusal given → Answers at result given }
 {
     match refusal {
         Refusal::Fails { reason, .. } => Checked::Invalid {
@@ -153,7 +153,7 @@ fn capped(line: u128) -> u64
 fn whole<R: OreRing>(ring: &R, alloc: Global, r: &Matrix, cert: &Certificate) -> Result<(), Refusal>
     requires of { All (All (Belongs (R.sig ring.now))) r.now.rows }
     requires cert_of { IsCertificateOf (R.sig ring.now) cert.now }
-    requires built { IsBuilt cert.now }
+    requires claims { IsNoReport cert.now }
     ensures { (claims : IsNoReport cert.now) → Judges (λ u. u) result (check program (R.sig ring.now) (plain r.now) cert.now claims) }
 {
     match cert {
@@ -175,9 +175,13 @@ fn whole<R: OreRing>(ring: &R, alloc: Global, r: &Matrix, cert: &Certificate) ->
             generators,
             block,
         } => kernel(ring, alloc, r, *side, generators, block),
-        Certificate::Resolution { .. } => unreachable!(),
-        Certificate::ExtZero { .. } => unreachable!(),
-        Certificate::ExtNonzero { .. } => unreachable!(),
+        Certificate::Resolution { links } => resolution(ring, alloc, r, links),
+        Certificate::ExtZero { links, block } => extension_zero(ring, alloc, r, links, block),
+        Certificate::ExtNonzero {
+            links,
+            element,
+            block,
+        } => extension_nonzero(ring, alloc, r, links, element, block),
         Certificate::Halted { .. } => unreachable!(),
     }
 }

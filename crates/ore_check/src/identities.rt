@@ -7,7 +7,7 @@ ghost use Rattle.ore_monomial.specs.Gives.{Gives};
 ghost use Rattle.ore_ring.specs.Belongs.{Belongs};
 ghost use Rattle.ore_cert.specs.CertificateOf.{IsCertificateOf};
 ghost use Rattle.ore_blocks.specs.CheckBlock.{plain};
-ghost use Rattle.ore_check.specs.Check.{IsBuilt, IsNoReport, check};
+ghost use Rattle.ore_check.specs.Check.{IsNoReport, check};
 ghost use Rattle.ore_check.specs.InnerContracts.{stop_of};
 ghost use Rattle.ore_check.specs.Plans.{formed_as};
 
@@ -22,7 +22,7 @@ use std::alloc::Global;
 /// Forms the identities that the check of a certificate of the matrix `r` calls for: the last work of every search for a
 /// certificate. A condition that fails is passed over; of a certificate that a search finds none does.
 ///
-/// The operators of both are of the signature of the ring, and the certificate of a kind that is checked.
+/// The operators of both are of the signature of the ring, and the certificate is no report.
 ///
 /// # Errors
 /// The stop of the first operation that stops, and want of memory.
@@ -34,7 +34,7 @@ pub fn form_identities<R: OreRing>(
 ) -> Result<(), RingStop>
     requires of { All (All (Belongs (R.sig ring.now))) r.now.rows }
     requires cert_of { IsCertificateOf (R.sig ring.now) cert.now }
-    requires built { IsBuilt cert.now }
+    requires claims { IsNoReport cert.now }
     ensures formed { (claims : IsNoReport cert.now) → Gives (λ _. cert.now) result (formed_as cert.now (check program (R.sig ring.now) (plain r.now) cert.now claims)) }
 {
     stop_of(check(ring, alloc, r, cert))

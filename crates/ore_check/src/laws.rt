@@ -5,6 +5,7 @@
 
 ghost use Rattle.ore_check.specs.Laws.{CheckIsTrue, ExactIsTorsionFree, HasOneVerdict, LastLineIsEnd, PartsBeginAtLines, RightKernelIsExact};
 ghost use Rattle.ore_algebra.specs.Limits.{program};
+ghost use Rattle.ore_check.specs.NonZeroSteps.{PlansFormNonZeroSteps};
 ghost use Rattle.ore_check.specs.PlanLaws.{AdjointHasItsReport, ExtFormsRight, FormsRight, NoReportIsNone, ReportIsTrueIfValid, ResolveFormsRight};
 ghost use Rattle.ore_check.specs.Plans.{analyse, inverse_left, inverse_right, kernel_left, kernel_right};
 ghost use Rattle.ore_check.specs.ValidLaws.{CheckAtMost, CheckIsValid, CheckShowsValid, ValidIsNotInvalid, ValidIsTrue, ValidPasses};
@@ -111,4 +112,9 @@ pub fn law_verdicts_formed(sig: &Signature)
 /// The certificates that plan ext forms are true, and the check accepts them.
 pub fn law_extensions_formed(sig: &Signature)
     ensures { ExtFormsRight sig.now }
+{}
+
+/// No step of a certificate that a plan forms multiplies by zero.
+pub fn law_steps_formed(sig: &Signature)
+    ensures { PlansFormNonZeroSteps sig.now }
 {}

@@ -4,9 +4,10 @@
 
 ghost use Rattle.std.specs.Prelude.{◌≡◌, ◌+◌, ◌<◌, ◌≤◌, ◌^◌, suc, [], length};
 ghost use Rattle.ore_check.specs.Layout.{entry_lines, exact_layout, exact_line, inverse_layout, line_in, line_of, lines_before, outside_layout, outside_line, start_of};
-ghost use Rattle.ore_check.specs.Check.{IsBuilt};
+ghost use Rattle.ore_check.specs.Check.{IsNoReport, capped};
 ghost use Rattle.ore_check.specs.InnerContracts.{IsLow};
 
+use crate::link_lines::{nonzero_line, resolution_line, zero_line};
 use ore_blocks::{Name, Place};
 use ore_cert::{Certificate, ExactBlock, OutsideBlock, PairEntry, Pairs};
 use ore_rows::Matrix;
@@ -35,11 +36,10 @@ pub struct Layout {
     pub end: u128,
 }
 
-/// The line of a place of a certificate, from 1. A resolution, a certificate of an extension module and a report must
-/// not be handed in.
+/// The line of a place of a certificate, from 1; of a line past 2^64 - 1, that it is. A report must not be handed in.
 pub fn line_in(alloc: Global, cert: &Certificate, place: Place) -> u128
-    requires built { IsBuilt cert.now }
-    ensures { result ≡ line_in cert.now place }
+    requires claims { IsNoReport cert.now }
+    ensures { capped result ≡ capped (line_in cert.now place) }
 {
     match cert {
         Certificate::Controllable { q, block } => exact_line(behind(3, q), block, place),
@@ -53,9 +53,9 @@ pub fn line_in(alloc: Global, cert: &Certificate, place: Place) -> u128
             block,
             ..
         } => exact_line(behind(3, generators), block, place),
-        Certificate::Resolution { .. } => unreachable!(),
-        Certificate::ExtZero { .. } => unreachable!(),
-        Certificate::ExtNonzero { .. } => unreachable!(),
+        Certificate::Resolution { links } => resolution_line(links, place),
+        Certificate::ExtZero { links, block } => zero_line(links, block, place),
+        Certificate::ExtNonzero { links, block, .. } => nonzero_line(links, block, place),
         Certificate::Halted { .. } => unreachable!(),
     }
 }
@@ -65,7 +65,7 @@ pub fn exact_line(first: u128, block: &ExactBlock, place: Place) -> u128
     requires low { first < 2 ^ 66 }
     ensures { result ≡ exact_line first block.now place }
 {
-    line_of(&exact_layout(first, block), &block.pairs, place)
+    line_of(&exact_layout(3, first, block), &block.pairs, place)
 }
 
 /// The line of a place of an outside block that begins at a line.
@@ -73,7 +73,7 @@ pub fn outside_line(first: u128, block: &OutsideBlock, place: Place) -> u128
     requires low { first < 2 ^ 66 }
     ensures { result ≡ outside_line first block.now place }
 {
-    line_of(&outside_layout(first, block), &block.pairs, place)
+    line_of(&outside_layout(3, first, block), &block.pairs, place)
 }
 
 // The line of a place of an inverse.
@@ -94,10 +94,11 @@ fn inverse_line(alloc: Global, s: &Matrix, place: Place) -> u128
     line_of(&layout, &Pairs::from_vec(Vec::new(alloc)), place)
 }
 
-// The layout of a section with an exact block at a line.
-fn exact_layout(block_line: u128, block: &ExactBlock) -> Layout
-    requires low { block_line < 2 ^ 66 }
-    ensures value { result ≡ exact_layout 3 block_line block.now }
+/// The layout of a section with its claim at a line, and an exact block at another.
+pub fn exact_layout(claim: u128, block_line: u128, block: &ExactBlock) -> Layout
+    requires claim { claim < 2 ^ 66 }
+    requires low { block_line < 2 ^ 67 }
+    ensures value { result ≡ exact_layout claim block_line block.now }
     ensures low { IsLow result }
 {
     let from = behind(block_line + 1, &block.basis);
@@ -105,7 +106,7 @@ fn exact_layout(block_line: u128, block: &ExactBlock) -> Layout
     let pairs = behind(to, &block.to);
     let inside = pairs + 1 + lines_before(&block.pairs, block.pairs.len());
     Layout {
-        claim: 3,
+        claim,
         block: block_line,
         from,
         to,
@@ -117,10 +118,11 @@ fn exact_layout(block_line: u128, block: &ExactBlock) -> Layout
     }
 }
 
-// The layout of a section with an outside block at a line.
-fn outside_layout(block_line: u128, block: &OutsideBlock) -> Layout
-    requires low { block_line < 2 ^ 66 }
-    ensures value { result ≡ outside_layout 3 block_line block.now }
+/// The layout of a section with its claim at a line, and an outside block at another.
+pub fn outside_layout(claim: u128, block_line: u128, block: &OutsideBlock) -> Layout
+    requires claim { claim < 2 ^ 66 }
+    requires low { block_line < 2 ^ 67 }
+    ensures value { result ≡ outside_layout claim block_line block.now }
     ensures low { IsLow result }
 {
     let from = behind(block_line + 1, &block.basis);
@@ -128,7 +130,7 @@ fn outside_layout(block_line: u128, block: &OutsideBlock) -> Layout
     let steps = pairs + 1 + lines_before(&block.pairs, block.pairs.len());
     let rest = steps + 1 + block.quotients.len() as u128;
     Layout {
-        claim: 3,
+        claim,
         block: block_line,
         from,
         to: 0,
@@ -140,8 +142,8 @@ fn outside_layout(block_line: u128, block: &OutsideBlock) -> Layout
     }
 }
 
-// The line of a place, by the layout and the pairs of its section.
-fn line_of(layout: &Layout, pairs: &Pairs, place: Place) -> u128
+/// The line of a place, by the layout and the pairs of its section.
+pub fn line_of(layout: &Layout, pairs: &Pairs, place: Place) -> u128
     requires low { IsLow layout.now }
     ensures { result ≡ line_of layout.now pairs.now place }
 {
@@ -177,8 +179,8 @@ fn start_of(layout: &Layout, name: Name) -> u128
     }
 }
 
-// The line behind a matrix that begins at a line.
-fn behind(line: u128, m: &Matrix) -> u128
+/// The line behind a matrix that begins at a line.
+pub fn behind(line: u128, m: &Matrix) -> u128
     requires low { line < 2 ^ 127 + 2 ^ 75 }
     ensures value { result ≡ line + suc (length m.now.rows) }
     ensures low { result ≤ line + 2 ^ 64 }

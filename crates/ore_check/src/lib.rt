@@ -5,16 +5,16 @@
 //! What each kind of certificate asks stands in `specs/Check.antt`, what its blocks ask in
 //! `ore_blocks/specs/CheckBlock.antt`, and which line a place has in `specs/Layout.antt`, alone.
 //!
-//! [`check`] answers just that for a whole certificate, but for the kinds that aren't built yet (`IsBuilt` of
-//! `specs/Check.antt`; of a report there is nothing to answer), [`check_exact`] and [`check_outside`] for a block. Where
-//! a block is valid their clauses say what it shows. The laws of [`laws`] say what follows for whole certificates, over
-//! numbers of any size: a valid certificate is true by its meaning (`specs/Meaning.antt`), which speaks of rows alone.
-//! They also say which certificates are valid (`specs/Valid.antt`, `specs/ValidLaws.antt`): without limits just those that
-//! pass, of all kinds but reports; and within limits no condition of a valid one fails, but an operation may stop.
+//! [`check`] answers just that for a whole certificate of any kind but a report, which claims nothing of a matrix, and
+//! [`check_exact`] and [`check_outside`] for a block. Where a block is valid their clauses say what it shows. The laws of
+//! [`laws`] say what follows for whole certificates, over numbers of any size: a valid certificate is true by its meaning
+//! (`specs/Meaning.antt`), which speaks of rows alone. They also say which certificates are valid (`specs/Valid.antt`,
+//! `specs/ValidLaws.antt`): without limits just those that pass, of all kinds but reports; and within limits no condition
+//! of a valid one fails, but an operation may stop.
 //!
 //! Inside, each function answers a value or a refusal, which names its place (`ore_blocks/specs/Judging.antt`). Lines
-//! are counted in 128 bits, which no certificate in memory passes, and the answer has 2^64 - 1 for any greater. The
-//! functions ask that all operators that they are handed are of the signature of the ring.
+//! are counted in 128 bits, those behind a link up to 2^65, and the answer has 2^64 - 1 for any line past that number.
+//! The functions ask that all operators that they are handed are of the signature of the ring.
 //!
 //! `specs/Plans.antt` has the plans of the commands: what each does with the matrix of a problem, in order, as a course
 //! of forced work and runs (`ore_course`) that ends with forming the identities of its certificate. `specs/Reports.antt`
@@ -28,10 +28,13 @@
 
 pub mod answer;
 pub mod certificate;
+mod extensions;
 mod formed;
 pub mod identities;
 pub mod laws;
 mod layout;
+mod link_lines;
+pub mod links;
 
 pub use answer::Checked;
 pub use certificate::{check, check_exact, check_outside};

@@ -9,7 +9,7 @@ ghost use Rattle.ore_cert.specs.CertificateOf.{IsCertificateOf};
 ghost use Rattle.ore_blocks.specs.CheckBlock.{plain};
 ghost use Rattle.ore_groebner.specs.Choosing.{AreAfforded};
 ghost use Rattle.ore_groebner.specs.Courses.{FollowsTo, HaltsIn};
-ghost use Rattle.ore_check.specs.Check.{IsBuilt, IsNoReport, check};
+ghost use Rattle.ore_check.specs.Check.{IsNoReport, check};
 ghost use Rattle.ore_check.specs.PlanLaws.{IsRight};
 ghost use Rattle.ore_check.specs.Plans.{formed_as, inverse_left, inverse_right};
 ghost use Rattle.ore_inverse.specs.Inverses.{IsOfLeftInverse, IsOfRightInverse, NamesFirstUnit};
@@ -112,7 +112,7 @@ fn formed<R: OreRing>(
 ) -> Result<Certificate, RingStop>
     requires of { All (All (Belongs (R.sig ring.now))) r.now.rows }
     requires cert_of { IsCertificateOf (R.sig ring.now) cert }
-    requires built { IsBuilt cert }
+    requires claims { IsNoReport cert }
     ensures formed { (claims : IsNoReport cert) → Gives (λ c. c) result (formed_as cert (check program (R.sig ring.now) (plain r.now) cert claims)) }
     ensures same { IfOk result (λ c. c ≡ cert) }
 {

@@ -4,7 +4,7 @@ use Rattle.ore_rows.specs.Stored.{HasColumns}
 use Rattle.ore_parts.specs.OfSignature.{MatrixOf}
 use Rattle.ore_blocks.specs.CheckBlock.{plain}
 use Rattle.ore_blocks.proofs.Converted.{wide_rows}
-use Rattle.ore_check.proofs.CertificateKinds.{check_means, no_report}
+use Rattle.ore_check.proofs.CertificateKinds.{check_means}
 use Rattle.ore_check.proofs.certificate.check.Goals as goal
 
 pub returns-in_default-clause-valid : goal.returns-in_default-clause-valid
@@ -13,7 +13,7 @@ returns-in_default-clause-valid g c = λ e.
     let r = c.args.r.now in
     let columns = subst (λ n. HasColumns n r.rows) c.cols-cols.ensures.value c.cols-cols.ensures.fits in
     let of : MatrixOf s r = record { columns = columns; of = c.requires.of } in
-    let claims = no_report c.args.cert.now c.requires.built in
+    let claims = c.requires.claims in
     check_means program s (plain r) (wide_rows s r of) c.args.cert.now c.requires.cert_of claims (c.in_default.ensures claims)
 
 pub returns-clause-valid : goal.returns-clause-valid

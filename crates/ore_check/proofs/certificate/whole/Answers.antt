@@ -22,3 +22,12 @@ returns-in-NoRightInverse g c = at_kind (g.R.OreRing.sig c.args.ring.now) (plain
 
 pub returns-in-Kernel : goal.returns-in-Kernel
 returns-in-Kernel g c = at_kind (g.R.OreRing.sig c.args.ring.now) (plain c.args.r.now) c.args.cert.now _ c.kernel.result c.in-Kernel.is (λ claims. c.kernel.ensures)
+
+pub returns-in-Resolution : goal.returns-in-Resolution
+returns-in-Resolution g c = at_kind (g.R.OreRing.sig c.args.ring.now) (plain c.args.r.now) c.args.cert.now _ c.resolution.result c.in-Resolution.is (λ claims. c.resolution.ensures)
+
+pub returns-in-ExtZero : goal.returns-in-ExtZero
+returns-in-ExtZero g c = at_kind (g.R.OreRing.sig c.args.ring.now) (plain c.args.r.now) c.args.cert.now _ c.extension_zero.result c.in-ExtZero.is (λ claims. c.extension_zero.ensures)
+
+pub returns-in-ExtNonzero : goal.returns-in-ExtNonzero
+returns-in-ExtNonzero g c = at_kind (g.R.OreRing.sig c.args.ring.now) (plain c.args.r.now) c.args.cert.now _ c.extension_nonzero.result c.in-ExtNonzero.is (λ claims. c.extension_nonzero.ensures)
