@@ -104,8 +104,11 @@ fn reduce_row<R: OreRing>(
     reduce(ring, alloc, basis, copy, zeros)
 }
 
-// The row of `n` zeros.
-fn zero_row(alloc: Global, sig: &Signature, n: usize) -> Result<Row, NoMemory>
+/// The row of `n` zeros.
+///
+/// # Errors
+/// Want of memory.
+pub fn zero_row(alloc: Global, sig: &Signature, n: usize) -> Result<Row, NoMemory>
     ensures value { IfOk result (λ r. sums_of r ≡ zero_row rationals n) }
     ensures width { IfOk result (λ r. length r ≡ n) }
     ensures of { IfOk result (All (Belongs sig.now)) }
@@ -113,8 +116,11 @@ fn zero_row(alloc: Global, sig: &Signature, n: usize) -> Result<Row, NoMemory>
     unit_row(alloc, sig, n, n)
 }
 
-// The opposite of each entry.
-fn negated<R: OreRing>(ring: &R, alloc: Global, row: &Row) -> Result<Row, RingStop>
+/// The opposite of each entry of a row, whose entries are of the signature of the ring.
+///
+/// # Errors
+/// Want of memory.
+pub fn negated<R: OreRing>(ring: &R, alloc: Global, row: &Row) -> Result<Row, RingStop>
     requires { All (Belongs (R.sig ring.now)) row.now }
     ensures value { IfOk result (λ r. sums_of r ≡ plain.negated rationals (sums_of row.now)) }
     ensures width { IfOk result (λ r. length r ≡ length row.now) }

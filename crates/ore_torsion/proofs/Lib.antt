@@ -1,0 +1,4 @@
+pub mod FirstRows
+pub mod FormedVerdicts
+pub mod KernelRows
+pub mod FollowedAnalysis
