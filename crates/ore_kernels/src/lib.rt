@@ -12,7 +12,7 @@
 //! certificates, on `ore_groebner` for choosers and halts, and on `ore_rows` and below for matrices.
 #![tactic(auto)]
 
-mod block;
+pub mod block;
 pub mod finding;
 
 pub use finding::kernel_certificate;

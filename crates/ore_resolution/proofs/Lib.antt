@@ -1,0 +1,2 @@
+pub mod FollowedLinks
+pub mod FollowedExtension
