@@ -1,8 +1,10 @@
 -- What a search by a plan finds, and why it halts.
 --     certified-right, transposed-right     a certificate that is found is right; the transposed adjoint is of the signature
+--     certified-any                         what holds of every certificate holds of it
 --     certified-found, transposed-found     the plan asked for answers it
 --     certified-halts, transposed-halts     that plan halts so
-use Rattle.std.proofs.Common.{◌≡◌, ℕ, Bool, List, length, IfOk, IfErr, sym, ◌∙◌, subst}
+--     search-reported                       the report of the halt of a search is honest
+use Rattle.std.proofs.Common.{◌≡◌, ℕ, Bool, List, [], length, IfOk, IfErr, sym, ◌∙◌, subst}
 use Rattle.std.specs.List.{All}
 use Rattle.std.specs.declared.result.Result.{Result}
 use Rattle.std.specs.declared.result.Result.TheVariants.{Ok, Err}
@@ -11,7 +13,7 @@ use Rattle.ore_algebra.specs.Limits.{program}
 use Rattle.ore_course.specs.Choices.{Runner}
 use Rattle.ore_course.specs.Following.{Follows}
 use Rattle.ore_course.specs.Leading.{Rule}
-use Rattle.ore_course.proofs.Calls.{started, worked_last}
+use Rattle.ore_course.proofs.Calls.{started, worked_last, halt_reported}
 use Rattle.ore_rational.proofs.FractionLaws.{rationals}
 use Rattle.ore_monomial.specs.Gives.{Gives}
 use Rattle.ore_monomial.specs.Signature.{Signature}
@@ -28,16 +30,17 @@ use Rattle.ore_cert.specs.declared.certificate.Certificate.{Certificate}
 use Rattle.ore_cert.specs.declared.report.Plan.{Plan}
 use Rattle.ore_cert.specs.declared.report.Plan.TheVariants as plan
 use Rattle.ore_blocks.specs.CheckBlock.{RowMatrix, plain}
-use Rattle.ore_blocks.specs.KernelCourse.{RunCourse, transposed_adjoint_within}
-use Rattle.ore_groebner.specs.Choosing.{Settings}
-use Rattle.ore_groebner.specs.Courses.{FollowsTo}
+use Rattle.ore_blocks.specs.KernelCourse.{transposed_adjoint_within}
+use Rattle.ore_groebner.specs.Choosing.{Settings, AreAfforded}
+use Rattle.ore_groebner.specs.Courses.{FollowsTo, halt_of}
 use Rattle.ore_groebner.specs.declared.outcome.Halt.{Halt}
 use Rattle.ore_groebner.proofs.EngineCalls.{work_halts_last}
 use Rattle.ore_syzygy.proofs.FollowedKernels.{adjoint_value, adjoint_stop}
 use Rattle.ore_check.specs.PlanLaws.{IsRight}
 use Rattle.ore_check.specs.Plans.{AnswerOf, adjoint}
-use Rattle.ore_check.specs.Reports.{plan_course}
-use Rattle.ore_commands.specs.Search.{certified_of, transposed_of, IsFoundOf, IsFoundBy, IsHaltedBy, IsRightFound}
+use Rattle.ore_check.specs.Reports.{program_runner, plan_course}
+use Rattle.ore_commands.specs.Search.{certified_of, transposed_of, IsFoundOf, IsFoundBy, IsHaltedBy, IsReportedBy, IsOfPlan, IsRightFound}
+use Rattle.ore_commands.proofs.Searches.{none_treated}
 use Rattle.ore_commands.specs.declared.found.Found.{Found}
 use Rattle.ore_commands.specs.declared.found.Found.TheVariants.{Certified}
 
@@ -57,9 +60,22 @@ module _ (answer : Result Certificate Halt) (result : Result Found Halt) (is : r
       by (Ok c) h = tt
       by (Err halt) h = h
 
+  -- what holds of every certificate
+  pub certified-any : (P : Certificate → Type 0) → ((c : Certificate) → P c) → IfOk answer P
+  certified-any P f = by answer
+    where
+      by : (answer : Result Certificate Halt) → IfOk answer P
+      by (Ok c) = f c
+      by (Err halt) = tt
+
   module _ (s : Signature) (r : RowMatrix) where
-    pub certified-right : IfOk answer (IsRight s r) → IfOk result (IsRightFound s r)
-    certified-right h = ok (IsRight s r) (IsRightFound s r) (λ c right. right) h
+    pub certified-right : (asked named : Plan) → asked ≡ named → IfOk answer (IsRight s r) → IfOk answer (IsOfPlan named) → IfOk result (IsRightFound s r asked)
+    certified-right asked named e h k =
+        subst (λ p. IfOk result (IsRightFound s r p)) (sym e) (ok (λ c. IsRight s r c × IsOfPlan named c) (IsRightFound s r named) (λ c right. right) (both answer h k))
+      where
+        both : (answer : Result Certificate Halt) → IfOk answer (IsRight s r) → IfOk answer (IsOfPlan named) → IfOk answer (λ c. IsRight s r c × IsOfPlan named c)
+        both (Ok c) h k = (h, k)
+        both (Err halt) h k = tt
 
     module _ (allows : Shown → List (ℕ × ℕ) → Choice → Bool) (allows_spent : Shown → List (ℕ × ℕ) → Bool) (before given : List (List Choice)) (asked named : Plan) (same : asked ≡ named) where
       pub certified-found : (of : Certificate → AnswerOf named) → ((c : Certificate) → IsFoundOf named (of c) (Certified c)) → IfOk answer (λ c. FollowsTo s allows allows_spent (plan_course s named r) before given (of c))
@@ -83,10 +99,10 @@ module _ (s : Signature) (allows : Shown → List (ℕ × ℕ) → Choice → Bo
   begun = started runner rule (adjoint program s (plain r)) before
 
   module _ (answer : Result OperatorMatrix RingStop) (result : Result Found Halt) (is : result ≡ transposed_of answer) where
-    pub transposed-right : IfOk answer (λ m. All (AllBelong s) m.rows) → IfOk result (IsRightFound s (plain r))
-    transposed-right h = subst (λ x. IfOk x (IsRightFound s (plain r))) (sym is) (by answer h)
+    pub transposed-right : (asked : Plan) → IfOk answer (λ m. All (AllBelong s) m.rows) → IfOk result (IsRightFound s (plain r) asked)
+    transposed-right asked h = subst (λ x. IfOk x (IsRightFound s (plain r) asked)) (sym is) (by answer h)
       where
-        by : (answer : Result OperatorMatrix RingStop) → IfOk answer (λ m. All (AllBelong s) m.rows) → IfOk (transposed_of answer) (IsRightFound s (plain r))
+        by : (answer : Result OperatorMatrix RingStop) → IfOk answer (λ m. All (AllBelong s) m.rows) → IfOk (transposed_of answer) (IsRightFound s (plain r) asked)
         by (Ok m) h = h
         by (Err stop) h = tt
 
@@ -112,3 +128,11 @@ module _ (s : Signature) (allows : Shown → List (ℕ × ℕ) → Choice → Bo
           by : (answer : Result OperatorMatrix RingStop) → Gives rows_of answer (transpose_adjoint_within program s r.cols (rows_of r)) → IfErr (transposed_of answer) (IsHaltedBy s (plain r) allows allows_spent plan.Adjoint before before settings)
           by (Ok m) gives = tt
           by (Err stop) gives = work_halts_last s allows allows_spent before settings (transposed_adjoint_within program s (plain r)) stop (adjoint_stop s (plain r) stop gives) begun
+
+-- a search that began with no runs
+pub search-reported : (s : Signature) (r : RowMatrix) (allows : Shown → List (ℕ × ℕ) → Choice → Bool) (allows_spent : Shown → List (ℕ × ℕ) → Bool) (named : Plan) (before given : List (List Choice)) (old settings : Settings)
+    (result : Result Found Halt) → IfErr result (IsHaltedBy s r allows allows_spent named before given settings) → (AreAfforded before old.budget → AreAfforded given settings.budget) → before ≡ []
+    → IfErr result (IsReportedBy s r allows allows_spent named given settings.budget)
+search-reported s r allows allows_spent named before given old settings result h afforded start =
+    halt_reported (program_runner s) (rule_of s allows allows_spent) (plan_course s named r) halt_of result before given settings.budget settings.replays settings.kept h start
+    (afforded (subst (λ runs. AreAfforded runs old.budget) (sym start) (none_treated old.budget)))

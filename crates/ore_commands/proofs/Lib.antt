@@ -4,7 +4,12 @@ pub mod Verdicts
 pub mod OneVerdict
 pub mod Faultless
 pub mod SomeVerdict
+pub mod ClosedTexts
+pub mod AcceptedAnswers
 pub mod Searches
 pub mod FoundBy
 pub mod Completeness
 pub mod AdjointReplies
+pub mod ReportLines
+pub mod Replays
+pub mod WrittenRight

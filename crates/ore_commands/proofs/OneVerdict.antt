@@ -5,6 +5,7 @@
 --     front_of             the problem of such an answer
 --     AreRead, read_names  the names of a problem that was read
 --     claims_same          that a certificate is no report, twice
+--     reports_same, no_report     the report of a certificate is one; one that is no report has none
 --     checked_same, certificate_same, reply_same     two replies to a certificate, to the text behind a problem, to what was read
 --     one_verdict          two verdicts on the same bytes are the same, where no text is that of two certificates
 use Rattle.std.proofs.Common.{◌≡◌, ℕ, suc, ◌+◌, List, [], ◌∷◌, ◌++◌, length, drop, refl, sym, ap, ◌∙◌, subst, inl, inr}
@@ -21,14 +22,16 @@ use Rattle.ore_algebra.specs.Results.{◌>>=◌}
 use Rattle.ore_problem.proofs.AcceptedReads.{prefix_stands}
 use Rattle.ore_cert.specs.declared.certificate.Certificate.{Certificate}
 use Rattle.ore_cert.specs.declared.certificate.Certificate.TheVariants.{Controllable, AutonomousElement, LeftInverse, RightInverse, NoLeftInverse, NoRightInverse, Kernel, Resolution, ExtZero, ExtNonzero, Halted}
+use Rattle.ore_cert.specs.declared.report.Report.{Report}
 use Rattle.ore_cert.specs.KindWords.{kind_word}
 use Rattle.ore_cert.specs.WholeText.{certificate_text, IsWrittenCertificate, IsCertificate}
 use Rattle.ore_parts.specs.FaultyLine.{HasOneFaultyLine}
 use Rattle.ore_check.specs.Check.{check, IsNoReport}
 use Rattle.ore_check.specs.Layout.{line_in}
+use Rattle.ore_check.specs.Reports.{failing_place}
 use Rattle.ore_reply.specs.Replies.{Reply, malformed_at}
 use Rattle.ore_reply.specs.Answered.{IsReplyToRead}
-use Rattle.ore_commands.specs.Verdict.{checked_reply, matrix_of, IsCertificateReply, IsCheckedReply, HasOneVerdict}
+use Rattle.ore_commands.specs.Verdict.{checked_reply, report_reply, matrix_of, IsCertificateReply, IsCheckedReply, HasOneVerdict}
 
 abbrev pub OneCertificate : Type 0
 OneCertificate = (s : Signature) (names : List (List ℕ)) → AreNames names → length names ≡ length s.kinds → (a b : Certificate) → IsWrittenCertificate s names a → IsWrittenCertificate s names b
@@ -85,12 +88,23 @@ claims_same (ExtZero links block) a b = refl
 claims_same (ExtNonzero links element block) a b = refl
 claims_same (Halted report) a b = absurd a
 
+-- the report of a certificate
+reports_same : (c : Certificate) (r q : Report) → c ≡ Halted r → c ≡ Halted q → r ≡ q
+reports_same c r q e f = by (sym e ∙ f)
+  where
+    by : ◌≡◌ {A = Certificate} (Halted r) (Halted q) → r ≡ q
+    by h = cc
+
+no_report : (c : Certificate) (r : Report) → IsNoReport c → c ≡ Halted r → ⊥
+no_report c r h e = subst IsNoReport e h
+
 checked_same : (p : System) (lines : ℕ) (c : Certificate) (a b : Reply) → IsCheckedReply p lines c a → IsCheckedReply p lines c b → a ≡ b
 checked_same p lines c a b (inl h) (inl k) =
-    h.2 ∙ ap (λ claims. checked_reply (line_in c) lines (kind_word c) (check program p.signature (matrix_of p) c claims)) (claims_same c h.1 k.1) ∙ sym k.2
-checked_same p lines c a b (inl h) (inr k) = absurd (k.0 h.0)
-checked_same p lines c a b (inr h) (inl k) = absurd (h.0 k.0)
-checked_same p lines c a b (inr h) (inr k) = h.1 ∙ sym k.1
+    h.1 ∙ ap (λ claims. checked_reply (line_in c) lines (kind_word c) (check program p.signature (matrix_of p) c claims)) (claims_same c h.0 k.0) ∙ sym k.1
+checked_same p lines c a b (inl h) (inr k) = absurd (no_report c k.0 h.0 k.1)
+checked_same p lines c a b (inr h) (inl k) = absurd (no_report c h.0 k.0 h.1)
+checked_same p lines c a b (inr h) (inr k) =
+    h.2 ∙ ap (λ report. report_reply lines (kind_word c) report (failing_place p.signature (matrix_of p) report)) (reports_same c h.0 k.0 h.1 k.1) ∙ sym k.2
 
 module _ (unique : OneCertificate) (lines_one : OneFaultyLine) where
   certificate_same : (p : System) (lines : ℕ) (bytes : List ℕ) (a b : Reply) → AreRead p → IsCertificateReply p lines bytes a → IsCertificateReply p lines bytes b → a ≡ b

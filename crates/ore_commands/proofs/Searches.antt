@@ -1,5 +1,6 @@
 -- What a search by a live chooser has found, and the report of one that halted.
 --     right_answer     what is found is right, and so is the answer of the plan
+--     storable_answer  what is found is in range, and so is the answer
 --     same_text        it has the text of the answer
 --     none_treated     every budget allows no choices
 --     found_replied    the reply with this text
@@ -7,62 +8,58 @@
 --     stopped_not_done     no stop is answered with Done
 --     said             what is said with Done is the text of an answer that is found
 --     answered         where no report is honest, the reply is an answer
-use Rattle.std.proofs.Common.{◌≡◌, ◌≢◌, inl, inr, ℕ, ◌≤◌, List, [], ap, sym, subst, ◌∙◌, arith}
-use Rattle.std.specs.declared.result.Result.TheVariants.{Ok, Err}
+use Rattle.std.proofs.Common.{◌≡◌, ◌≢◌, inl, inr, ℕ, Bool, List, [], ap, sym, subst, ◌∙◌, arith}
 use Rattle.ore_algebra.specs.Limits.{program}
 use Rattle.ore_course.specs.Choices.{treats_in}
 use Rattle.ore_course.specs.Following.{IsReportable, report_of}
 use Rattle.ore_course.specs.Leading.{IsFormedBy}
 use Rattle.ore_course.specs.Report.{IsHonestBy, IsWithin}
-use Rattle.ore_course.proofs.Calls.{formed_within, reported}
+use Rattle.ore_course.proofs.Calls.{formed_within}
 use Rattle.ore_monomial.specs.Signature.{Signature}
-use Rattle.ore_monomial.specs.declared.stop.RingStop.TheVariants as ring_stop
-use Rattle.ore_expr.specs.declared.fault.TextFault.TheVariants as text_fault
 use Rattle.ore_rows.specs.declared.choices.Choice.{Choice}
 use Rattle.ore_problem.specs.Accepted.{Accepted}
-use Rattle.ore_problem.specs.Problems.{System, Read, problem_of}
+use Rattle.ore_problem.specs.Problems.{System}
 use Rattle.ore_problem.proofs.AcceptedReads.{reads_exactly}
 use Rattle.ore_cert.specs.CourseReport.{course_report}
+use Rattle.ore_cert.specs.Storable.{IsStorableCertificate}
 use Rattle.ore_cert.specs.declared.report.Cause.{Cause}
 use Rattle.ore_cert.specs.declared.report.Cause.TheVariants as cause
 use Rattle.ore_cert.specs.declared.report.Plan.{Plan}
 use Rattle.ore_cert.specs.declared.report.Plan.TheVariants as plan
 use Rattle.ore_cert.specs.declared.report.Report.{Report}
-use Rattle.ore_blocks.specs.CheckBlock.{RowMatrix, plain}
+use Rattle.ore_blocks.specs.CheckBlock.{RowMatrix}
 use Rattle.ore_blocks.specs.KernelCourse.{transposed_adjoint_within}
 use Rattle.ore_groebner.specs.Choosing.{AreAfforded}
 use Rattle.ore_groebner.specs.Courses.{halt_of}
 use Rattle.ore_groebner.specs.declared.outcome.Halt.{Halt}
-use Rattle.ore_check.specs.PlanLaws.{IsRight}
 use Rattle.ore_check.specs.Plans.{AnswerOf}
-use Rattle.ore_check.specs.Reports.{program_runner, plan_course, IsReportOf, HasNoReportOf}
+use Rattle.ore_check.specs.Reports.{program_runner, plan_course, IsReportOf}
 use Rattle.ore_check.proofs.FormedKernels.{formed_last, adjoint_value}
 use Rattle.ore_report.specs.ChainRule.{chain_allows, chain_allows_spent}
-use Rattle.ore_report.specs.Live.{live_settings}
 use Rattle.ore_reply.specs.Answered.{IsReplyToRead}
-use Rattle.ore_reply.specs.FaultReply.{fault_reply}
-use Rattle.ore_reply.specs.MadeReply.{IsOfBytes}
 use Rattle.ore_reply.specs.Replies.{Reply}
-use Rattle.ore_reply.specs.declared.status.Status.{Status}
 use Rattle.ore_reply.specs.declared.status.Status.TheVariants.{Done}
-use Rattle.ore_commands.specs.Finding.{live_rule, halt_status, answer_text, found_text, IsRightAnswer, IsFoundReply, IsStoppedReply, IsSearchReply, IsSearchVerdict, SaysFound, HoldsAnswer, IsUnreported}
-use Rattle.ore_commands.specs.Search.{IsFoundOf, IsFoundBy, IsHaltedBy, IsRightFound}
+use Rattle.ore_commands.specs.AcceptedAnswers.{PassesCheck}
+use Rattle.ore_commands.specs.Finding.{live_rule, halt_status, answer_text, found_text, IsRightAnswer, IsStorableAnswer, IsFoundReply, IsSearchReply, IsSearchVerdict, HoldsAnswer, IsUnreported}
+use Rattle.ore_commands.specs.Search.{IsFoundOf, IsFoundBy, IsReportedBy, IsRightFound, IsStorableFound}
 use Rattle.ore_commands.specs.Verdict.{matrix_of}
 use Rattle.ore_commands.specs.declared.found.Found.{Found}
 use Rattle.ore_commands.specs.declared.found.Found.TheVariants.{Certified, Transposed}
+use Rattle.ore_commands.specs.declared.search.Search.{Search}
+use Rattle.ore_commands.proofs.AcceptedAnswers.{passes}
 
 -- ---- answers
 
 module _ (s : Signature) (r : RowMatrix) where
-  pub right_answer : (named : Plan) (x : AnswerOf named) (found : Found) → IsFoundOf named x found → IsRightFound s r found
+  pub right_answer : (named : Plan) (x : AnswerOf named) (found : Found) → IsFoundOf named x found → IsRightFound s r named found
       → (runs : List (List Choice)) → IsFormedBy (program_runner s) (plan_course s named r) runs x → IsRightAnswer s r named x
-  right_answer plan.Analyse x (Certified c) e right runs formed = subst (IsRight s r) (sym e) right
-  right_answer plan.KernelLeft x (Certified c) e right runs formed = subst (IsRight s r) (sym e) right
-  right_answer plan.KernelRight x (Certified c) e right runs formed = subst (IsRight s r) (sym e) right
-  right_answer plan.InverseLeft x (Certified c) e right runs formed = subst (IsRight s r) (sym e) right
-  right_answer plan.InverseRight x (Certified c) e right runs formed = subst (IsRight s r) (sym e) right
-  right_answer (plan.Resolve k) x (Certified c) e right runs formed = subst (IsRight s r) (sym e) right
-  right_answer (plan.Ext k) x (Certified c) e right runs formed = subst (IsRight s r) (sym e) right
+  right_answer plan.Analyse x (Certified c) e right runs formed = subst (λ y. IsRightAnswer s r plan.Analyse y) (sym e) right
+  right_answer plan.KernelLeft x (Certified c) e right runs formed = subst (λ y. IsRightAnswer s r plan.KernelLeft y) (sym e) right
+  right_answer plan.KernelRight x (Certified c) e right runs formed = subst (λ y. IsRightAnswer s r plan.KernelRight y) (sym e) right
+  right_answer plan.InverseLeft x (Certified c) e right runs formed = subst (λ y. IsRightAnswer s r plan.InverseLeft y) (sym e) right
+  right_answer plan.InverseRight x (Certified c) e right runs formed = subst (λ y. IsRightAnswer s r plan.InverseRight y) (sym e) right
+  right_answer (plan.Resolve k) x (Certified c) e right runs formed = subst (λ y. IsRightAnswer s r (plan.Resolve k) y) (sym e) right
+  right_answer (plan.Ext k) x (Certified c) e right runs formed = subst (λ y. IsRightAnswer s r (plan.Ext k) y) (sym e) right
   right_answer plan.Adjoint x (Certified c) e right runs formed = absurd e
   right_answer plan.Analyse x (Transposed m) e right runs formed = absurd e
   right_answer plan.KernelLeft x (Transposed m) e right runs formed = absurd e
@@ -73,24 +70,42 @@ module _ (s : Signature) (r : RowMatrix) where
   right_answer (plan.Ext k) x (Transposed m) e right runs formed = absurd e
   right_answer plan.Adjoint x (Transposed m) e right runs formed = adjoint_value s r x (formed_last (program_runner s) (transposed_adjoint_within program s r) runs x formed)
 
+storable_answer : (named : Plan) (x : AnswerOf named) (found : Found) → IsFoundOf named x found → IsStorableFound found → IsStorableAnswer named x
+storable_answer plan.Analyse x (Certified c) e h = subst IsStorableCertificate (sym e) h
+storable_answer plan.KernelLeft x (Certified c) e h = subst IsStorableCertificate (sym e) h
+storable_answer plan.KernelRight x (Certified c) e h = subst IsStorableCertificate (sym e) h
+storable_answer plan.InverseLeft x (Certified c) e h = subst IsStorableCertificate (sym e) h
+storable_answer plan.InverseRight x (Certified c) e h = subst IsStorableCertificate (sym e) h
+storable_answer (plan.Resolve k) x (Certified c) e h = subst IsStorableCertificate (sym e) h
+storable_answer (plan.Ext k) x (Certified c) e h = subst IsStorableCertificate (sym e) h
+storable_answer plan.Adjoint x (Certified c) e h = absurd e
+storable_answer plan.Analyse x (Transposed m) e h = absurd e
+storable_answer plan.KernelLeft x (Transposed m) e h = absurd e
+storable_answer plan.KernelRight x (Transposed m) e h = absurd e
+storable_answer plan.InverseLeft x (Transposed m) e h = absurd e
+storable_answer plan.InverseRight x (Transposed m) e h = absurd e
+storable_answer (plan.Resolve k) x (Transposed m) e h = absurd e
+storable_answer (plan.Ext k) x (Transposed m) e h = absurd e
+storable_answer plan.Adjoint x (Transposed m) e h = tt
+
 module _ (p : System) where
-  pub same_text : (named : Plan) (x : AnswerOf named) (found : Found) → IsFoundOf named x found → found_text p found ≡ answer_text p named x
-  same_text plan.Analyse x (Certified c) e = ap (λ y. answer_text p plan.Analyse y) (sym e)
-  same_text plan.KernelLeft x (Certified c) e = ap (λ y. answer_text p plan.KernelLeft y) (sym e)
-  same_text plan.KernelRight x (Certified c) e = ap (λ y. answer_text p plan.KernelRight y) (sym e)
-  same_text plan.InverseLeft x (Certified c) e = ap (λ y. answer_text p plan.InverseLeft y) (sym e)
-  same_text plan.InverseRight x (Certified c) e = ap (λ y. answer_text p plan.InverseRight y) (sym e)
-  same_text (plan.Resolve k) x (Certified c) e = ap (λ y. answer_text p (plan.Resolve k) y) (sym e)
-  same_text (plan.Ext k) x (Certified c) e = ap (λ y. answer_text p (plan.Ext k) y) (sym e)
-  same_text plan.Adjoint x (Certified c) e = absurd e
-  same_text plan.Analyse x (Transposed m) e = absurd e
-  same_text plan.KernelLeft x (Transposed m) e = absurd e
-  same_text plan.KernelRight x (Transposed m) e = absurd e
-  same_text plan.InverseLeft x (Transposed m) e = absurd e
-  same_text plan.InverseRight x (Transposed m) e = absurd e
-  same_text (plan.Resolve k) x (Transposed m) e = absurd e
-  same_text (plan.Ext k) x (Transposed m) e = absurd e
-  same_text plan.Adjoint x (Transposed m) e = ap (λ y. answer_text p plan.Adjoint y) (sym e)
+  pub same_text : (brief : Bool) (named : Plan) (x : AnswerOf named) (found : Found) → IsFoundOf named x found → found_text p brief found ≡ answer_text p brief named x
+  same_text brief plan.Analyse x (Certified c) e = ap (λ y. answer_text p brief plan.Analyse y) (sym e)
+  same_text brief plan.KernelLeft x (Certified c) e = ap (λ y. answer_text p brief plan.KernelLeft y) (sym e)
+  same_text brief plan.KernelRight x (Certified c) e = ap (λ y. answer_text p brief plan.KernelRight y) (sym e)
+  same_text brief plan.InverseLeft x (Certified c) e = ap (λ y. answer_text p brief plan.InverseLeft y) (sym e)
+  same_text brief plan.InverseRight x (Certified c) e = ap (λ y. answer_text p brief plan.InverseRight y) (sym e)
+  same_text brief (plan.Resolve k) x (Certified c) e = ap (λ y. answer_text p brief (plan.Resolve k) y) (sym e)
+  same_text brief (plan.Ext k) x (Certified c) e = ap (λ y. answer_text p brief (plan.Ext k) y) (sym e)
+  same_text brief plan.Adjoint x (Certified c) e = absurd e
+  same_text brief plan.Analyse x (Transposed m) e = absurd e
+  same_text brief plan.KernelLeft x (Transposed m) e = absurd e
+  same_text brief plan.KernelRight x (Transposed m) e = absurd e
+  same_text brief plan.InverseLeft x (Transposed m) e = absurd e
+  same_text brief plan.InverseRight x (Transposed m) e = absurd e
+  same_text brief (plan.Resolve k) x (Transposed m) e = absurd e
+  same_text brief (plan.Ext k) x (Transposed m) e = absurd e
+  same_text brief plan.Adjoint x (Transposed m) e = ap (λ y. answer_text p brief plan.Adjoint y) (sym e)
 
 -- ---- a search
 
@@ -99,25 +114,25 @@ pub none_treated : (budget : ℕ) → AreAfforded [] budget
 unfolding treats_in
 none_treated budget = omega arith
 
-module _ (p : System) (budget : ℕ) (named : Plan) (given : List (List Choice)) (paid : AreAfforded given budget) where
-  pub found_replied : (found : Found) → IsFoundBy p.signature (matrix_of p) chain_allows chain_allows_spent named [] given found → IsRightFound p.signature (matrix_of p) found
-      → (reply : Reply) → reply ≡ record { status = Done; text = found_text p found } → IsFoundReply p budget named reply
-  found_replied found (x, follows, is_found) right reply e =
-      let formed = formed_within (program_runner p.signature) (live_rule p.signature) budget follows paid in (
+module _ (p : System) (search : Search) (given : List (List Choice)) (paid : AreAfforded given search.budget) where
+  pub found_replied : (found : Found) → IsFoundBy p.signature (matrix_of p) chain_allows chain_allows_spent search.plan [] given found → IsRightFound p.signature (matrix_of p) search.plan found → IsStorableFound found
+      → (reply : Reply) → reply ≡ record { status = Done; text = found_text p search.brief found } → IsFoundReply p search reply
+  found_replied found (x, follows, is_found) right storable reply e =
+      let formed = formed_within (program_runner p.signature) (live_rule p.signature) search.budget follows paid in (
         x,
-        record { formed = (given, formed); right = right_answer p.signature (matrix_of p) named x found is_found right given formed.formed },
-        e ∙ ap (λ t. record { status = Done; text = t }) (same_text p named x found is_found),
+        record { formed = (given, formed); right = right_answer p.signature (matrix_of p) search.plan x found is_found right given formed.formed; storable = storable_answer search.plan x found is_found storable },
+        e ∙ ap (λ t. record { status = Done; text = t }) (same_text p search.brief search.plan x found is_found),
       )
 
-  pub is_report : (halt : Halt) → IsHaltedBy p.signature (matrix_of p) chain_allows chain_allows_spent named [] given (live_settings budget) halt → IsReportable (halt_of halt)
-      → (report : Report) → report.plan ≡ named → course_report report ≡ report_of given budget (halt_of halt) → IsReportOf p.signature (live_rule p.signature) budget named (matrix_of p) report
-  is_report halt h reportable report plan_is same =
-      let settings = live_settings budget in
-      let (honest, within) = reported (program_runner p.signature) (live_rule p.signature) (plan_course p.signature named (matrix_of p)) given budget settings.replays settings.kept (halt_of halt) h reportable paid in
+module _ (p : System) (search : Search) (given : List (List Choice)) where
+  pub is_report : (halt : Halt) → IsReportedBy p.signature (matrix_of p) chain_allows chain_allows_spent search.plan given search.budget halt → IsReportable (halt_of halt)
+      → (report : Report) → report.plan ≡ search.plan → course_report report ≡ report_of given search.budget (halt_of halt) → IsReportOf p.signature (live_rule p.signature) search.budget search.plan (matrix_of p) report
+  is_report halt reported reportable report plan_is same =
+      let (honest, within) = reported reportable in
       record {
         plan_is = plan_is;
-        honest = subst (IsHonestBy (program_runner p.signature) (live_rule p.signature) (plan_course p.signature named (matrix_of p))) (sym same) honest;
-        within = subst (IsWithin (program_runner p.signature) budget) (sym same) within;
+        honest = subst (IsHonestBy (program_runner p.signature) (live_rule p.signature) (plan_course p.signature search.plan (matrix_of p))) (sym same) honest;
+        within = subst (IsWithin (program_runner p.signature) search.budget) (sym same) within;
       }
 
 -- ---- what a reply says
@@ -127,14 +142,16 @@ stopped_not_done cause.Overflow e = cc
 stopped_not_done cause.Degree e = cc
 stopped_not_done (cause.Budget n) e = cc
 
-module _ (budget : ℕ) (named : Plan) where
-  pub said : (p : System) (reply : Reply) → IsSearchReply p budget named reply → reply.status ≡ Done → SaysFound p budget named reply.text
-  said p reply (inl (x, found, e)) done = (x, found, ap (λ (r : Reply). r.text) e)
-  said p reply (inr (report, honest, e)) done = absurd (stopped_not_done report.cause (sym (ap (λ (r : Reply). r.status) e) ∙ done))
+module _ (search : Search) where
+  pub said : (bytes : List ℕ) (p : System) (reply : Reply) → Accepted bytes p → IsSearchReply p search reply → reply.status ≡ Done → HoldsAnswer search reply.text bytes
+  said bytes p reply accepted (inl (x, found, e)) done =
+      let text = ap (λ (r : Reply). r.text) e in
+      (p, accepted, (x, found, text), subst (PassesCheck search.brief search.plan bytes) (sym text) (passes bytes p accepted search x found))
+  said bytes p reply accepted (inr (report, honest, e)) done = absurd (stopped_not_done report.cause (sym (ap (λ (r : Reply). r.status) e) ∙ done))
 
-  pub answered : (bytes : List ℕ) (reply : Reply) → IsUnreported budget named bytes → IsSearchVerdict budget named bytes reply → reply.status ≡ Done
-  answered bytes reply (p, accepted, none) h = by reply (subst (λ r. IsReplyToRead (λ q. IsSearchReply q budget named) r reply) ((reads_exactly bytes p).1 accepted) h)
+  pub answered : (bytes : List ℕ) (reply : Reply) → IsUnreported search bytes → IsSearchVerdict search bytes reply → reply.status ≡ Done
+  answered bytes reply (p, accepted, none) h = by reply (subst (λ r. IsReplyToRead (λ q. IsSearchReply q search) r reply) ((reads_exactly bytes p).1 accepted) h)
     where
-      by : (reply : Reply) → IsSearchReply p budget named reply → reply.status ≡ Done
+      by : (reply : Reply) → IsSearchReply p search reply → reply.status ≡ Done
       by reply (inl (x, found, e)) = ap (λ (r : Reply). r.status) e
       by reply (inr (report, honest, e)) = absurd (none report honest)

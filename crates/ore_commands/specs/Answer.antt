@@ -4,30 +4,38 @@
 --     IsDueTo          the reply that a command is to give
 --     IsDue            the reply that words are to get
 --     TellsTruth       what was said is true of the input, where the source tells it
---     IsUnhalted       the input of a search is a problem of which no report is honest
+--     IsUnhaltedSearch, IsUnhalted     the input of a search is a problem of which no report is honest; a command has an answer
 use Rattle.std.specs.Prelude.{◌≡◌, ◌⊎◌, ℕ, ◌≤◌, List, length, IfSome}
 use Rattle.std.specs.declared.option.Option.{Option}
 use Rattle.std.specs.declared.option.Option.TheVariants.{Some}
-use Rattle.ore_cert.specs.declared.report.Plan.{Plan}
 use Rattle.ore_reply.specs.Replies.{Reply, unknown_words}
 use Rattle.ore_reply.specs.Answered.{IsDueFrom, given_input}
 use Rattle.ore_commands.specs.declared.command.Command.{Command}
-use Rattle.ore_commands.specs.declared.command.Command.TheVariants.{Check, Search}
+use Rattle.ore_commands.specs.declared.command.Command.TheVariants.{Check, Search, AnalyseInBrief, AnalyseWithin, Generate}
 use Rattle.ore_commands.specs.Commands.{Calls, IsKnown, input_limit}
 use Rattle.ore_commands.specs.Verdict.{IsVerdict, HoldsCertificate}
-use Rattle.ore_commands.specs.Finding.{default_budget, IsSearchVerdict, HoldsAnswer, IsUnreported}
+use Rattle.ore_commands.specs.Finding.{search_by, search_in_brief, search_within, IsSearchVerdict, HoldsAnswer, IsUnreported}
+use Rattle.ore_commands.specs.Generating.{generated_text, generated_reply}
+use Rattle.ore_commands.specs.declared.search.Search.{Search as SearchOf}
 
--- of `check`, the verdict; of a search, the answer that its plan forms, or an honest report
+-- of `check`, the verdict; of a search, the answer that its plan forms, or an honest report; of `generate`, the problem
 abbrev pub IsReplyOf : Command → List ℕ → Reply → Type 0
 IsReplyOf Check bytes reply = IsVerdict bytes reply
-IsReplyOf (Search plan) bytes reply = IsSearchVerdict default_budget plan bytes reply
+IsReplyOf (Search plan) bytes reply = IsSearchVerdict (search_by plan) bytes reply
+IsReplyOf AnalyseInBrief bytes reply = IsSearchVerdict search_in_brief bytes reply
+IsReplyOf (AnalyseWithin budget) bytes reply = IsSearchVerdict (search_within budget) bytes reply
+IsReplyOf (Generate n) bytes reply = reply ≡ generated_reply n
 
 -- Of `check`, the bytes are a problem and a certificate of the kind that is named. What this says of the matrix is true,
 -- over numbers of any size. Of a search, the bytes are a problem, and what is said is the text of an answer that its plan
--- forms: a certificate that is true and that the check accepts, or the problem with its transposed adjoint.
+-- forms: a certificate that is true and that the check accepts, or what it claims, or the problem with its transposed adjoint.
+-- `check` then replies to the problem with a whole certificate behind it that this is valid. Of `generate`, what is said is the text of the generated problem.
 abbrev pub IsTrueOf : Command → List ℕ → List ℕ → Type 0
 IsTrueOf Check said bytes = HoldsCertificate said bytes
-IsTrueOf (Search plan) said bytes = HoldsAnswer default_budget plan said bytes
+IsTrueOf (Search plan) said bytes = HoldsAnswer (search_by plan) said bytes
+IsTrueOf AnalyseInBrief said bytes = HoldsAnswer search_in_brief said bytes
+IsTrueOf (AnalyseWithin budget) said bytes = HoldsAnswer (search_within budget) said bytes
+IsTrueOf (Generate n) said bytes = said ≡ generated_text n
 
 -- by what a source has left before and after
 abbrev pub IsDueTo : Command → Option (List ℕ) → Option (List ℕ) → Reply → Type 0
@@ -43,5 +51,13 @@ abbrev pub TellsTruth : Command → List ℕ → Option (List ℕ) → Type 0
 TellsTruth c said before = IfSome (given_input (input_limit c) before) (IsTrueOf c said)
 
 -- the source tells it, it is within the limit, and accepted
-abbrev pub IsUnhalted : Plan → Option (List ℕ) → Type 0
-IsUnhalted plan before = (bytes : List ℕ) × (before ≡ Some bytes) × (length bytes ≤ 1048576) × IsUnreported default_budget plan bytes
+abbrev pub IsUnhaltedSearch : SearchOf → Option (List ℕ) → Type 0
+IsUnhaltedSearch search before = (bytes : List ℕ) × (before ≡ Some bytes) × (length bytes ≤ 1048576) × IsUnreported search bytes
+
+-- the command is a search of such an input, or `generate`, which always has an answer
+abbrev pub IsUnhalted : Command → Option (List ℕ) → Type 0
+IsUnhalted Check before = ⊥
+IsUnhalted (Search plan) before = IsUnhaltedSearch (search_by plan) before
+IsUnhalted AnalyseInBrief before = IsUnhaltedSearch search_in_brief before
+IsUnhalted (AnalyseWithin budget) before = IsUnhaltedSearch (search_within budget) before
+IsUnhalted (Generate n) before = Unit {0}

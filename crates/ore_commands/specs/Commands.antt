@@ -1,19 +1,24 @@
 -- The commands, and their words.
 --     search_words     the words that call the search by a plan
+--     budget_words     the words that call `analyse` with a budget
+--     generate_words   the words that call for the generated problem with a number
 --     words_of         the words that call a command
---     IsBuiltCommand   a command that the program has
+--     IsInRange        the number of a command is in its range
 --     Calls            words call a command
 --     IsKnown          the words of a command
+--     Names            the value whose words these are, or none where there is no such value
 --     input_limit      the greatest number of bytes that a command reads, where it reads at all
 --     IsReader         the words of a command that reads
-use Rattle.std.specs.Prelude.{◌≡◌, ℕ, List, [], ◌∷◌, codes, decimal, IsSome}
+use Rattle.std.specs.Prelude.{◌≡◌, ℕ, ◌≤◌, List, [], ◌∷◌, codes, decimal, IsSome, MatchOption}
 use Rattle.std.specs.declared.option.Option.{Option}
-use Rattle.std.specs.declared.option.Option.TheVariants.{Some}
+use Rattle.std.specs.declared.option.Option.TheVariants.{None, Some}
+use Rattle.ore_cert.specs.WholeText.{IsWrittenPlan}
 use Rattle.ore_cert.specs.declared.report.Plan.{Plan}
 use Rattle.ore_cert.specs.declared.report.Plan.TheVariants as plan
 use Rattle.ore_commands.specs.declared.command.Command.{Command}
-use Rattle.ore_commands.specs.declared.command.Command.TheVariants.{Check, Search}
-use Rattle.ore_commands.specs.Search.{IsBuiltPlan}
+use Rattle.ore_commands.specs.declared.command.Command.TheVariants.{Check, Search, AnalyseInBrief, AnalyseWithin, Generate}
+use Rattle.ore_commands.specs.Finding.{greatest_budget}
+use Rattle.ore_commands.specs.Generating.{greatest_number}
 
 -- a right kernel parametrises what the matrix describes
 abbrev pub search_words : Plan → List (List ℕ)
@@ -26,28 +31,49 @@ search_words (plan.Resolve k) = codes "resolve" ∷ decimal k ∷ []
 search_words (plan.Ext k) = codes "ext" ∷ decimal k ∷ []
 search_words plan.Adjoint = codes "adjoint" ∷ []
 
+-- the budget in decimal digits
+abbrev pub budget_words : ℕ → List (List ℕ)
+budget_words budget = codes "analyse" ∷ codes "--budget" ∷ decimal budget ∷ []
+
+-- the number in decimal digits
+abbrev pub generate_words : ℕ → List (List ℕ)
+generate_words n = codes "generate" ∷ decimal n ∷ []
+
 -- compared byte for byte
 abbrev pub words_of : Command → List (List ℕ)
 words_of Check = codes "check" ∷ []
 words_of (Search plan) = search_words plan
+words_of AnalyseInBrief = codes "analyse" ∷ codes "--brief" ∷ []
+words_of (AnalyseWithin budget) = budget_words budget
+words_of (Generate n) = generate_words n
 
--- the check, or the search by a plan by which is searched
-abbrev pub IsBuiltCommand : Command → Type 0
-IsBuiltCommand Check = Unit {0}
-IsBuiltCommand (Search plan) = IsBuiltPlan plan
+-- so many links as there may be, a budget and a number that aren't too great
+abbrev pub IsInRange : Command → Type 0
+IsInRange Check = Unit {0}
+IsInRange (Search plan) = IsWrittenPlan plan
+IsInRange AnalyseInBrief = Unit {0}
+IsInRange (AnalyseWithin budget) = budget ≤ greatest_budget
+IsInRange (Generate n) = n ≤ greatest_number
 
--- they are the words of the command, and the program has it
+-- they are the words of the command, whose number is in its range
 abbrev pub Calls : List (List ℕ) → Command → Type 0
-Calls words c = IsBuiltCommand c × (words ≡ words_of c)
+Calls words c = IsInRange c × (words ≡ words_of c)
 
 -- they call some command
 abbrev pub IsKnown : List (List ℕ) → Type 0
 IsKnown words = (c : Command) × Calls words c
 
--- 32 MiB for `check`, which reads a certificate too, and 1 MiB for those that read a problem alone
+-- one that may be named so
+abbrev pub Names : {X : Type 0} → (X → List (List ℕ)) → (X → Type 0) → List (List ℕ) → Option X → Type 0
+Names {X} called may words result = MatchOption result ((x : X) → may x → ¬ (words ≡ called x)) (λ x. may x × (words ≡ called x))
+
+-- 32 MiB for `check`, which reads a certificate too, and 1 MiB for those that read a problem alone; `generate` reads nothing
 abbrev pub input_limit : Command → Option ℕ
 input_limit Check = Some 33554432
 input_limit (Search plan) = Some 1048576
+input_limit AnalyseInBrief = Some 1048576
+input_limit (AnalyseWithin budget) = Some 1048576
+input_limit (Generate n) = None
 
 -- they call one that has a limit
 abbrev pub IsReader : List (List ℕ) → Type 0

@@ -1,12 +1,15 @@
 -- The reply of a command that searches by a plan, for the matrix of a problem: the text of the answer that the plan forms,
 -- or that of the report of a search that stopped. The greatest number of pairs that are treated is its budget.
 --     default_budget         the budget where the words name none
+--     greatest_budget        no budget is greater
+--     search_by, search_in_brief, search_within     the searches that words call
 --     live_rule              the rule by which choices are made
---     text_of                the text of a certificate of a problem
+--     text_of, shown_text    the text of a certificate of a problem, and what of it is written
 --     matrix_text            the text of the problem with another matrix
 --     answer_text            the text of the answer of a plan
 --     found_text             the text of what a search finds
 --     IsRightAnswer          what the answer of a plan says of a matrix is true
+--     IsStorableAnswer       the answer of a plan is in the program's ranges
 --     IsFound                a plan forms an answer, and it is right
 --     IsFoundReply           the reply with the text of an answer that is found
 --     halt_status            the status for the cause of a stop
@@ -14,9 +17,9 @@
 --     IsSearchReply          the one or the other
 --     SaysFound              a text is that of an answer that is found
 --     IsSearchVerdict        the reply to the bytes of an input
---     HoldsAnswer            the bytes are a problem, and a text is that of an answer that is found for it
+--     HoldsAnswer            the bytes are a problem, a text is that of an answer that is found for it, and `check` accepts it
 --     IsUnreported           the bytes are a problem of which no report is honest
-use Rattle.std.specs.Prelude.{◌≡◌, ◌⊎◌, ℕ, List}
+use Rattle.std.specs.Prelude.{◌≡◌, ◌⊎◌, ℕ, Bool, true, false, List}
 use Rattle.ore_course.specs.Leading.{Rule}
 use Rattle.ore_rational.proofs.FractionLaws.{rationals}
 use Rattle.ore_monomial.specs.Signature.{Signature}
@@ -26,7 +29,8 @@ use Rattle.ore_pairs.specs.Run.{State}
 use Rattle.ore_problem.specs.Accepted.{Accepted}
 use Rattle.ore_problem.specs.Problems.{System, problem_of}
 use Rattle.ore_problem.specs.ProblemText.{problem_text}
-use Rattle.ore_cert.specs.WholeText.{certificate_text}
+use Rattle.ore_cert.specs.Storable.{IsStorableCertificate}
+use Rattle.ore_cert.specs.WholeText.{certificate_text, brief_text}
 use Rattle.ore_cert.specs.declared.certificate.Certificate.{Certificate}
 use Rattle.ore_cert.specs.declared.certificate.Certificate.TheVariants.{Halted}
 use Rattle.ore_cert.specs.declared.report.Cause.{Cause}
@@ -44,13 +48,32 @@ use Rattle.ore_reply.specs.declared.status.Status.{Status}
 use Rattle.ore_reply.specs.declared.status.Status.TheVariants.{Done, Overflow, Degree, Budget}
 use Rattle.ore_reply.specs.Replies.{Reply}
 use Rattle.ore_reply.specs.Answered.{IsReplyToRead}
+use Rattle.ore_commands.specs.AcceptedAnswers.{PassesCheck}
+use Rattle.ore_commands.specs.Search.{IsOfPlan}
 use Rattle.ore_commands.specs.Verdict.{matrix_of}
 use Rattle.ore_commands.specs.declared.found.Found.{Found}
 use Rattle.ore_commands.specs.declared.found.Found.TheVariants.{Certified, Transposed}
+use Rattle.ore_commands.specs.declared.search.Search.{Search}
 
 -- in all runs together
 abbrev pub default_budget : ℕ
 default_budget = 10000
+
+-- the program's limit
+abbrev pub greatest_budget : ℕ
+greatest_budget = 1000000
+
+-- by a plan, with the budget where the words name none, and with the whole answer
+abbrev pub search_by : Plan → Search
+search_by plan = record { plan = plan; budget = default_budget; brief = false }
+
+-- for a verdict, of which the claim is written
+abbrev pub search_in_brief : Search
+search_in_brief = record { plan = plan.Analyse; budget = default_budget; brief = true }
+
+-- for a verdict, with this budget
+abbrev pub search_within : ℕ → Search
+search_within budget = record { plan = plan.Analyse; budget = budget; brief = false }
 
 -- the pair with the least common multiple comes next, and is skipped where the chain rule lets it be
 abbrev pub live_rule : Signature → Rule (State rationals) Choice
@@ -62,16 +85,28 @@ halt_status cause.Overflow = Overflow
 halt_status cause.Degree = Degree
 halt_status (cause.Budget n) = Budget
 
--- a certificate is true, and the check accepts it; a transposed adjoint is that of the matrix, over numbers of any size
+-- a certificate is true, the check accepts it, and it is of the plan; a transposed adjoint is that of the matrix, over
+-- numbers of any size
 abbrev pub IsRightAnswer : Signature → RowMatrix → (plan : Plan) → AnswerOf plan → Type 0
-IsRightAnswer s r plan.Analyse c = IsRight s r c
-IsRightAnswer s r plan.KernelLeft c = IsRight s r c
-IsRightAnswer s r plan.KernelRight c = IsRight s r c
-IsRightAnswer s r plan.InverseLeft c = IsRight s r c
-IsRightAnswer s r plan.InverseRight c = IsRight s r c
-IsRightAnswer s r (plan.Resolve k) c = IsRight s r c
-IsRightAnswer s r (plan.Ext k) c = IsRight s r c
+IsRightAnswer s r plan.Analyse c = IsRight s r c × IsOfPlan plan.Analyse c
+IsRightAnswer s r plan.KernelLeft c = IsRight s r c × IsOfPlan plan.KernelLeft c
+IsRightAnswer s r plan.KernelRight c = IsRight s r c × IsOfPlan plan.KernelRight c
+IsRightAnswer s r plan.InverseLeft c = IsRight s r c × IsOfPlan plan.InverseLeft c
+IsRightAnswer s r plan.InverseRight c = IsRight s r c × IsOfPlan plan.InverseRight c
+IsRightAnswer s r (plan.Resolve k) c = IsRight s r c × IsOfPlan (plan.Resolve k) c
+IsRightAnswer s r (plan.Ext k) c = IsRight s r c × IsOfPlan (plan.Ext k) c
 IsRightAnswer s r plan.Adjoint m = m ≡ transposed_adjoint s r
+
+-- what a certificate stores; of a transposed adjoint nothing is said
+abbrev pub IsStorableAnswer : (plan : Plan) → AnswerOf plan → Type 0
+IsStorableAnswer plan.Analyse c = IsStorableCertificate c
+IsStorableAnswer plan.KernelLeft c = IsStorableCertificate c
+IsStorableAnswer plan.KernelRight c = IsStorableCertificate c
+IsStorableAnswer plan.InverseLeft c = IsStorableCertificate c
+IsStorableAnswer plan.InverseRight c = IsStorableCertificate c
+IsStorableAnswer (plan.Resolve k) c = IsStorableCertificate c
+IsStorableAnswer (plan.Ext k) c = IsStorableCertificate c
+IsStorableAnswer plan.Adjoint m = Unit {0}
 
 module _ (p : System) where
   -- ---- texts
@@ -80,41 +115,47 @@ module _ (p : System) where
   abbrev pub text_of : Certificate → List ℕ
   text_of c = certificate_text p.names p.signature.order c
 
+  -- whole, or of a verdict what it claims
+  abbrev pub shown_text : Bool → Certificate → List ℕ
+  shown_text false c = text_of c
+  shown_text true c = brief_text p.names p.signature.order c
+
   -- with the names and the signature of the problem
   abbrev pub matrix_text : RowMatrix → List ℕ
   matrix_text m = problem_text (record { names = p.names; signature = p.signature; cols = m.cols; rows = m.rows })
 
   -- of a certificate, or of the problem with the transposed adjoint of its matrix
-  abbrev pub answer_text : (plan : Plan) → AnswerOf plan → List ℕ
-  answer_text plan.Analyse c = text_of c
-  answer_text plan.KernelLeft c = text_of c
-  answer_text plan.KernelRight c = text_of c
-  answer_text plan.InverseLeft c = text_of c
-  answer_text plan.InverseRight c = text_of c
-  answer_text (plan.Resolve k) c = text_of c
-  answer_text (plan.Ext k) c = text_of c
-  answer_text plan.Adjoint m = matrix_text m
+  abbrev pub answer_text : Bool → (plan : Plan) → AnswerOf plan → List ℕ
+  answer_text brief plan.Analyse c = shown_text brief c
+  answer_text brief plan.KernelLeft c = shown_text brief c
+  answer_text brief plan.KernelRight c = shown_text brief c
+  answer_text brief plan.InverseLeft c = shown_text brief c
+  answer_text brief plan.InverseRight c = shown_text brief c
+  answer_text brief (plan.Resolve k) c = shown_text brief c
+  answer_text brief (plan.Ext k) c = shown_text brief c
+  answer_text brief plan.Adjoint m = matrix_text m
 
   -- of a certificate, or of the problem with another matrix
-  abbrev pub found_text : Found → List ℕ
-  found_text (Certified c) = text_of c
-  found_text (Transposed m) = matrix_text (plain m)
+  abbrev pub found_text : Bool → Found → List ℕ
+  found_text brief (Certified c) = shown_text brief c
+  found_text brief (Transposed m) = matrix_text (plain m)
 
   -- ---- replies
 
-  module _ (budget : ℕ) (plan : Plan) where
-    -- the plan forms it by the rule and within the budget, and what it says of the matrix is true
-    pub record IsFound (x : AnswerOf plan) : Type 0 where
-      pub formed : IsFormedOf p.signature (live_rule p.signature) budget plan (matrix_of p) x
-      pub right : IsRightAnswer p.signature (matrix_of p) plan x
+  module _ (search : Search) where
+    -- the plan forms it by the rule and within the budget, what it says of the matrix is true, and it is in range
+    pub record IsFound (x : AnswerOf search.plan) : Type 0 where
+      pub formed : IsFormedOf p.signature (live_rule p.signature) search.budget search.plan (matrix_of p) x
+      pub right : IsRightAnswer p.signature (matrix_of p) search.plan x
+      pub storable : IsStorableAnswer search.plan x
 
     -- its text is written
     abbrev pub IsFoundReply : Reply → Type 0
-    IsFoundReply reply = (x : AnswerOf plan) × IsFound x × (reply ≡ record { status = Done; text = answer_text plan x })
+    IsFoundReply reply = (x : AnswerOf search.plan) × IsFound x × (reply ≡ record { status = Done; text = answer_text search.brief search.plan x })
 
     -- the report is honest by the rule and within the budget, and has this plan; the status is that of its cause
     abbrev pub IsStoppedReply : Reply → Type 0
-    IsStoppedReply reply = (report : Report) × IsReportOf p.signature (live_rule p.signature) budget plan (matrix_of p) report
+    IsStoppedReply reply = (report : Report) × IsReportOf p.signature (live_rule p.signature) search.budget search.plan (matrix_of p) report
         × (reply ≡ record { status = halt_status report.cause; text = text_of (Halted report) })
 
     -- nothing else is replied
@@ -123,16 +164,16 @@ module _ (p : System) where
 
     -- what is said is the text of an answer that is found
     abbrev pub SaysFound : List ℕ → Type 0
-    SaysFound said = (x : AnswerOf plan) × IsFound x × (said ≡ answer_text plan x)
+    SaysFound said = (x : AnswerOf search.plan) × IsFound x × (said ≡ answer_text search.brief search.plan x)
 
 -- to a problem, or to its first faulty line
-abbrev pub IsSearchVerdict : ℕ → Plan → List ℕ → Reply → Type 0
-IsSearchVerdict budget plan bytes reply = IsReplyToRead (λ p. IsSearchReply p budget plan) (problem_of bytes) reply
+abbrev pub IsSearchVerdict : Search → List ℕ → Reply → Type 0
+IsSearchVerdict search bytes reply = IsReplyToRead (λ p. IsSearchReply p search) (problem_of bytes) reply
 
--- it is found, and so true
-abbrev pub HoldsAnswer : ℕ → Plan → List ℕ → List ℕ → Type 0
-HoldsAnswer budget plan said bytes = (p : System) × Accepted bytes p × SaysFound p budget plan said
+-- it is found, and so true; `check` finds a whole certificate valid
+abbrev pub HoldsAnswer : Search → List ℕ → List ℕ → Type 0
+HoldsAnswer search said bytes = (p : System) × Accepted bytes p × SaysFound p search said × PassesCheck search.brief search.plan bytes said
 
 -- by the rule and within the budget; so the plan comes to its answer
-abbrev pub IsUnreported : ℕ → Plan → List ℕ → Type 0
-IsUnreported budget plan bytes = (p : System) × Accepted bytes p × HasNoReportOf p.signature (live_rule p.signature) budget plan (matrix_of p)
+abbrev pub IsUnreported : Search → List ℕ → Type 0
+IsUnreported search bytes = (p : System) × Accepted bytes p × HasNoReportOf p.signature (live_rule p.signature) search.budget search.plan (matrix_of p)

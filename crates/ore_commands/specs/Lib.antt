@@ -1,7 +1,11 @@
 pub mod Commands
 pub mod Verdict
+pub mod AcceptedAnswers
 pub mod Search
 pub mod Finding
+pub mod Generating
 pub mod SearchLaws
 pub mod CheckedReply
+pub mod ReportAnswers
 pub mod Answer
+pub mod Written

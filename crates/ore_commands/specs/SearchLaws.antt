@@ -4,12 +4,11 @@
 --     stopped_adjoint        the report of a transposed adjoint that stops
 --     adjoint_reply          the reply of `adjoint` to a problem
 --     HasOneAdjointReply     no other is its own
-use Rattle.std.specs.Prelude.{◌≡◌, ℕ, List, []}
+use Rattle.std.specs.Prelude.{◌≡◌, ℕ, Bool, List, []}
 use Rattle.std.specs.declared.result.Result.TheVariants.{Ok, Err}
 use Rattle.ore_algebra.specs.Limits.{Cause, program}
 use Rattle.ore_problem.specs.Problems.{System}
 use Rattle.ore_cert.specs.declared.certificate.Certificate.TheVariants.{Halted}
-use Rattle.ore_cert.specs.declared.report.Plan.{Plan}
 use Rattle.ore_cert.specs.declared.report.Plan.TheVariants.{Adjoint}
 use Rattle.ore_cert.specs.declared.report.Report.{Report}
 use Rattle.ore_cert.specs.declared.report.Stop.TheVariants.{Forced}
@@ -21,6 +20,7 @@ use Rattle.ore_commands.specs.declared.command.Command.{Command}
 use Rattle.ore_commands.specs.Commands.{Calls}
 use Rattle.ore_commands.specs.Finding.{halt_status, text_of, matrix_text, IsSearchReply, IsSearchVerdict, IsUnreported}
 use Rattle.ore_commands.specs.Verdict.{matrix_of}
+use Rattle.ore_commands.specs.declared.search.Search.{Search}
 
 -- two commands that the same words call are one
 abbrev pub CallOneCommand : Type 0
@@ -28,7 +28,7 @@ CallOneCommand = (words : List (List ℕ)) (c d : Command) → Calls words c →
 
 -- the only reply to such bytes has status `Done`
 abbrev pub AnswersUnreported : Type 0
-AnswersUnreported = (budget : ℕ) (plan : Plan) (bytes : List ℕ) (reply : Reply) → IsUnreported budget plan bytes → IsSearchVerdict budget plan bytes reply → reply.status ≡ Done
+AnswersUnreported = (search : Search) (bytes : List ℕ) (reply : Reply) → IsUnreported search bytes → IsSearchVerdict search bytes reply → reply.status ≡ Done
 
 -- the work is forced, and nothing is chosen
 abbrev pub stopped_adjoint : Cause → Report
@@ -43,4 +43,4 @@ adjoint_reply p = elim (transposed_adjoint_within program p.signature (matrix_of
 
 -- whatever the budget
 abbrev pub HasOneAdjointReply : Type 0
-HasOneAdjointReply = (budget : ℕ) (p : System) (reply : Reply) → IsSearchReply p budget Adjoint reply → reply ≡ adjoint_reply p
+HasOneAdjointReply = (budget : ℕ) (brief : Bool) (p : System) (reply : Reply) → IsSearchReply p (record { plan = Adjoint; budget = budget; brief = brief }) reply → reply ≡ adjoint_reply p

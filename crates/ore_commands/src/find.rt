@@ -1,11 +1,12 @@
 //! Follows the plan of a command.
 
-ghost use Rattle.std.specs.Prelude.{◌≡◌, IfOk, IfErr};
+ghost use Rattle.std.specs.Prelude.{◌≡◌, [], IfOk, IfErr};
 ghost use Rattle.std.specs.List.{All};
+ghost use Rattle.ore_cert.specs.WholeText.{IsWrittenPlan};
 ghost use Rattle.ore_ring.specs.Belongs.{AllBelong};
 ghost use Rattle.ore_blocks.specs.CheckBlock.{plain};
 ghost use Rattle.ore_groebner.specs.Choosing.{AreAfforded};
-ghost use Rattle.ore_commands.specs.Search.{IsBuiltPlan, IsFoundBy, IsHaltedBy, IsRightFound, certified_of, transposed_of};
+ghost use Rattle.ore_commands.specs.Search.{IsFoundBy, IsHaltedBy, IsReportedBy, IsRightFound, certified_of, transposed_of};
 
 use crate::found::Found;
 use ore_adjoint::transpose_adjoint;
@@ -14,8 +15,10 @@ use ore_groebner::{Chooser, Halt};
 use ore_inverse::{left_certificate, right_certificate};
 use ore_kernels::kernel_certificate;
 use ore_monomial::RingStop;
+use ore_resolution::{ext, resolve};
 use ore_ring::OreRing;
 use ore_rows::Matrix;
+use ore_torsion::analyse;
 use std::alloc::Global;
 
 /// What the plan of a command finds of the matrix `r`, by the choices of a chooser.
@@ -32,24 +35,26 @@ pub fn find<R: OreRing, C: Chooser>(
     r: &Matrix,
     chooser: &mut C,
 ) -> Result<Found, Halt>
-    requires built { IsBuiltPlan plan }
+    requires plan { IsWrittenPlan plan }
     requires of { All (AllBelong (R.sig ring.now)) r.now.rows }
-    // It is right, and what the plan answers by the choices given; or these lead the plan to the halt.
-    ensures right { IfOk result (IsRightFound (R.sig ring.now) (plain r.now)) }
+    // It is right and of the plan, and what the plan answers by the choices given; or these lead the plan to the halt.
+    ensures right { IfOk result (IsRightFound (R.sig ring.now) (plain r.now) plan) }
     ensures answered { IfOk result (IsFoundBy (R.sig ring.now) (plain r.now) C.allows C.allows_spent plan (C.given chooser.old) (C.given chooser.new)) }
     ensures halts { IfErr result (IsHaltedBy (R.sig ring.now) (plain r.now) C.allows C.allows_spent plan (C.given chooser.old) (C.given chooser.new) (C.settings chooser.new)) }
+    // Where the chooser began with no runs, the report of the halt is honest by its rule and within its budget.
+    ensures reported { C.given chooser.old ≡ [] → IfErr result (IsReportedBy (R.sig ring.now) (plain r.now) C.allows C.allows_spent plan (C.given chooser.new) (C.settings chooser.new).budget) }
     ensures afforded { AreAfforded (C.given chooser.old) (C.settings chooser.old).budget → AreAfforded (C.given chooser.new) (C.settings chooser.new).budget }
     ensures settings { C.settings chooser.new ≡ C.settings chooser.old }
 {
     match plan {
+        Plan::Analyse => certified(analyse(ring, alloc, r, chooser)),
         Plan::KernelLeft => certified(kernel_certificate(ring, alloc, Side::Left, r, chooser)),
         Plan::KernelRight => certified(kernel_certificate(ring, alloc, Side::Right, r, chooser)),
         Plan::InverseLeft => certified(left_certificate(ring, alloc, r, chooser)),
         Plan::InverseRight => certified(right_certificate(ring, alloc, r, chooser)),
         Plan::Adjoint => transposed(transpose_adjoint(ring, alloc, r)),
-        Plan::Analyse => unreachable!(),
-        Plan::Resolve(_) => unreachable!(),
-        Plan::Ext(_) => unreachable!(),
+        Plan::Resolve(count) => certified(resolve(ring, alloc, r, count, chooser)),
+        Plan::Ext(place) => certified(ext(ring, alloc, r, place, chooser)),
     }
 }
 

@@ -2,10 +2,13 @@
 //!
 //! The functions here have no answer and do nothing. Their clauses are laws over the definitions of this crate alone.
 
+ghost use Rattle.ore_commands.specs.AcceptedAnswers.{RightCertificateIsValid};
 ghost use Rattle.ore_commands.specs.SearchLaws.{AnswersUnreported, CallOneCommand, HasOneAdjointReply};
+ghost use Rattle.ore_commands.specs.Written.{RightMayBeWritten};
 ghost use Rattle.ore_commands.specs.Verdict.{HasOneVerdict, LacksNoVerdict};
 
 use ore_cert::laws::{law_faulty_line_is_one, law_text_is_of_one};
+use ore_monomial::Signature;
 
 /// Bytes have one reply alone.
 pub fn law_reply_is_one()
@@ -34,4 +37,14 @@ pub fn law_search_answers()
 /// this stops, it is the text of the one report that is honest.
 pub fn law_adjoint_reply()
     ensures { HasOneAdjointReply }
+{}
+
+/// What is printed of a right certificate, behind the text of its problem, is valid to `check`.
+pub fn law_right_certificate_is_valid()
+    ensures { RightCertificateIsValid }
+{}
+
+/// A right certificate, of which no step multiplies by zero and whose stored parts are in range, may be written.
+pub fn law_right_may_be_written(sig: &Signature)
+    ensures { RightMayBeWritten sig.now }
 {}

@@ -8,28 +8,30 @@
 //! A [`Command`] has its words, the limit of what it reads, and its own reply to the bytes of an input. `check` reads a
 //! problem, that is a system as a matrix of operators, and behind it the text of a certificate, which claims something of
 //! that matrix. The reply says whether the certificate is valid, or which line has a fault or fails a condition, or that a
-//! number or a degree leaves the program's range. Certificates of resolutions, of extension modules and of stopped
-//! computations are read and not checked yet.
+//! number or a degree leaves the program's range. The report of a stopped search is valid where it is honest.
 //!
-//! A search reads a problem alone and follows a plan: `kernel`, `parametrise`, `inverse left`, `inverse right` and
-//! `adjoint`. It writes the certificate of what it finds, or the problem with the transposed adjoint of its matrix. Where
+//! A search reads a problem alone and follows a plan: `analyse`, `kernel`, `parametrise`, `inverse left`, `inverse right`,
+//! `resolve`, `ext` and `adjoint`. It writes the certificate of what it finds, or the problem with the transposed adjoint of its matrix. Where
 //! an operation stops, or the budget of pairs is spent, it writes the report of that, and nothing else comes. So where no
 //! report is honest the search has an answer, if memory, source and sink serve.
 //!
+//! `generate` reads nothing, and writes the problem with a number.
+//!
 //!  * `command`: the commands.
-//!  * `kind`: which kinds of certificates are checked.
+//!  * `report_check`: the check of a report, by a search with its choices.
 //!  * `condition`: the reply to the answer of a check.
 //!  * `verify`: the reply to a certificate, checked in the ring that the signature has.
 //!  * `check`: the reply of `check` to the bytes.
 //!  * `found`, `find`: what a plan finds of a matrix.
 //!  * `search`: the reply of a search to the bytes.
+//!  * `generated`: the reply with a generated problem.
 //!  * `top`: the top call.
 //!  * `laws`: each input has one reply to `check`; words call one command; a search without an honest report has an answer.
 //!
 //! The crate stands on `ore_reply` for words, input, output and replies, on `ore_io` for sources and sinks, on
-//! `ore_problem` for problems, on `ore_cert` and `ore_check` for certificates, their check and the plans, on `ore_kernels`,
-//! `ore_inverse` and `ore_adjoint` for what is found, on `ore_report` for the chooser of runs, and on `ore_commutative`,
-//! `ore_weyl` and `ore_mixed` for rings.
+//! `ore_problem` and `ore_generate` for problems, on `ore_cert` and `ore_check` for certificates, their check and the plans,
+//! on `ore_kernels`, `ore_inverse`, `ore_torsion`, `ore_resolution` and `ore_adjoint` for what is found, on `ore_report` for the choosers of
+//! runs, and on `ore_commutative`, `ore_weyl` and `ore_mixed` for rings.
 #![tactic(auto)]
 
 mod check;
@@ -37,11 +39,13 @@ mod command;
 mod condition;
 pub mod find;
 pub mod found;
-mod kind;
+mod generated;
 pub mod laws;
+pub mod report_check;
 mod search;
 mod top;
 mod verify;
 
 pub use command::Command;
+pub use report_check::check_report;
 pub use top::bench;

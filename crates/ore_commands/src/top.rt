@@ -7,11 +7,9 @@ ghost use Rattle.ore_reply.specs.Replies.{Reply as ReplyOf};
 ghost use Rattle.ore_reply.specs.Answered.{IsAnswered};
 ghost use Rattle.ore_reply.specs.InputEnd.{CountsFault};
 ghost use Rattle.ore_reply.specs.MadeReply.{given_reply, IsOfBytes};
-ghost use Rattle.ore_cert.specs.declared.report.Plan as plan_of;
 ghost use Rattle.ore_commands.specs.declared.command.Command as command_of;
-ghost use Rattle.ore_commands.specs.Commands.{search_words, Calls, IsBuiltCommand, IsReader, input_limit};
+ghost use Rattle.ore_commands.specs.Commands.{Calls, IsInRange, IsReader, input_limit};
 ghost use Rattle.ore_commands.specs.Answer.{IsDue, IsDueTo, TellsTruth, IsUnhalted};
-ghost use Rattle.ore_commands.specs.Search.{IsBuiltPlan};
 
 use crate::command::Command;
 use ore_io::{Sink, Source};
@@ -38,7 +36,7 @@ pub fn bench<S: Source, K: Sink>(
         × (K.written sink.new ≡ append_known (K.written sink.old) said) × TellsTruth c said (S.left source.old) }
 
     // A search of a problem of which no report is honest comes to its answer, unless memory gives out or a count of faults rises.
-    ensures complete { (plan : plan_of.Plan) → IsBuiltPlan plan → words.now ≡ search_words plan → IsUnhalted plan (S.left source.old)
+    ensures complete { (c : command_of.Command) → Calls words.now c → IsUnhalted c (S.left source.old)
         → ¬ Rose (S.faults source.old) (S.faults source.new) → ¬ Rose (K.faults sink.old) (K.faults sink.new)
         → (result ≡ Status.Done) ⊎ (result ≡ Status.Memory) }
 
@@ -62,7 +60,7 @@ fn input_reply<S: Source>(
     alloc: Global,
     source: &mut S,
 ) -> Result<Reply, InputEnd>
-    requires { IsBuiltCommand command }
+    requires { IsInRange command }
     ensures due { IsDueTo command (S.left source.old) (S.left source.new) (given_reply result) }
     ensures truth { IfOk result (λ r. r.status ≡ Status.Done → TellsTruth command r.text.items (S.left source.old)) }
     ensures of_bytes { IfOk result (λ r. IsOfBytes r.status) }

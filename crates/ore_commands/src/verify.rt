@@ -1,12 +1,11 @@
 //! The reply to a certificate of a problem.
 
-ghost use Rattle.std.specs.Prelude.{◌≡◌, IfOk};
-ghost use Rattle.ore_algebra.specs.Limits.{program};
+ghost use Rattle.std.specs.Prelude.{◌≡◌, IfOk, MatchOption};
 ghost use Rattle.ore_cert.specs.CertificateOf.{IsCertificateOf};
 ghost use Rattle.ore_cert.specs.KindWords.{kind_word};
-ghost use Rattle.ore_check.specs.Check.{check as check_of, Answers, IsBuilt, IsNoReport};
-ghost use Rattle.ore_check.specs.Layout.{line_in};
+ghost use Rattle.ore_cert.specs.declared.certificate.Certificate.TheVariants.{Halted};
 ghost use Rattle.ore_blocks.specs.CheckBlock.{plain};
+ghost use Rattle.ore_check.specs.Check.{IsNoReport};
 ghost use Rattle.ore_check.specs.Meaning.{Means};
 ghost use Rattle.ore_problem.specs.Stored.{system_of, IsProblem};
 ghost use Rattle.ore_reply.specs.Replies as replies;
@@ -14,14 +13,13 @@ ghost use Rattle.ore_reply.specs.MadeReply.{reply_of};
 ghost use Rattle.ore_commands.specs.Verdict as verdict;
 
 use crate::condition::answer_reply;
-use crate::kind::is_built;
-use ore_cert::Certificate;
+use crate::report_check::check_report;
+use ore_cert::{Certificate, Report};
 use ore_check::{Checked, check};
 use ore_commutative::CommutativeRing;
 use ore_mixed::MixedRing;
 use ore_monomial::NoMemory;
 use ore_problem::Problem;
-use ore_reply::reply::malformed_at;
 use ore_reply::{Reply, Status};
 use ore_ring::OreRing;
 use ore_weyl::WeylRing;
@@ -29,7 +27,7 @@ use std::alloc::Global;
 
 /// The reply to a certificate of a problem that has so many lines.
 ///
-/// The problem is as it is read, and the certificate of its signature.
+/// The problem is as it is read, and the certificate of its signature; the plan of a report may be written.
 ///
 /// # Errors
 /// Want of memory.
@@ -41,13 +39,10 @@ pub fn certificate_reply(
 ) -> Result<Reply, NoMemory>
     requires problem { IsProblem problem.now }
     requires of { IsCertificateOf problem.now.signature cert.now }
+    requires plan { verdict.HasWrittenPlan cert.now }
     ensures reply { IfOk result (λ r. verdict.IsCheckedReply (system_of problem.now) lines cert.now (reply_of r)) }
-    ensures valid { IfOk result (λ r. r.status ≡ Status.Done → IsBuilt cert.now
-        × Means problem.now.signature (plain problem.now.matrix) cert.now × (r.text.items ≡ (replies.valid (kind_word cert.now)).text)) }
+    ensures valid { IfOk result (λ r. r.status ≡ Status.Done → Means problem.now.signature (plain problem.now.matrix) cert.now × (r.text.items ≡ (replies.valid (kind_word cert.now)).text)) }
 {
-    if !is_built(cert) {
-        return malformed_at(alloc, lines as u128 + 2, b"not-built");
-    }
     let answer = checked(alloc, problem, cert);
     answer_reply(alloc, lines, cert.word(), answer)
 }
@@ -57,8 +52,8 @@ pub fn certificate_reply(
 fn checked(alloc: Global, problem: &Problem, cert: &Certificate) -> Checked
     requires problem { IsProblem problem.now }
     requires of { IsCertificateOf problem.now.signature cert.now }
-    requires built { IsBuilt cert.now }
-    ensures answers { (claims : IsNoReport cert.now) × Answers (line_in cert.now) result (check_of program problem.now.signature (plain problem.now.matrix) cert.now claims) }
+    requires plan { verdict.HasWrittenPlan cert.now }
+    ensures answers { verdict.IsCheckAnswer problem.now.signature (plain problem.now.matrix) cert.now result }
     ensures means { result ≡ Checked.Valid → Means problem.now.signature (plain problem.now.matrix) cert.now }
 {
     let signature = &problem.signature;
@@ -76,9 +71,31 @@ fn checked_in<R: OreRing>(ring: &R, alloc: Global, problem: &Problem, cert: &Cer
     requires same { R.sig ring.now ≡ problem.now.signature }
     requires problem { IsProblem problem.now }
     requires of { IsCertificateOf problem.now.signature cert.now }
-    requires built { IsBuilt cert.now }
-    ensures answers { (claims : IsNoReport cert.now) × Answers (line_in cert.now) result (check_of program problem.now.signature (plain problem.now.matrix) cert.now claims) }
+    requires plan { verdict.HasWrittenPlan cert.now }
+    ensures answers { verdict.IsCheckAnswer problem.now.signature (plain problem.now.matrix) cert.now result }
     ensures means { result ≡ Checked.Valid → Means problem.now.signature (plain problem.now.matrix) cert.now }
 {
-    check(ring, alloc, &problem.matrix, cert)
+    match report_of(cert) {
+        Some(report) => check_report(ring, alloc, &problem.matrix, report),
+        None => check(ring, alloc, &problem.matrix, cert),
+    }
+}
+
+// The report, where the certificate is one.
+fn report_of(cert: &Certificate) -> Option<&Report>
+    ensures { MatchOption result (IsNoReport cert.now) (λ report. cert.now ≡ Halted report.now) }
+{
+    match cert {
+        Certificate::Controllable { .. }
+        | Certificate::AutonomousElement { .. }
+        | Certificate::LeftInverse { .. }
+        | Certificate::RightInverse { .. }
+        | Certificate::NoLeftInverse { .. }
+        | Certificate::NoRightInverse { .. }
+        | Certificate::Kernel { .. }
+        | Certificate::Resolution { .. }
+        | Certificate::ExtZero { .. }
+        | Certificate::ExtNonzero { .. } => None,
+        Certificate::Halted { report } => Some(report),
+    }
 }

@@ -3,7 +3,6 @@ use Rattle.std.specs.Prelude.{codes}
 use Rattle.ore_parts.specs.Reading.{IsFaultOf}
 use Rattle.ore_cert.specs.KindWords.{kind_word}
 use Rattle.ore_cert.specs.WholeText.{IsCertificate}
-use Rattle.ore_check.specs.Check.{IsBuilt}
 use Rattle.ore_blocks.specs.CheckBlock.{plain}
 use Rattle.ore_check.specs.Meaning.{Means}
 use Rattle.ore_problem.specs.Stored.{system_of}
@@ -11,7 +10,7 @@ use Rattle.ore_reply.specs.Replies.{valid, malformed_at}
 use Rattle.ore_reply.specs.MadeReply.{reply_of}
 use Rattle.ore_reply.specs.declared.status.Status.TheVariants.{Done}
 use Rattle.ore_commands.specs.Verdict.{IsCertificateReply, IsCheckedReply, SaysValid}
-use Rattle.ore_commands.proofs.Verdicts.{if_ok}
+use Rattle.ore_commands.proofs.Verdicts.{if_ok, plan_written}
 use Rattle.ore_commands.proofs.check.text_reply.Goals as goal
 
 pub returns-in-Ok-clause-reply : goal.returns-in-Ok-clause-reply
@@ -25,8 +24,8 @@ pub returns-in-Ok-clause-valid : goal.returns-in-Ok-clause-valid
 returns-in-Ok-clause-valid c =
     let p = c.args.problem.now in
     let cert = c.in-Ok.certificate in
-    if_ok c.certificate_reply.result (λ r. r.status ≡ Done → IsBuilt cert × Means p.signature (plain p.matrix) cert × (r.text.items ≡ (valid (kind_word cert)).text)) (λ r. r.status ≡ Done → SaysValid (system_of p) c.args.text.now r.text.items) c.certificate_reply.ensures.valid
-    (λ r h d. let v = h d in (cert, record { built = v.0; written = c.in-Ok.ensures.found.0; certificate = c.in-Ok.ensures.found.1; means = v.1 }, v.2))
+    if_ok c.certificate_reply.result (λ r. r.status ≡ Done → Means p.signature (plain p.matrix) cert × (r.text.items ≡ (valid (kind_word cert)).text)) (λ r. r.status ≡ Done → SaysValid (system_of p) c.args.text.now r.text.items) c.certificate_reply.ensures.valid
+    (λ r h d. let v = h d in (cert, record { written = c.in-Ok.ensures.found.0; certificate = c.in-Ok.ensures.found.1; means = v.0 }, v.1))
 
 pub returns-in-Err-Malformed-clause-reply : goal.returns-in-Err-Malformed-clause-reply
 returns-in-Err-Malformed-clause-reply c =
@@ -35,3 +34,8 @@ returns-in-Err-Malformed-clause-reply c =
     let faulty = subst (IsFaultOf (IsCertificate p.signature p.names) c.args.text.now) c.in-Err-Malformed.field-0-is c.in-Err-Malformed.ensures.faulty in
     if_ok c.malformed_at.result (λ r. reply_of r ≡ malformed_at (c.args.lines + line) (codes "certificate")) (λ r. IsCertificateReply p c.args.lines c.args.text.now (reply_of r)) c.malformed_at.ensures
     (λ r h. inr (line, faulty, h))
+
+pub certificate_reply-requires-clause-plan : goal.certificate_reply-requires-clause-plan
+certificate_reply-requires-clause-plan c =
+    let p = system_of c.args.problem.now in
+    plan_written p.signature p.names c.in-Ok.certificate c.in-Ok.ensures.found.0

@@ -5,7 +5,7 @@ use Rattle.ore_problem.specs.Stored.{system_of}
 use Rattle.ore_reply.specs.MadeReply.{reply_of}
 use Rattle.ore_reply.specs.declared.status.Status.TheVariants.{Done}
 use Rattle.ore_report.specs.ChainRule.{chain_allows, chain_allows_spent}
-use Rattle.ore_commands.specs.Finding.{default_budget, found_text, IsSearchReply}
+use Rattle.ore_commands.specs.Finding.{found_text, IsSearchReply}
 use Rattle.ore_commands.specs.Search.{IsFoundBy, IsRightFound}
 use Rattle.ore_commands.proofs.Searches.{none_treated, found_replied}
 use Rattle.ore_commands.proofs.Verdicts.{if_ok}
@@ -19,10 +19,10 @@ returns-in-Ok g c =
     let before = c.new-chooser.result in
     let after = c.find.new.chooser in
     let start : before.given ≡ [] = ap (λ x. x.given) c.new-chooser.ensures in
-    let budget : after.budget ≡ default_budget = ap (λ x. x.budget) c.in-Ok.ensures.settings ∙ ap (λ x. x.budget) c.new-chooser.ensures in
-    let paid : AreAfforded after.given default_budget = subst (AreAfforded after.given) budget (c.in-Ok.ensures.afforded (subst (λ runs. AreAfforded runs before.budget) (sym start) (none_treated before.budget))) in
-    let by = subst (λ s. IsFoundBy s r chain_allows chain_allows_spent c.args.plan before.given after.given found) c.requires.same c.in-Ok.ensures.answered in
-    let since = subst (λ runs. IsFoundBy c.args.problem.signature r chain_allows chain_allows_spent c.args.plan runs after.given found) start by in
-    let right = subst (λ s. IsRightFound s r found) c.requires.same c.in-Ok.ensures.right in
-    if_ok c.found_reply.result (λ reply. reply_of reply ≡ record { status = Done; text = found_text p found }) (λ reply. IsSearchReply p default_budget c.args.plan (reply_of reply)) c.found_reply.ensures
-    (λ reply e. inl (found_replied p default_budget c.args.plan after.given paid found since right (reply_of reply) e))
+    let budget : after.budget ≡ c.args.search.budget = ap (λ x. x.budget) c.in-Ok.ensures.settings ∙ ap (λ x. x.budget) c.new-chooser.ensures in
+    let paid : AreAfforded after.given c.args.search.budget = subst (AreAfforded after.given) budget (c.in-Ok.ensures.afforded (subst (λ runs. AreAfforded runs before.budget) (sym start) (none_treated before.budget))) in
+    let by = subst (λ s. IsFoundBy s r chain_allows chain_allows_spent c.args.search.plan before.given after.given found) c.requires.same c.in-Ok.ensures.answered in
+    let since = subst (λ runs. IsFoundBy c.args.problem.signature r chain_allows chain_allows_spent c.args.search.plan runs after.given found) start by in
+    let right = subst (λ s. IsRightFound s r c.args.search.plan found) c.requires.same c.in-Ok.ensures.right in
+    if_ok c.found_reply.result (λ reply. reply_of reply ≡ record { status = Done; text = found_text p c.args.search.brief found }) (λ reply. IsSearchReply p c.args.search (reply_of reply)) c.found_reply.ensures
+    (λ reply e. inl (found_replied p c.args.search after.given paid found since right c.law_found_is_storable.ensures (reply_of reply) e))
