@@ -51,17 +51,3 @@ fn polynomials_are_a_ring(rt: HostRuntime) -> Result<(), Fail> {
     assert!(rt; adjoint.equal(&polynomial(&ring, rt.alloc(), &turned)?));
     Ok(())
 }
-
-#[test]
-fn degree_is_looked_at_before_overflow(rt: HostRuntime) -> Result<(), Fail> {
-    let ring = CommutativeRing::new(commuting(Order::DegLex)?).expect(&rt, "all commute");
-    let f = polynomial(&ring, rt.alloc(), &[(32767, 0, 1), (0, 0, i128::MAX)])?;
-    let g = polynomial(&ring, rt.alloc(), &[(0, 1, 1), (0, 0, 2)])?;
-    let two = polynomial(&ring, rt.alloc(), &[(0, 0, 2)])?;
-    assert_eq!(rt; ring.mul(rt.alloc(), &f, &g).err(), Some(RingStop::Degree));
-    assert_eq!(rt;
-        ring.mul(rt.alloc(), &f, &two).err(),
-        Some(RingStop::Overflow)
-    );
-    Ok(())
-}

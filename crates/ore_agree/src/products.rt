@@ -10,8 +10,8 @@ use ore_weyl::WeylRing;
 use std::alloc::Global;
 use std::test::Fail;
 
-/// Whether a ring gives this product.
-pub(crate) fn gives<R: OreRing>(
+// Whether a ring gives this product.
+fn gives<R: OreRing>(
     ring: &R,
     alloc: Global,
     left: &[Term],

@@ -44,6 +44,3 @@ fn words(rt: &(impl Env + AllocGlobal)) -> Result<ArgList, NoMemory> {
     }
     Ok(words)
 }
-
-#[cfg(test)]
-mod tests;

@@ -1,14 +1,14 @@
-//! Rows and matrices of texts, with which results are compared.
+//! Rows and bases of texts.
 
-ghost use Rattle.std.specs.Prelude.{◌≡◌, ◌<◌, ◌^◌, IfOk, length};
+ghost use Rattle.std.specs.Prelude.{◌≡◌, IfOk, length};
 ghost use Rattle.std.specs.List.{All};
 ghost use Rattle.ore_ring.specs.Belongs.{Belongs};
 ghost use Rattle.ore_rows.specs.StoredBasis.{AllBelong};
 
+use crate::bases::add;
 use ore_expr::read_operator;
 use ore_ring::{Op, OreRing};
-use ore_row_tests::bases::add;
-use ore_rows::{Basis, Matrix, Row};
+use ore_rows::{Basis, Row};
 use ore_text::Names;
 use std::alloc::Global;
 use std::test::Fail;
@@ -38,26 +38,6 @@ pub(crate) fn row_from<R: OreRing>(
     Ok(Row::from_vec(entries))
 }
 
-/// The matrix of the rows between the semicolons.
-pub(crate) fn matrix_from<R: OreRing>(
-    ring: &R,
-    alloc: Global,
-    names: &Names,
-    cols: usize,
-    text: &str,
-) -> Result<Matrix, Fail>
-    requires names { length names.now ≡ length (R.sig ring.now).kinds }
-    requires few { cols < 2 ^ 63 }
-    ensures of { IfOk result (λ m. All (All (Belongs (R.sig ring.now))) m.rows) }
-    ensures cols { IfOk result (λ m. m.cols ≡ cols) }
-{
-    let mut rows = Vec::new(alloc);
-    for line in text.split(';') {
-        rows.push(row_from(ring, alloc, names, cols, line)?)?;
-    }
-    Ok(Matrix::from_rows(cols, rows))
-}
-
 // Whether operators are equal, as far as there are others beside them.
 fn are_equal(operators: &[Op], others: &[Op]) -> bool {
     for (operator, other) in operators.iter().zip(others) {
@@ -80,56 +60,6 @@ pub(crate) fn row_is<R: OreRing>(
 {
     let expected = row_from(ring, alloc, names, row.len(), text)?;
     Ok(are_equal(row.entries(), expected.entries()))
-}
-
-/// Whether the rows of a matrix are those of the text.
-pub(crate) fn rows_are<R: OreRing>(
-    ring: &R,
-    alloc: Global,
-    names: &Names,
-    m: &Matrix,
-    text: &str,
-) -> Result<bool, Fail>
-    requires { length names.now ≡ length (R.sig ring.now).kinds }
-{
-    let mut count = 0;
-    for line in text.split(';') {
-        if count >= m.rows() {
-            return Ok(false);
-        }
-        if !row_is(ring, alloc, names, m.row(count), line)? {
-            return Ok(false);
-        }
-        count += 1;
-    }
-    Ok(count == m.rows())
-}
-
-/// Whether the rows of a basis are those of a text, and its cofactor rows those of another.
-pub(crate) fn basis_is<R: OreRing>(
-    ring: &R,
-    alloc: Global,
-    names: &Names,
-    basis: &Basis,
-    rows: &str,
-    cofactors: &str,
-) -> Result<bool, Fail>
-    requires { length names.now ≡ length (R.sig ring.now).kinds }
-{
-    let mut count = 0;
-    for (row, cofactor) in rows.split(';').zip(cofactors.split(';')) {
-        if count >= basis.len() {
-            return Ok(false);
-        }
-        if !row_is(ring, alloc, names, basis.row(count), row)? {
-            return Ok(false);
-        }
-        if !row_is(ring, alloc, names, basis.cofactor(count), cofactor)? {
-            return Ok(false);
-        }
-        count += 1;
-    }
-    Ok(count == basis.len())
 }
 
 /// The basis of the rows of a text, with the cofactor rows of another.

@@ -1,6 +1,6 @@
 use Rattle.std.proofs.Common.{◌≡◌}
 use Rattle.ore_rows.specs.StoredBasis.{AllBelong}
-use Rattle.ore_run_tests.proofs.texts.basis_from.Given as goal
+use Rattle.ore_library_tests.proofs.texts.basis_from.Given as goal
 
 abbrev pub invariant-loop-row : goal.invariant-loop-row
 invariant-loop-row g l = record {

@@ -4,6 +4,7 @@ ghost use Rattle.std.specs.Prelude.{◌≡◌, ◌<◌, IfOk, length};
 ghost use Rattle.ore_rows.specs.Reduction.{basis_lead};
 ghost use Rattle.ore_rows.specs.StoredBasis.{AllBelong};
 
+use crate::names::letters;
 use crate::texts::{basis_from, row_is};
 use ore_agree::operators::mixed;
 use ore_groebner::entries::entry_row;
@@ -12,7 +13,6 @@ use ore_monomial::{Exps, Order};
 use ore_pairs::{Listed, common, may_skip, s_row};
 use ore_rational::Rational;
 use ore_ring::OreRing;
-use ore_row_tests::names::letters;
 use ore_rows::Basis;
 use ore_text::Names;
 use std::alloc::Global;

@@ -6,7 +6,7 @@ use Rattle.ore_rows.specs.RowLead.{IsRowLead}
 use Rattle.ore_rows.specs.Stored.{sums_of}
 use Rattle.ore_rows.specs.StoredBasis.{AllBelong}
 use Rattle.ore_rows.proofs.StoredBases.{all_belong-push}
-use Rattle.ore_row_tests.proofs.bases.add.Goals as goal
+use Rattle.ore_library_tests.proofs.bases.add.Goals as goal
 
 not_false : (b : Bool) → false ≡ not b → b ≡ true
 not_false true e = refl

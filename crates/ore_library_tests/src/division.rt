@@ -4,7 +4,7 @@ ghost use Rattle.std.specs.Prelude.{◌≡◌, ◌<◌, IfOk, length};
 ghost use Rattle.ore_rows.specs.StoredBasis.{AllBelong};
 
 use crate::bases::add;
-use crate::rows::{D, MINUS_D, ONE, T, T_D, is_row, row_of};
+use crate::rows::{D, ONE, T, T_D, is_row, row_of};
 use ore_agree::operators::{Term, mixed};
 use ore_division::{Reduced, reduce};
 use ore_mixed::MixedRing;
@@ -16,6 +16,8 @@ use std::alloc::Global;
 use std::test::Fail;
 
 const MINUS_ONE: Term = (-1, [0; 12]);
+
+const MINUS_D: Term = (-1, [0, 0, 0, 0, 0, 0, 1, 0, 0, 0, 0, 0]);
 
 // The basis of (t, 0) and (d, 1), each with a cofactor row of its own.
 fn basis_of_two(signature: &Signature, alloc: Global) -> Result<Basis, Fail>

@@ -1,4 +1,4 @@
-//! The calls on rows over a ring that has all kinds of letters.
+//! Products of rows and matrices over a ring that has all kinds of letters.
 
 ghost use Rattle.std.specs.Prelude.{◌≡◌, IfOk, length};
 ghost use Rattle.std.specs.List.{All};
@@ -6,13 +6,9 @@ ghost use Rattle.ore_ring.specs.Belongs.{Belongs};
 
 use ore_agree::operators::{Term, mixed, operator};
 use ore_mixed::MixedRing;
-use ore_monomial::{Exps, Order, Signature};
-use ore_rational::Rational;
+use ore_monomial::{Order, Signature};
 use ore_ring::OreRing;
-use ore_rows::{
-    Matrix, Row, combine, identity, row_add, row_copy, row_lead, row_sub, scale, stack, times,
-    unit_row,
-};
+use ore_rows::{Matrix, Row, combine, times};
 use std::alloc::Global;
 use std::test::Fail;
 
@@ -29,10 +25,6 @@ const D_SQUARED: Term = (1, [0, 0, 0, 0, 0, 0, 2, 0, 0, 0, 0, 0]);
 pub(crate) const T_D: Term = (1, [1, 0, 0, 0, 0, 0, 1, 0, 0, 0, 0, 0]);
 
 const TWICE_T_D: Term = (2, [1, 0, 0, 0, 0, 0, 1, 0, 0, 0, 0, 0]);
-
-const MINUS_T: Term = (-1, [1, 0, 0, 0, 0, 0, 0, 0, 0, 0, 0, 0]);
-
-pub(crate) const MINUS_D: Term = (-1, [0, 0, 0, 0, 0, 0, 1, 0, 0, 0, 0, 0]);
 
 // The row of two operators.
 pub(crate) fn row_of(
@@ -90,44 +82,6 @@ pub(crate) fn is_row(
     Ok(equal(row, &row_of(signature, alloc, first, second)?))
 }
 
-// Whether d (t, d) = (t d + 1, d^2).
-fn scales(ring: &MixedRing, alloc: Global, row: &Row) -> Result<bool, Fail>
-    requires twelve { length ring.now.kinds ≡ 12 }
-    requires of { All (Belongs ring.now) row.now }
-{
-    let signature = OreRing::signature(ring);
-    let d = operator(signature, alloc, &[D])?;
-    let scaled = scale(ring, alloc, &d, row)?;
-    is_row(signature, alloc, &scaled, &[T_D, ONE], &[D_SQUARED])
-}
-
-// Whether (t, d) + (d, t) = (t + d, d + t), and (t, d) - (d, t) = (t - d, d - t).
-fn adds(ring: &MixedRing, alloc: Global, a: &Row, b: &Row) -> Result<bool, Fail>
-    requires twelve { length ring.now.kinds ≡ 12 }
-    requires a_of { All (Belongs ring.now) a.now }
-    requires b_of { All (Belongs ring.now) b.now }
-    requires as_long { length a.now ≡ length b.now }
-{
-    let signature = OreRing::signature(ring);
-    let sum = row_add(ring, alloc, a, b)?;
-    if !is_row(signature, alloc, &sum, &[T, D], &[D, T])? {
-        return Ok(false);
-    }
-    let difference = row_sub(ring, alloc, a, b)?;
-    is_row(signature, alloc, &difference, &[T, MINUS_D], &[D, MINUS_T])
-}
-
-#[test]
-fn one_and_two_rows(rt: HostRuntime) -> Result<(), Fail> {
-    let ring = MixedRing::new(mixed(Order::DegRevLex)?);
-    let a = row_of(OreRing::signature(&ring), rt.alloc(), &[T], &[D])?;
-    let b = row_of(OreRing::signature(&ring), rt.alloc(), &[D], &[T])?;
-    assert!(rt; scales(&ring, rt.alloc(), &a)?);
-    assert!(rt; adds(&ring, rt.alloc(), &a, &b)?);
-    assert!(rt; equal(&row_copy(&ring, rt.alloc(), &a)?, &a));
-    Ok(())
-}
-
 // Whether (d, t) by the rows (t, 1) and (d, t) is (d t + t d, d + t^2).
 fn combines(ring: &MixedRing, alloc: Global, m: &Matrix) -> Result<bool, Fail>
     requires twelve { length ring.now.kinds ≡ 12 }
@@ -179,61 +133,5 @@ fn rows_and_matrices(rt: HostRuntime) -> Result<(), Fail> {
     assert!(rt; combines(&ring, rt.alloc(), &m)?);
     let n = matrix_of(signature, rt.alloc(), [D, T], [T, D])?;
     assert!(rt; multiplies(&ring, rt.alloc(), &n, &m)?);
-    Ok(())
-}
-
-// Whether a row stands above the rows of the identity.
-fn stacks(ring: &MixedRing, alloc: Global, z: &Row) -> Result<bool, Fail>
-    requires twelve { length ring.now.kinds ≡ 12 }
-    requires of { All (Belongs ring.now) z.now }
-    requires two { length z.now ≡ 2 }
-{
-    let signature = OreRing::signature(ring);
-    let one = identity(alloc, signature, 2)?;
-    let m = stack(ring, alloc, z, &one)?;
-    if m.rows() != 3 || m.cols() != 2 {
-        return Ok(false);
-    }
-    if !equal(m.row(0), z) || !is_row(signature, alloc, m.row(1), &[ONE], &[])? {
-        return Ok(false);
-    }
-    is_row(signature, alloc, m.row(2), &[], &[ONE])
-}
-
-#[test]
-fn a_row_above_the_identity(rt: HostRuntime) -> Result<(), Fail> {
-    let ring = MixedRing::new(mixed(Order::DegRevLex)?);
-    let signature = OreRing::signature(&ring);
-    let z = row_of(signature, rt.alloc(), &[T], &[D])?;
-    assert!(rt; stacks(&ring, rt.alloc(), &z)?);
-    let unit = unit_row(rt.alloc(), signature, 2, 0)?;
-    assert!(rt; is_row(signature, rt.alloc(), &unit, &[ONE], &[])?);
-    Ok(())
-}
-
-// Whether the row of two operators has this lead.
-fn has_lead(
-    signature: &Signature,
-    alloc: Global,
-    first: &[Term],
-    second: &[Term],
-    lead: Option<(usize, Exps, Rational)>,
-) -> Result<bool, Fail>
-    requires { length signature.now.kinds ≡ 12 }
-{
-    let row = row_of(signature, alloc, first, second)?;
-    Ok(row_lead(signature, &row) == lead)
-}
-
-#[test]
-fn leads_of_rows(rt: HostRuntime) -> Result<(), Fail> {
-    let signature = mixed(Order::DegRevLex)?;
-    let t = Exps::from_list(&T.1)?;
-    let one = Rational::one();
-    // t is greater than d
-    assert!(rt; has_lead(&signature, rt.alloc(), &[D], &[T], Some((1, t, one)))?);
-    // of t and -t the first is greater
-    assert!(rt; has_lead(&signature, rt.alloc(), &[T], &[MINUS_T], Some((0, t, one)))?);
-    assert!(rt; has_lead(&signature, rt.alloc(), &[], &[], None)?);
     Ok(())
 }

@@ -11,7 +11,12 @@ use ore_rows::{Basis, Row, row_lead};
 use std::test::Fail;
 
 /// One more row of a basis, where its lead coefficient is 1.
-pub fn add(basis: &mut Basis, signature: &Signature, row: Row, cofactor: Row) -> Result<(), Fail>
+pub(crate) fn add(
+    basis: &mut Basis,
+    signature: &Signature,
+    row: Row,
+    cofactor: Row,
+) -> Result<(), Fail>
     requires row_width { length row ≡ basis.old.cols }
     requires cofactor_width { length cofactor ≡ basis.old.width }
     requires row_of { All (Belongs signature.now) row }

@@ -7,7 +7,7 @@ use std::alloc::Global;
 use std::test::Fail;
 
 /// The twelve letters, each a name.
-pub fn letters(alloc: Global) -> Result<Names, Fail>
+pub(crate) fn letters(alloc: Global) -> Result<Names, Fail>
     ensures { IfOk result (λ names. length names ≡ 12) }
 {
     let mut names = Names::new(alloc);
