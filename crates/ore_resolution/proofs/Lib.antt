@@ -1,2 +1,3 @@
 pub mod FollowedLinks
 pub mod FollowedExtension
+pub mod TorsionByExtension

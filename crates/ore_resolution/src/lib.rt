@@ -15,6 +15,7 @@
 //!  * `certify`: the identities of a certificate.
 //!  * `resolution`: resolutions.
 //!  * `extension`: extension modules.
+//!  * `laws`: what extension modules say of torsion.
 //!
 //! The crate stands on `ore_syzygy` for blocks, on `ore_kernels` for the block of a kernel, on `ore_inverse` for rows
 //! reduced in order, on `ore_adjoint` for transposed adjoints, on `ore_check` for identities and plans, on `ore_cert`
@@ -23,6 +24,7 @@
 
 mod certify;
 pub mod extension;
+pub mod laws;
 mod links;
 pub mod resolution;
 mod runs;
