@@ -3,6 +3,7 @@
 --     right_is_valid         the law
 --     names_counted          an accepted problem has a name for each variable
 --     valid_behind           a certificate whose stored parts are in range, behind the problem
+--     verdict_is_valid       so is what `analyse` finds
 --     plan_passes, passes    the answer of a plan, and what is said of it
 use Rattle.std.proofs.Common.{◌≡◌, ℕ, suc, Bool, true, false, List, [], ◌∷◌, ◌++◌, length, drop, refl, sym, ap, subst, inl}
 use Rattle.std.proofs.Math.Seq.{drop-append_seam}
@@ -34,7 +35,7 @@ use Rattle.ore_commands.proofs.WrittenRight.{right_may_be_written}
 use Rattle.ore_reply.specs.Answered.{IsReplyToRead}
 use Rattle.ore_reply.specs.Replies.{valid}
 use Rattle.ore_commands.specs.AcceptedAnswers.{closed, PassesCheck, RightCertificateIsValid}
-use Rattle.ore_commands.specs.Finding.{answer_text, IsRightAnswer, IsStorableAnswer, IsFound}
+use Rattle.ore_commands.specs.Finding.{search_by, text_of, answer_text, IsRightAnswer, IsStorableAnswer, IsFound}
 use Rattle.ore_commands.specs.Verdict.{matrix_of, checked_reply, IsCertificateReply, IsVerdict}
 use Rattle.ore_commands.specs.declared.search.Search.{Search}
 use Rattle.ore_commands.proofs.ClosedTexts.{raw_lines-closed_append, accepted_closed}
@@ -77,20 +78,23 @@ names_counted before (line ∷ lines) [] kinds h = absurd h
 names_counted before (line ∷ lines) (name ∷ names) [] h = absurd h
 
 module _ (bytes : List ℕ) (p : System) (accepted : Accepted bytes p) where
-  valid_behind : (c : Certificate) → IsRight p.signature (matrix_of p) c → HasNonZeroSteps c → IsStorableCertificate c → (named : Certificate) × IsVerdict (closed bytes ++ certificate_text p.names p.signature.order c) (valid (kind_word named))
+  valid_behind : (c : Certificate) → IsRight p.signature (matrix_of p) c → HasNonZeroSteps c → IsStorableCertificate c → IsVerdict (closed bytes ++ certificate_text p.names p.signature.order c) (valid (kind_word c))
   valid_behind c right number h =
       let count = names_counted [] accepted.declarations p.names p.signature.kinds accepted.declared in
-      (c, right_is_valid bytes p c accepted (right_may_be_written p.signature p.names accepted.names count (matrix_of p) c right number h) right)
+      right_is_valid bytes p c accepted (right_may_be_written p.signature p.names accepted.names count (matrix_of p) c right number h) right
+
+  pub verdict_is_valid : (c : Certificate) → IsFound p (search_by plan.Analyse) c → IsVerdict (closed bytes ++ text_of p c) (valid (kind_word c))
+  verdict_is_valid c found = valid_behind c found.right.0 ((plans_form_nonzero p.signature).analyse (matrix_of p) found.formed.0 c found.formed.1.formed) found.storable
 
   plan_passes : (named : Plan) (x : AnswerOf named) (runs : List (List Choice)) → IsFormedBy (program_runner p.signature) (plan_course p.signature named (matrix_of p)) runs x
       → IsRightAnswer p.signature (matrix_of p) named x → IsStorableAnswer named x → PassesCheck false named bytes (answer_text p false named x)
-  plan_passes plan.Analyse c runs formed right h = valid_behind c right.0 ((plans_form_nonzero p.signature).analyse (matrix_of p) runs c formed) h
-  plan_passes plan.KernelLeft c runs formed right h = valid_behind c right.0 ((plans_form_nonzero p.signature).kernel_left (matrix_of p) runs c formed) h
-  plan_passes plan.KernelRight c runs formed right h = valid_behind c right.0 ((plans_form_nonzero p.signature).kernel_right (matrix_of p) runs c formed) h
-  plan_passes plan.InverseLeft c runs formed right h = valid_behind c right.0 ((plans_form_nonzero p.signature).inverse_left (matrix_of p) runs c formed) h
-  plan_passes plan.InverseRight c runs formed right h = valid_behind c right.0 ((plans_form_nonzero p.signature).inverse_right (matrix_of p) runs c formed) h
-  plan_passes (plan.Resolve k) c runs formed right h = valid_behind c right.0 ((plans_form_nonzero p.signature).resolve k (matrix_of p) runs c formed) h
-  plan_passes (plan.Ext k) c runs formed right h = valid_behind c right.0 ((plans_form_nonzero p.signature).ext k (matrix_of p) runs c formed) h
+  plan_passes plan.Analyse c runs formed right h = (c, valid_behind c right.0 ((plans_form_nonzero p.signature).analyse (matrix_of p) runs c formed) h)
+  plan_passes plan.KernelLeft c runs formed right h = (c, valid_behind c right.0 ((plans_form_nonzero p.signature).kernel_left (matrix_of p) runs c formed) h)
+  plan_passes plan.KernelRight c runs formed right h = (c, valid_behind c right.0 ((plans_form_nonzero p.signature).kernel_right (matrix_of p) runs c formed) h)
+  plan_passes plan.InverseLeft c runs formed right h = (c, valid_behind c right.0 ((plans_form_nonzero p.signature).inverse_left (matrix_of p) runs c formed) h)
+  plan_passes plan.InverseRight c runs formed right h = (c, valid_behind c right.0 ((plans_form_nonzero p.signature).inverse_right (matrix_of p) runs c formed) h)
+  plan_passes (plan.Resolve k) c runs formed right h = (c, valid_behind c right.0 ((plans_form_nonzero p.signature).resolve k (matrix_of p) runs c formed) h)
+  plan_passes (plan.Ext k) c runs formed right h = (c, valid_behind c right.0 ((plans_form_nonzero p.signature).ext k (matrix_of p) runs c formed) h)
   plan_passes plan.Adjoint m runs formed right h = tt
 
   pub passes : (search : Search) (x : AnswerOf search.plan) → IsFound p search x → PassesCheck search.brief search.plan bytes (answer_text p search.brief search.plan x)

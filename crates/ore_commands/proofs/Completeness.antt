@@ -30,7 +30,7 @@ use Rattle.ore_reply.specs.Replies.{Reply}
 use Rattle.ore_reply.specs.declared.status.Status.{Status}
 use Rattle.ore_reply.specs.declared.status.Status.TheVariants.{Done, ReadFault, WriteFault, TooLong, Memory}
 use Rattle.ore_commands.specs.declared.command.Command.{Command}
-use Rattle.ore_commands.specs.declared.command.Command.TheVariants.{Check, Search, AnalyseInBrief, AnalyseWithin, Generate}
+use Rattle.ore_commands.specs.declared.command.Command.TheVariants.{Check, Search, AnalyseInBrief, AnalyseWithin, Generate, Survey}
 use Rattle.ore_commands.specs.Answer.{IsDueTo, IsDue, IsUnhalted, IsUnhaltedSearch}
 use Rattle.ore_commands.specs.Commands.{search_words, words_of, IsInRange, Calls}
 use Rattle.ore_commands.specs.Finding.{search_by, search_in_brief, search_within, IsSearchVerdict, IsUnreported}
@@ -57,6 +57,7 @@ key (Search named) = Search (plan_key named)
 key AnalyseInBrief = AnalyseInBrief
 key (AnalyseWithin n) = AnalyseWithin 0
 key (Generate n) = Generate 0
+key (Survey n) = Survey 0
 
 plan_number : Plan → ℕ
 plan_number plan.Analyse = 0
@@ -74,6 +75,7 @@ number (Search named) = plan_number named
 number AnalyseInBrief = 0
 number (AnalyseWithin n) = n
 number (Generate n) = n
+number (Survey n) = n
 
 plan_with : Plan → ℕ → Plan
 plan_with plan.Analyse n = plan.Analyse
@@ -91,6 +93,7 @@ with_number (Search named) n = Search (plan_with named n)
 with_number AnalyseInBrief n = AnalyseInBrief
 with_number (AnalyseWithin k) n = AnalyseWithin n
 with_number (Generate k) n = Generate n
+with_number (Survey k) n = Survey n
 
 plan_made : (named : Plan) → plan_with (plan_key named) (plan_number named) ≡ named
 unfolding plan_with plan_key plan_number
@@ -110,6 +113,7 @@ made (Search named) = ap (λ p. Search p) (plan_made named)
 made AnalyseInBrief = refl
 made (AnalyseWithin n) = refl
 made (Generate n) = refl
+made (Survey n) = refl
 
 -- the last word of a command with a number, and the digits of 0 for another
 plan_digits : Plan → List (List ℕ) → List ℕ
@@ -128,6 +132,7 @@ digits (Search named) words = plan_digits named words
 digits AnalyseInBrief words = decimal 0
 digits (AnalyseWithin n) words = get_or words 2 []
 digits (Generate n) words = get_or words 1 []
+digits (Survey n) words = get_or words 1 []
 
 plan_spelled : (named : Plan) → plan_digits (plan_key named) (search_words named) ≡ decimal (plan_number named)
 unfolding plan_digits plan_key plan_number
@@ -147,6 +152,7 @@ spelled (Search named) = plan_spelled named
 spelled AnalyseInBrief = refl
 spelled (AnalyseWithin n) = refl
 spelled (Generate n) = refl
+spelled (Survey n) = refl
 
 few_in_plan : (named : Plan) → IsWrittenPlan named → plan_number named < 2 ^ 64
 unfolding plan_number
@@ -166,6 +172,7 @@ few (Search named) b = few_in_plan named b
 few AnalyseInBrief b = omega arith
 few (AnalyseWithin n) b = omega (arith, b)
 few (Generate n) b = omega (arith, b)
+few (Survey n) b = omega (arith, b)
 
 -- words that begin so, or else another command's
 compared : List (List ℕ) → List (List ℕ) → Command → Option Command → Option Command
@@ -177,8 +184,9 @@ called words =
     (compared words (search_words plan.KernelRight) (Search plan.KernelRight) (compared words (search_words plan.InverseLeft) (Search plan.InverseLeft)
     (compared words (search_words plan.InverseRight) (Search plan.InverseRight) (compared words (search_words plan.Adjoint) (Search plan.Adjoint)
     (compared words (words_of AnalyseInBrief) AnalyseInBrief (compared (take 2 words) (take 2 (words_of (AnalyseWithin 0))) (AnalyseWithin 0)
-    (compared (take 1 words) (take 1 (words_of (Generate 0))) (Generate 0) (compared (take 1 words) (take 1 (search_words (plan.Resolve 0))) (Search (plan.Resolve 0))
-    (compared (take 1 words) (take 1 (search_words (plan.Ext 0))) (Search (plan.Ext 0)) None)))))))))))
+    (compared (take 1 words) (take 1 (words_of (Generate 0))) (Generate 0) (compared (take 1 words) (take 1 (words_of (Survey 0))) (Survey 0)
+    (compared (take 1 words) (take 1 (search_words (plan.Resolve 0))) (Search (plan.Resolve 0))
+    (compared (take 1 words) (take 1 (search_words (plan.Ext 0))) (Search (plan.Ext 0)) None))))))))))))
 
 plan_called_back : (named : Plan) → IsWrittenPlan named → called (search_words named) ≡ Some (Search (plan_key named))
 unfolding called compared plan_key
@@ -198,6 +206,7 @@ called_back (Search named) b = plan_called_back named b
 called_back AnalyseInBrief b = refl
 called_back (AnalyseWithin n) b = refl
 called_back (Generate n) b = refl
+called_back (Survey n) b = refl
 
 some_same : {A : Type 0} (x y : A) → ◌≡◌ {A = Option A} (Some x) (Some y) → x ≡ y
 some_same x y e = cc
@@ -267,6 +276,9 @@ command_done AnalyseInBrief before after due unhalted own = search_done search_i
 command_done (AnalyseWithin n) before after due unhalted own = search_done (search_within n) before after due unhalted own
 command_done (Generate n) before after due unhalted (inl e) = inr (inl (ap (λ (r : Reply). r.status) e))
 command_done (Generate n) before after due unhalted (inr e) = inr (inr (ap (λ (r : Reply). r.status) e))
+command_done (Survey n) before after due unhalted (inl e) = inr (inl (ap (λ (r : Reply). r.status) e))
+command_done (Survey n) before after due unhalted (inr (inl (done, says))) = inr (inr done)
+command_done (Survey n) before after due unhalted (inr (inr (report, honest, e))) = absurd (unhalted report honest)
 
 pub ends : (words : List (List ℕ)) (before after old new : Option (List ℕ)) (due : Reply) (status : Status) → IsDue words before after due → IsAnswered due status old new
     → status ≢ ReadFault → status ≢ WriteFault → (c : Command) → Calls words c → IsUnhalted c before → (status ≡ Done) ⊎ (status ≡ Memory)

@@ -7,9 +7,11 @@ pub mod SomeVerdict
 pub mod ClosedTexts
 pub mod AcceptedAnswers
 pub mod Searches
+pub mod Surveys
 pub mod FoundBy
 pub mod Completeness
 pub mod AdjointReplies
 pub mod ReportLines
 pub mod Replays
 pub mod WrittenRight
+pub mod OneSearchReply

@@ -11,31 +11,36 @@ use Rattle.std.specs.declared.option.Option.TheVariants.{Some}
 use Rattle.ore_reply.specs.Replies.{Reply, unknown_words}
 use Rattle.ore_reply.specs.Answered.{IsDueFrom, given_input}
 use Rattle.ore_commands.specs.declared.command.Command.{Command}
-use Rattle.ore_commands.specs.declared.command.Command.TheVariants.{Check, Search, AnalyseInBrief, AnalyseWithin, Generate}
+use Rattle.ore_commands.specs.declared.command.Command.TheVariants.{Check, Search, AnalyseInBrief, AnalyseWithin, Generate, Survey}
 use Rattle.ore_commands.specs.Commands.{Calls, IsKnown, input_limit}
 use Rattle.ore_commands.specs.Verdict.{IsVerdict, HoldsCertificate}
 use Rattle.ore_commands.specs.Finding.{search_by, search_in_brief, search_within, IsSearchVerdict, HoldsAnswer, IsUnreported}
 use Rattle.ore_commands.specs.Generating.{generated_text, generated_reply}
+use Rattle.ore_commands.specs.Surveying.{SaysSurveyed, IsSurveyReply, HasUnreportedNumber}
 use Rattle.ore_commands.specs.declared.search.Search.{Search as SearchOf}
 
--- of `check`, the verdict; of a search, the answer that its plan forms, or an honest report; of `generate`, the problem
+-- Of `check`, the verdict; of a search, the answer that its plan forms, or an honest report; of `generate`, the problem; of
+-- `survey`, the verdict on this problem, or an honest report.
 abbrev pub IsReplyOf : Command → List ℕ → Reply → Type 0
 IsReplyOf Check bytes reply = IsVerdict bytes reply
 IsReplyOf (Search plan) bytes reply = IsSearchVerdict (search_by plan) bytes reply
 IsReplyOf AnalyseInBrief bytes reply = IsSearchVerdict search_in_brief bytes reply
 IsReplyOf (AnalyseWithin budget) bytes reply = IsSearchVerdict (search_within budget) bytes reply
 IsReplyOf (Generate n) bytes reply = reply ≡ generated_reply n
+IsReplyOf (Survey n) bytes reply = IsSurveyReply n reply
 
 -- Of `check`, the bytes are a problem and a certificate of the kind that is named. What this says of the matrix is true,
 -- over numbers of any size. Of a search, the bytes are a problem, and what is said is the text of an answer that its plan
 -- forms: a certificate that is true and that the check accepts, or what it claims, or the problem with its transposed adjoint.
--- `check` then replies to the problem with a whole certificate behind it that this is valid. Of `generate`, what is said is the text of the generated problem.
+-- `check` then replies to the problem with a whole certificate behind it that this is valid. Of `generate`, what is said is the text of the generated problem; of `survey`, it names a verdict that is true of its matrix,
+-- and the size of the certificate.
 abbrev pub IsTrueOf : Command → List ℕ → List ℕ → Type 0
 IsTrueOf Check said bytes = HoldsCertificate said bytes
 IsTrueOf (Search plan) said bytes = HoldsAnswer (search_by plan) said bytes
 IsTrueOf AnalyseInBrief said bytes = HoldsAnswer search_in_brief said bytes
 IsTrueOf (AnalyseWithin budget) said bytes = HoldsAnswer (search_within budget) said bytes
 IsTrueOf (Generate n) said bytes = said ≡ generated_text n
+IsTrueOf (Survey n) said bytes = SaysSurveyed n said
 
 -- by what a source has left before and after
 abbrev pub IsDueTo : Command → Option (List ℕ) → Option (List ℕ) → Reply → Type 0
@@ -54,10 +59,11 @@ TellsTruth c said before = IfSome (given_input (input_limit c) before) (IsTrueOf
 abbrev pub IsUnhaltedSearch : SearchOf → Option (List ℕ) → Type 0
 IsUnhaltedSearch search before = (bytes : List ℕ) × (before ≡ Some bytes) × (length bytes ≤ 1048576) × IsUnreported search bytes
 
--- the command is a search of such an input, or `generate`, which always has an answer
+-- the command is a search of such an input, `generate`, which always has an answer, or `survey` of such a problem
 abbrev pub IsUnhalted : Command → Option (List ℕ) → Type 0
 IsUnhalted Check before = ⊥
 IsUnhalted (Search plan) before = IsUnhaltedSearch (search_by plan) before
 IsUnhalted AnalyseInBrief before = IsUnhaltedSearch search_in_brief before
 IsUnhalted (AnalyseWithin budget) before = IsUnhaltedSearch (search_within budget) before
 IsUnhalted (Generate n) before = Unit {0}
+IsUnhalted (Survey n) before = HasUnreportedNumber n

@@ -1,7 +1,7 @@
 -- The commands, and their words.
 --     search_words     the words that call the search by a plan
 --     budget_words     the words that call `analyse` with a budget
---     generate_words   the words that call for the generated problem with a number
+--     number_words     a word and a number
 --     words_of         the words that call a command
 --     IsInRange        the number of a command is in its range
 --     Calls            words call a command
@@ -16,7 +16,7 @@ use Rattle.ore_cert.specs.WholeText.{IsWrittenPlan}
 use Rattle.ore_cert.specs.declared.report.Plan.{Plan}
 use Rattle.ore_cert.specs.declared.report.Plan.TheVariants as plan
 use Rattle.ore_commands.specs.declared.command.Command.{Command}
-use Rattle.ore_commands.specs.declared.command.Command.TheVariants.{Check, Search, AnalyseInBrief, AnalyseWithin, Generate}
+use Rattle.ore_commands.specs.declared.command.Command.TheVariants.{Check, Search, AnalyseInBrief, AnalyseWithin, Generate, Survey}
 use Rattle.ore_commands.specs.Finding.{greatest_budget}
 use Rattle.ore_commands.specs.Generating.{greatest_number}
 
@@ -36,8 +36,8 @@ abbrev pub budget_words : ℕ → List (List ℕ)
 budget_words budget = codes "analyse" ∷ codes "--budget" ∷ decimal budget ∷ []
 
 -- the number in decimal digits
-abbrev pub generate_words : ℕ → List (List ℕ)
-generate_words n = codes "generate" ∷ decimal n ∷ []
+abbrev pub number_words : List ℕ → ℕ → List (List ℕ)
+number_words word n = word ∷ decimal n ∷ []
 
 -- compared byte for byte
 abbrev pub words_of : Command → List (List ℕ)
@@ -45,7 +45,8 @@ words_of Check = codes "check" ∷ []
 words_of (Search plan) = search_words plan
 words_of AnalyseInBrief = codes "analyse" ∷ codes "--brief" ∷ []
 words_of (AnalyseWithin budget) = budget_words budget
-words_of (Generate n) = generate_words n
+words_of (Generate n) = number_words (codes "generate") n
+words_of (Survey n) = number_words (codes "survey") n
 
 -- so many links as there may be, a budget and a number that aren't too great
 abbrev pub IsInRange : Command → Type 0
@@ -54,6 +55,7 @@ IsInRange (Search plan) = IsWrittenPlan plan
 IsInRange AnalyseInBrief = Unit {0}
 IsInRange (AnalyseWithin budget) = budget ≤ greatest_budget
 IsInRange (Generate n) = n ≤ greatest_number
+IsInRange (Survey n) = n ≤ greatest_number
 
 -- they are the words of the command, whose number is in its range
 abbrev pub Calls : List (List ℕ) → Command → Type 0
@@ -67,13 +69,14 @@ IsKnown words = (c : Command) × Calls words c
 abbrev pub Names : {X : Type 0} → (X → List (List ℕ)) → (X → Type 0) → List (List ℕ) → Option X → Type 0
 Names {X} called may words result = MatchOption result ((x : X) → may x → ¬ (words ≡ called x)) (λ x. may x × (words ≡ called x))
 
--- 32 MiB for `check`, which reads a certificate too, and 1 MiB for those that read a problem alone; `generate` reads nothing
+-- 32 MiB for `check`, which reads a certificate too, and 1 MiB for those that read a problem alone; `generate` and `survey` read nothing
 abbrev pub input_limit : Command → Option ℕ
 input_limit Check = Some 33554432
 input_limit (Search plan) = Some 1048576
 input_limit AnalyseInBrief = Some 1048576
 input_limit (AnalyseWithin budget) = Some 1048576
 input_limit (Generate n) = None
+input_limit (Survey n) = None
 
 -- they call one that has a limit
 abbrev pub IsReader : List (List ℕ) → Type 0

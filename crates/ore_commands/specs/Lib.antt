@@ -4,6 +4,7 @@ pub mod AcceptedAnswers
 pub mod Search
 pub mod Finding
 pub mod Generating
+pub mod Surveying
 pub mod SearchLaws
 pub mod CheckedReply
 pub mod ReportAnswers

@@ -1,5 +1,6 @@
 -- Laws of the commands and of their replies to a problem.
 --     CallOneCommand         words call one command
+--     HasOneSearchReply      bytes have one reply to a search
 --     AnswersUnreported      where no report is honest, a search has an answer
 --     stopped_adjoint        the report of a transposed adjoint that stops
 --     adjoint_reply          the reply of `adjoint` to a problem
@@ -25,6 +26,10 @@ use Rattle.ore_commands.specs.declared.search.Search.{Search}
 -- two commands that the same words call are one
 abbrev pub CallOneCommand : Type 0
 CallOneCommand = (words : List (List ℕ)) (c d : Command) → Calls words c → Calls words d → c ≡ d
+
+-- so there is one certificate, or one report
+abbrev pub HasOneSearchReply : Type 0
+HasOneSearchReply = (search : Search) (bytes : List ℕ) (a b : Reply) → IsSearchVerdict search bytes a → IsSearchVerdict search bytes b → a ≡ b
 
 -- the only reply to such bytes has status `Done`
 abbrev pub AnswersUnreported : Type 0

@@ -5,7 +5,7 @@ ghost use Rattle.ore_cert.specs.EachKind.{IsLength};
 ghost use Rattle.ore_cert.specs.WholeText.{IsWrittenPlan};
 ghost use Rattle.ore_cert.specs.declared.report.Plan as plan_of;
 ghost use Rattle.ore_reply.specs.MadeReply.{reply_of, IsOfBytes};
-ghost use Rattle.ore_commands.specs.Commands.{search_words, budget_words, generate_words, Calls, IsKnown, IsInRange, Names, input_limit};
+ghost use Rattle.ore_commands.specs.Commands.{search_words, budget_words, number_words, Calls, IsKnown, IsInRange, Names, input_limit};
 ghost use Rattle.ore_commands.specs.Answer.{IsReplyOf, IsTrueOf};
 ghost use Rattle.ore_commands.specs.Finding.{greatest_budget};
 ghost use Rattle.ore_commands.specs.Generating.{greatest_number};
@@ -13,6 +13,7 @@ ghost use Rattle.ore_commands.specs.Generating.{greatest_number};
 use crate::check::check_reply;
 use crate::generated::generate_reply;
 use crate::search::{Search, search_reply};
+use crate::survey::survey_reply;
 use ore_cert::Plan;
 use ore_monomial::NoMemory;
 use ore_parts::sizes::number_in;
@@ -33,6 +34,9 @@ pub enum Command {
     AnalyseWithin(u32),
     /// Reads nothing, and writes the generated problem with this number.
     Generate(u16),
+    /// Reads nothing, and writes the verdict on the generated problem with this number and the size of its certificate, or the
+    /// report of a search that stopped.
+    Survey(u16),
 }
 
 impl Command {
@@ -52,8 +56,11 @@ impl Command {
         if let Some(budget) = budget_named(words) {
             return Some(Command::AnalyseWithin(budget));
         }
-        match generated_named(words) {
-            Some(number) => Some(Command::Generate(number)),
+        if let Some(number) = generated_named(words, b"generate") {
+            return Some(Command::Generate(number));
+        }
+        match generated_named(words, b"survey") {
+            Some(number) => Some(Command::Survey(number)),
             None => None,
         }
     }
@@ -68,6 +75,7 @@ impl Command {
             Command::AnalyseInBrief => Some(1_048_576),
             Command::AnalyseWithin(_) => Some(1_048_576),
             Command::Generate(_) => None,
+            Command::Survey(_) => None,
         }
     }
 
@@ -87,6 +95,7 @@ impl Command {
             Command::AnalyseInBrief => search_reply(alloc, Search::in_brief(), bytes),
             Command::AnalyseWithin(budget) => search_reply(alloc, Search::within(budget), bytes),
             Command::Generate(number) => generate_reply(alloc, number),
+            Command::Survey(number) => survey_reply(alloc, number),
         }
     }
 }
@@ -168,11 +177,11 @@ fn budget_of(number: usize) -> Option<u32>
     }
 }
 
-// The number of the generated problem, if these words name one.
-fn generated_named(words: &ArgList) -> Option<u16>
-    ensures { Names generate_words (λ n. n ≤ greatest_number) words.now result }
+// The number of a generated problem behind this word, if the words are that.
+fn generated_named(words: &ArgList, word: &[u8]) -> Option<u16>
+    ensures { Names (number_words word.now) (λ n. n ≤ greatest_number) words.now result }
 {
-    let Some(digits) = second_behind(words, b"generate") else {
+    let Some(digits) = second_behind(words, word) else {
         return None
     };
     match number_in(digits) {

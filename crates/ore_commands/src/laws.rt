@@ -3,14 +3,14 @@
 //! The functions here have no answer and do nothing. Their clauses are laws over the definitions of this crate alone.
 
 ghost use Rattle.ore_commands.specs.AcceptedAnswers.{RightCertificateIsValid};
-ghost use Rattle.ore_commands.specs.SearchLaws.{AnswersUnreported, CallOneCommand, HasOneAdjointReply};
+ghost use Rattle.ore_commands.specs.SearchLaws.{AnswersUnreported, HasOneSearchReply, CallOneCommand, HasOneAdjointReply};
 ghost use Rattle.ore_commands.specs.Written.{RightMayBeWritten};
 ghost use Rattle.ore_commands.specs.Verdict.{HasOneVerdict, LacksNoVerdict};
 
 use ore_cert::laws::{law_faulty_line_is_one, law_text_is_of_one};
 use ore_monomial::Signature;
 
-/// Bytes have one reply alone.
+/// Bytes have one reply of `check` alone.
 pub fn law_reply_is_one()
     ensures { HasOneVerdict }
 {
@@ -21,6 +21,11 @@ pub fn law_reply_is_one()
 /// No bytes are without a reply.
 pub fn law_no_bytes_lack_a_reply()
     ensures { LacksNoVerdict }
+{}
+
+/// Bytes have one reply of a search alone: there is one certificate, or one report.
+pub fn law_search_reply_is_one()
+    ensures { HasOneSearchReply }
 {}
 
 /// Words call one command.

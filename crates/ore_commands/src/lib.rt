@@ -15,7 +15,8 @@
 //! an operation stops, or the budget of pairs is spent, it writes the report of that, and nothing else comes. So where no
 //! report is honest the search has an answer, if memory, source and sink serve.
 //!
-//! `generate` reads nothing, and writes the problem with a number.
+//! `generate` reads nothing, and writes the problem with a number. `survey` writes the verdict on it, once `check` has found the
+//! certificate valid, and the size of the certificate.
 //!
 //!  * `command`: the commands.
 //!  * `report_check`: the check of a report, by a search with its choices.
@@ -25,6 +26,7 @@
 //!  * `found`, `find`: what a plan finds of a matrix.
 //!  * `search`: the reply of a search to the bytes.
 //!  * `generated`: the reply with a generated problem.
+//!  * `survey`: the reply with the verdict on it.
 //!  * `top`: the top call.
 //!  * `laws`: each input has one reply to `check`; words call one command; a search without an honest report has an answer.
 //!
@@ -43,6 +45,7 @@ mod generated;
 pub mod laws;
 pub mod report_check;
 mod search;
+mod survey;
 mod top;
 mod verify;
 
