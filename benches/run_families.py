@@ -1,4 +1,4 @@
-"""The systems of runs.sh: families of problem texts that grow, each system with its name."""
+"""Families of problem texts that grow, for runs.sh and searches.py; and the systems of runs.sh, each with its name."""
 import itertools
 import random
 
@@ -36,17 +36,41 @@ def delays(count):
     return problem(DIFFERENTIAL + "delay D t 1\n", rows)
 
 
-def koszul(count, place):
-    """The matrix at a place, from 1, of the Koszul complex of so many letters: one column of them, and then for each
-    two, three .. letters the row of what is left where each of them is left out, times that letter, with signs."""
-    columns = {chosen: k for k, chosen in enumerate(itertools.combinations(range(count), place - 1))}
+def koszul_rows(names, place):
+    """The matrix at a place, from 1, of the Koszul complex of some operators: one column of them, and then for each two,
+    three .. of them the row of what is left where each of them is left out, times that one, with signs."""
+    columns = {chosen: k for k, chosen in enumerate(itertools.combinations(names, place - 1))}
     rows = []
-    for chosen in itertools.combinations(range(count), place):
+    for chosen in itertools.combinations(names, place):
         row = ["0"] * len(columns)
-        for k, letter in enumerate(chosen):
-            row[columns[chosen[:k] + chosen[k + 1 :]]] = "-" * (k % 2) + "x%d" % (letter + 1)
+        for k, name in enumerate(chosen):
+            row[columns[chosen[:k] + chosen[k + 1 :]]] = "-" * (k % 2) + name
         rows.append(row)
-    return problem(plain(letters(count)), rows)
+    return rows
+
+
+def koszul(count, place):
+    """The matrix at a place of the Koszul complex of so many letters that commute."""
+    return problem(plain(letters(count)), koszul_rows(letters(count), place))
+
+
+def curl(count):
+    """A field in so many directions without vortices: the second matrix of the Koszul complex of the derivatives."""
+    coordinates = letters(count)
+    variables = ["coordinate %s\n" % x for x in coordinates] + ["differential d%s %s\n" % (x, x) for x in coordinates]
+    return problem("".join(variables), koszul_rows(["d" + x for x in coordinates], 2))
+
+
+def pendulums(count):
+    """So many equal pendulums, each tied to the next by a spring, and a force on the first."""
+    rows = [["0"] * (count + 1) for _ in range(count)]
+    for i, row in enumerate(rows):
+        neighbours = [k for k in (i - 1, i + 1) if 0 <= k < count]
+        row[i] = "d^2 + %d" % (1 + len(neighbours))
+        for k in neighbours:
+            row[k] = "-1"
+    rows[0][count] = "-1"
+    return problem(DIFFERENTIAL, rows)
 
 
 def dense(count, degree):

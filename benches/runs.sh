@@ -24,39 +24,17 @@ if ! is_built; then
   fi
 fi
 exec python3 - "$program" "$here/benches" "${1:-}" <<'PY'
-import re, shutil, subprocess, sys, tempfile, time
+import subprocess, sys, time
 
 PROGRAM, _, WORD = sys.argv[1:]
 sys.path.append(sys.argv[2])
+from measure import LIMIT, instructions
 from run_families import systems
-
-LIMIT = 300
-
-
-def by_perf(text):
-    with tempfile.NamedTemporaryFile("r") as figures:
-        command = ["perf", "stat", "-x,", "-e", "instructions:u", "-o", figures.name, PROGRAM]
-        if subprocess.run(command, input=text, capture_output=True, timeout=LIMIT).returncode != 0:
-            return None
-        found = re.search(r"^(\d+),", figures.read(), re.M)
-        return found and int(found.group(1))
-
-
-def by_valgrind(text):
-    command = ["valgrind", "--tool=callgrind", "--callgrind-out-file=/dev/null", PROGRAM]
-    run = subprocess.run(command, input=text, capture_output=True, timeout=LIMIT)
-    found = re.search(rb"Collected : (\d+)", run.stderr)
-    return found and int(found.group(1))
 
 
 def cost(text, seconds):
     """How many instructions the program takes on a text, or else its seconds."""
-    try:
-        found = by_perf(text) if shutil.which("perf") else None
-        if not found and shutil.which("valgrind"):
-            found = by_valgrind(text)
-    except subprocess.TimeoutExpired:
-        found = None
+    found = instructions([PROGRAM], text)
     return format(found, ",") + " instructions" if found else "%.2f seconds" % seconds
 
 
