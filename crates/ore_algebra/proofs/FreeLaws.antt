@@ -14,7 +14,7 @@ use Rattle.std.specs.declared.cmp.Ordering.TheVariants.{Less, Equal, Greater}
 use Rattle.std.specs.declared.option.Option.{Option}
 use Rattle.std.specs.declared.option.Option.TheVariants.{None, Some}
 use Rattle.std.specs.Ordering.{eq_by_cmp, is_eq, is_lt}
-use Rattle.std.specs.Cmp.{IsTotalOrder, tied_itself, eq_by_cmp_equiv}
+use Rattle.std.specs.Cmp.{IsTotalOrder, tied_itself, eq_by_cmp_equiv, Equal-is}
 use Rattle.std.specs.List.{flat_map}
 use Rattle.std.specs.FinMap.Entries.{below_all, is_sorted}
 use Rattle.std.specs.FinMap.{entries, entries_sorted, find, get-from_entries, get-entries, same_map, IsAntisymmetric}
@@ -33,11 +33,6 @@ non_zero_again K u = by (K.discrete u.value K.zero)
     by : (d : Dec (u.value ≡ K.zero)) → elim d [ yes e ↦ record { value = K.one; apart = K.one_apart } | no n ↦ record { value = u.value; apart = n } ] ≡ u
     by (yes e) = absurd (u.apart e)
     by (no n) = same_non_zero K _ u refl
-
-is_equal : (r : Ordering) → is_eq r ≡ true → r ≡ Equal
-is_equal Less e = absurd (true≢false (sym e))
-is_equal Equal e = refl
-is_equal Greater e = absurd (true≢false (sym e))
 
 -- the sum over a list of terms of each coefficient times what w gives at its key
 unfoldable pub weigh : (K : Domain) {M : Type 0} → (M → K.Number) → List (M × K.Number) → K.Number
@@ -67,7 +62,7 @@ module _ (K : Domain) {M : Type 0} where
 
 module _ (K : Domain) {M : Type 0} {R : M → M → Ordering} (o : IsTotalOrder R) (same : IsAntisymmetric R) where
   pub same_key : (q m : M) → eq_by_cmp R q m ≡ true → q ≡ m
-  same_key q m e = same q m (is_equal _ e)
+  same_key q m e = same q m ((Equal-is _).0 e)
 
   pub at : M → M → K.Number
   at q m = cond (eq_by_cmp R q m) K.one K.zero
@@ -289,9 +284,9 @@ module _ (K : Domain) {M : Type 0} {R : M → M → Ordering} (o : IsTotalOrder 
   weigh-flat_map w h [] = refl
   weigh-flat_map w h (t ∷ ts) = weigh-append K w (map (λ u. (u.0, K.times t.1 u.1)) (terms K R (h t.0))) _ ∙ (λ i. K.plus (weigh-scaled K w t.1 (terms K R (h t.0)) i) (weigh-flat_map w h ts i))
 
-  pub total-extend : (w : M → K.Number) (h : M → Free K R) (f : Free K R) → total w (linear_extension K R h f) ≡ total (λ m. total w (h m)) f
+  pub total-linear_extension : (w : M → K.Number) (h : M → Free K R) (f : Free K R) → total w (linear_extension K R h f) ≡ total (λ m. total w (h m)) f
   unfolding linear_extension total
-  total-extend w h f = total-collect w _ ∙ weigh-flat_map w h (terms K R f)
+  total-linear_extension w h f = total-collect w _ ∙ weigh-flat_map w h (terms K R f)
 
   pub total_same : (w v : M → K.Number) (f : Free K R) → ((m : M) → w m ≡ v m) → total w f ≡ total v f
   total_same w v f e = ap (λ (u : M → K.Number). total u f) (λ i m. e m i)
@@ -369,8 +364,8 @@ module _ (K : Domain) {M : Type 0} {R : M → M → Ordering} (o : IsTotalOrder 
       by true p = absurd (n (same_key q m p))
       by false p = times_zero K k
 
-  pub coefficient-extend : (h : M → Free K R) (f : Free K R) (q : M) → coefficient K R (linear_extension K R h f) q ≡ total (λ m. coefficient K R (h m) q) f
-  coefficient-extend h f q = coefficient-total _ q ∙ total-extend (at q) h f ∙ total_same _ _ f (λ m. sym (coefficient-total (h m) q))
+  pub coefficient-linear_extension : (h : M → Free K R) (f : Free K R) (q : M) → coefficient K R (linear_extension K R h f) q ≡ total (λ m. coefficient K R (h m) q) f
+  coefficient-linear_extension h f q = coefficient-total _ q ∙ total-linear_extension (at q) h f ∙ total_same _ _ f (λ m. sym (coefficient-total (h m) q))
 
   -- ---- the keys that a sum has
 

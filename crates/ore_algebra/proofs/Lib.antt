@@ -1,3 +1,5 @@
+pub mod ListLaws
+pub mod Orderings
 pub mod ResultLaws
 pub mod LimitLaws
 pub mod GroupLaws

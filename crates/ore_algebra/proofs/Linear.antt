@@ -2,9 +2,9 @@
 --     linear_extension h                            the linear map that takes each key m to h m
 --     IsLinear                            a map keeps sums and multiples
 --     linear_is, same_linear              a linear map is the extension of what it does to keys; two that agree there are equal
---     linear_extend, linear_after, ..     linear maps that are formed from others
+--     linear_extension-linear, linear_after, ..     linear maps that are formed from others
 --     by_terms                            induction on a sum, a term at a time
---     plus_comm, extend-plus, ..          laws, named by their left sides
+--     plus_comm, linear_extension-plus, ..          laws, named by their left sides
 use Rattle.std.proofs.Common.{◌≡◌, List, [], ◌∷◌, ◌++◌, map, refl, sym, ap, ◌∙◌, subst}
 use Rattle.std.specs.declared.cmp.Ordering.{Ordering}
 use Rattle.std.specs.Cmp.{IsTotalOrder}
@@ -12,7 +12,7 @@ use Rattle.std.specs.FinMap.{IsAntisymmetric}
 use Rattle.ore_algebra.specs.Domain.{Domain}
 use Rattle.ore_algebra.specs.Free.{Free, terms, collect, empty_sum, single, plus, scale, linear_extension}
 use Rattle.ore_algebra.proofs.DomainLaws.{zero_plus, plus_left_comm, one_times, times_zero, zero_times, plus_swap, plus_times, minus_times}
-use Rattle.ore_algebra.proofs.FreeLaws.{weigh-append, weigh-scaled, weigh, total-empty_sum, total-single, total-plus, total-scale, total-extend, total_same, total_sum, total_multiple, same_totals, same_sum, coefficient-collect, sum_at-terms, total-collect}
+use Rattle.ore_algebra.proofs.FreeLaws.{weigh-append, weigh-scaled, weigh, total-empty_sum, total-single, total-plus, total-scale, total-linear_extension, total_same, total_sum, total_multiple, same_totals, same_sum, coefficient-collect, sum_at-terms, total-collect}
 
 module _ (K : Domain) {M : Type 0} {R : M → M → Ordering} (o : IsTotalOrder R) (same : IsAntisymmetric R) where
   pub plus_comm : (f g : Free K R) → plus K R f g ≡ plus K R g f
@@ -65,38 +65,38 @@ module _ (K : Domain) {M : Type 0} {R : M → M → Ordering} (o : IsTotalOrder 
 
   -- ---- linear maps
 
-  pub extend-single : (h : M → Free K R) (m : M) (k : K.Number) → linear_extension K R h (single K R m k) ≡ scale K R k (h m)
-  extend-single h m k = same_totals K o same _ _ (λ w. simp (total-extend K o same, total-single K o same, total-scale K o same))
+  pub linear_extension-single : (h : M → Free K R) (m : M) (k : K.Number) → linear_extension K R h (single K R m k) ≡ scale K R k (h m)
+  linear_extension-single h m k = same_totals K o same _ _ (λ w. simp (total-linear_extension K o same, total-single K o same, total-scale K o same))
 
-  pub extend_one : (h : M → Free K R) (m : M) → linear_extension K R h (single K R m K.one) ≡ h m
-  extend_one h m = extend-single h m K.one ∙ scale_one (h m)
+  pub linear_extension_one : (h : M → Free K R) (m : M) → linear_extension K R h (single K R m K.one) ≡ h m
+  linear_extension_one h m = linear_extension-single h m K.one ∙ scale_one (h m)
 
-  pub extend-none : (h : M → Free K R) → linear_extension K R h (empty_sum K R) ≡ empty_sum K R
-  extend-none h = same_totals K o same _ _ (λ w. simp (total-extend K o same, total-empty_sum K o same))
+  pub linear_extension-empty_sum : (h : M → Free K R) → linear_extension K R h (empty_sum K R) ≡ empty_sum K R
+  linear_extension-empty_sum h = same_totals K o same _ _ (λ w. simp (total-linear_extension K o same, total-empty_sum K o same))
 
-  pub extend-plus : (h : M → Free K R) (f g : Free K R) → linear_extension K R h (plus K R f g) ≡ plus K R (linear_extension K R h f) (linear_extension K R h g)
-  extend-plus h f g = same_totals K o same _ _ (λ w. simp (total-extend K o same, total-plus K o same))
+  pub linear_extension-plus : (h : M → Free K R) (f g : Free K R) → linear_extension K R h (plus K R f g) ≡ plus K R (linear_extension K R h f) (linear_extension K R h g)
+  linear_extension-plus h f g = same_totals K o same _ _ (λ w. simp (total-linear_extension K o same, total-plus K o same))
 
-  pub extend-scale : (h : M → Free K R) (k : K.Number) (f : Free K R) → linear_extension K R h (scale K R k f) ≡ scale K R k (linear_extension K R h f)
-  extend-scale h k f = same_totals K o same _ _ (λ w. simp (total-extend K o same, total-scale K o same))
+  pub linear_extension-scale : (h : M → Free K R) (k : K.Number) (f : Free K R) → linear_extension K R h (scale K R k f) ≡ scale K R k (linear_extension K R h f)
+  linear_extension-scale h k f = same_totals K o same _ _ (λ w. simp (total-linear_extension K o same, total-scale K o same))
 
-  pub extend_same : (h g : M → Free K R) (f : Free K R) → ((m : M) → h m ≡ g m) → linear_extension K R h f ≡ linear_extension K R g f
-  extend_same h g f e = ap (λ (u : M → Free K R). linear_extension K R u f) (λ i m. e m i)
+  pub linear_extension_same : (h g : M → Free K R) (f : Free K R) → ((m : M) → h m ≡ g m) → linear_extension K R h f ≡ linear_extension K R g f
+  linear_extension_same h g f e = ap (λ (u : M → Free K R). linear_extension K R u f) (λ i m. e m i)
 
-  pub extend-extend : (g h : M → Free K R) (f : Free K R) → linear_extension K R g (linear_extension K R h f) ≡ linear_extension K R (λ m. linear_extension K R g (h m)) f
-  extend-extend g h f = same_totals K o same _ _ (λ w. simp (total-extend K o same))
+  pub linear_extension-linear_extension : (g h : M → Free K R) (f : Free K R) → linear_extension K R g (linear_extension K R h f) ≡ linear_extension K R (λ m. linear_extension K R g (h m)) f
+  linear_extension-linear_extension g h f = same_totals K o same _ _ (λ w. simp (total-linear_extension K o same))
 
-  pub extend_plus : (h g : M → Free K R) (f : Free K R) → linear_extension K R (λ m. plus K R (h m) (g m)) f ≡ plus K R (linear_extension K R h f) (linear_extension K R g f)
-  extend_plus h g f = same_totals K o same _ _ (λ w. simp (total-extend K o same, total-plus K o same) (total_sum K o same _ _ f))
+  pub linear_extension_plus : (h g : M → Free K R) (f : Free K R) → linear_extension K R (λ m. plus K R (h m) (g m)) f ≡ plus K R (linear_extension K R h f) (linear_extension K R g f)
+  linear_extension_plus h g f = same_totals K o same _ _ (λ w. simp (total-linear_extension K o same, total-plus K o same) (total_sum K o same _ _ f))
 
-  pub extend_scale : (k : K.Number) (h : M → Free K R) (f : Free K R) → linear_extension K R (λ m. scale K R k (h m)) f ≡ scale K R k (linear_extension K R h f)
-  extend_scale k h f = same_totals K o same _ _ (λ w. simp (total-extend K o same, total-scale K o same) (total_multiple K o same k _ f))
+  pub linear_extension_scale : (k : K.Number) (h : M → Free K R) (f : Free K R) → linear_extension K R (λ m. scale K R k (h m)) f ≡ scale K R k (linear_extension K R h f)
+  linear_extension_scale k h f = same_totals K o same _ _ (λ w. simp (total-linear_extension K o same, total-scale K o same) (total_multiple K o same k _ f))
 
-  pub extend_singles : (f : Free K R) → linear_extension K R (λ m. single K R m K.one) f ≡ f
-  extend_singles f = same_totals K o same _ _ (λ w. total-extend K o same w _ f ∙ total_same K o same _ _ f (λ m. total-single K o same w m K.one ∙ one_times K _))
+  pub linear_extension_singles : (f : Free K R) → linear_extension K R (λ m. single K R m K.one) f ≡ f
+  linear_extension_singles f = same_totals K o same _ _ (λ w. total-linear_extension K o same w _ f ∙ total_same K o same _ _ f (λ m. total-single K o same w m K.one ∙ one_times K _))
 
-  pub extend_none : (f : Free K R) → linear_extension K R (λ m. empty_sum K R) f ≡ empty_sum K R
-  extend_none f = ap (λ (u : M → Free K R). linear_extension K R u f) (λ i m. sym (zero_scale (empty_sum K R)) i) ∙ extend_scale K.zero (λ m. empty_sum K R) f ∙ zero_scale _
+  pub linear_extension_empty_sum : (f : Free K R) → linear_extension K R (λ m. empty_sum K R) f ≡ empty_sum K R
+  linear_extension_empty_sum f = ap (λ (u : M → Free K R). linear_extension K R u f) (λ i m. sym (zero_scale (empty_sum K R)) i) ∙ linear_extension_scale K.zero (λ m. empty_sum K R) f ∙ zero_scale _
 
   -- ---- induction on a sum, a term at a time
 
@@ -131,20 +131,20 @@ module _ (K : Domain) {M : Type 0} {R : M → M → Ordering} (o : IsTotalOrder 
 
   -- a linear map is told by what it does to the keys
   pub linear_is : {S : Free K R → Free K R} → IsLinear K R S → (f : Free K R) → S f ≡ linear_extension K R (λ m. S (single K R m K.one)) f
-  linear_is {S} l = by_terms K o same (λ f. S f ≡ linear_extension K R (λ m. S (single K R m K.one)) f) (linear-empty_sum l ∙ sym (extend-none K o same h))
-      (λ m k f e. l.plus _ f ∙ (λ i. plus K R ((ap S (single_scale K o same m k) ∙ l.scale k _ ∙ sym (extend-single K o same h m k)) i) (e i)) ∙ sym (extend-plus K o same h _ f))
+  linear_is {S} l = by_terms K o same (λ f. S f ≡ linear_extension K R (λ m. S (single K R m K.one)) f) (linear-empty_sum l ∙ sym (linear_extension-empty_sum K o same h))
+      (λ m k f e. l.plus _ f ∙ (λ i. plus K R ((ap S (single_scale K o same m k) ∙ l.scale k _ ∙ sym (linear_extension-single K o same h m k)) i) (e i)) ∙ sym (linear_extension-plus K o same h _ f))
     where
       h : M → Free K R
       h m = S (single K R m K.one)
 
   pub same_linear : {S T : Free K R → Free K R} → IsLinear K R S → IsLinear K R T → ((m : M) → S (single K R m K.one) ≡ T (single K R m K.one)) → (f : Free K R) → S f ≡ T f
-  same_linear l k e f = linear_is l f ∙ extend_same K o same _ _ f e ∙ sym (linear_is k f)
+  same_linear l k e f = linear_is l f ∙ linear_extension_same K o same _ _ f e ∙ sym (linear_is k f)
 
   pub linear_itself : IsLinear K R (λ f. f)
   linear_itself = record { plus = λ f g. refl; scale = λ k f. refl }
 
-  pub linear_extend : (h : M → Free K R) → IsLinear K R (linear_extension K R h)
-  linear_extend h = record { plus = extend-plus K o same h; scale = extend-scale K o same h }
+  pub linear_extension-linear : (h : M → Free K R) → IsLinear K R (linear_extension K R h)
+  linear_extension-linear h = record { plus = linear_extension-plus K o same h; scale = linear_extension-scale K o same h }
 
   pub linear_after : {S T : Free K R → Free K R} → IsLinear K R S → IsLinear K R T → IsLinear K R (λ f. S (T f))
   linear_after {S} l k = record { plus = λ f g. ap S (k.plus f g) ∙ l.plus _ _; scale = λ c f. ap S (k.scale c f) ∙ l.scale c _ }
@@ -167,6 +167,6 @@ module _ (K : Domain) {M : Type 0} {R : M → M → Ordering} (o : IsTotalOrder 
   -- linear in the map that is extended
   pub linear_weights : (f : Free K R) (h : M → Free K R → Free K R) → ((m : M) → IsLinear K R (h m)) → IsLinear K R (λ g. linear_extension K R (λ m. h m g) f)
   linear_weights f h l = record {
-    plus = λ g j. extend_same K o same _ _ f (λ m. (l m).plus g j) ∙ extend_plus K o same (λ m. h m g) (λ m. h m j) f;
-    scale = λ c g. extend_same K o same _ _ f (λ m. (l m).scale c g) ∙ extend_scale K o same c (λ m. h m g) f;
+    plus = λ g j. linear_extension_same K o same _ _ f (λ m. (l m).plus g j) ∙ linear_extension_plus K o same (λ m. h m g) (λ m. h m j) f;
+    scale = λ c g. linear_extension_same K o same _ _ f (λ m. (l m).scale c g) ∙ linear_extension_scale K o same c (λ m. h m g) f;
   }

@@ -4,7 +4,7 @@
 --     sent-power      a power is sent to the power of what its base is sent to
 --     sent-cond       a number or zero is sent to what the number is sent to, or zero
 --     sum_at-sent     the sum of the numbers at a key, where each number of a list of terms is sent
-use Rattle.std.proofs.Common.{◌≡◌, ℕ, zero, suc, Bool, true, false, cond, List, [], ◌∷◌, map, sym, ap, ◌∙◌}
+use Rattle.std.proofs.Common.{◌≡◌, ℕ, zero, suc, Bool, true, false, cond, List, [], ◌∷◌, map, sym, ◌∙◌}
 use Rattle.std.specs.Ordering.{eq_by_cmp}
 use Rattle.std.specs.declared.cmp.Ordering.{Ordering}
 use Rattle.ore_algebra.specs.Domain.{Domain}

@@ -5,6 +5,8 @@
 --     collect                  any list of terms as one sum
 --     empty_sum, single, plus, scale, linear_extension
 --                              the sum of no terms, of one term, of two sums; a multiple; a linear map given on keys
+--     NonZero, non_zero_of     a number that is not zero; a number as one, with one in the place of zero
+--     value_or_zero            the number, or zero where there is none
 use Rattle.std.specs.Prelude.{◌≢◌, cond, List, [], ◌∷◌, ◌++◌, map}
 use Rattle.std.specs.declared.cmp.Ordering.{Ordering}
 use Rattle.std.specs.Ordering.{eq_by_cmp}

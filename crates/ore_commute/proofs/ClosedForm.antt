@@ -12,7 +12,7 @@ use native.Mathlib.Decide.{dec_le, dec_lt, ℕ_discrete}
 use Rattle.ore_algebra.specs.Domain.{Domain}
 use Rattle.ore_algebra.specs.Ring.{of_nat, power}
 use Rattle.ore_algebra.specs.Free.{empty_sum, plus, scale}
-use Rattle.ore_commute.specs.ClosedForm.{falling, step_on, step_sum, total_step}
+use Rattle.ore_commute.specs.ClosedForm.{falling_factorial, step_on, step_sum, total_step}
 use Rattle.ore_monomial.specs.declared.signature.VarKind.{VarKind}
 use Rattle.ore_monomial.specs.declared.signature.VarKind.TheVariants.{Coordinate, Constant, Plain, Differential, Shift, Delay}
 use Rattle.ore_monomial.specs.Monomial.{Monomial, exponent, with_exponent, raise, lower, unit, product, plain_cmp}
@@ -30,21 +30,21 @@ use Rattle.ore_monomial.proofs.Operators
 
 -- ---- numbers
 
-pub falling_above : (a k : ℕ) → a < k → falling a k ≡ 0
-unfolding falling
+pub falling_above : (a k : ℕ) → a < k → falling_factorial a k ≡ 0
+unfolding falling_factorial
 falling_above a zero h = absurd (omega arith)
 falling_above zero (suc k) h = refl
 falling_above (suc a) (suc k) h = ap (λ n. suc a * n) (falling_above a k (omega arith)) ∙ omega arith
 
-pub falling_next : (a k : ℕ) → falling a (suc k) + k * falling a k ≡ a * falling a k
-unfolding falling
+pub falling_next : (a k : ℕ) → falling_factorial a (suc k) + k * falling_factorial a k ≡ a * falling_factorial a k
+unfolding falling_factorial
 falling_next zero zero = omega arith
 falling_next zero (suc k) = omega arith
 falling_next (suc a) zero = omega arith
 falling_next (suc a) (suc k) = let e = ap (λ n. suc a * n) (falling_next a k) in omega arith
 
-falling_more : (a k : ℕ) → falling (suc a) k ≡ falling a k + k * falling a (pred k)
-unfolding falling
+falling_more : (a k : ℕ) → falling_factorial (suc a) k ≡ falling_factorial a k + k * falling_factorial a (pred k)
+unfolding falling_factorial
 falling_more a zero = omega arith
 falling_more a (suc k) = let e = falling_next a k in omega arith
 
@@ -74,7 +74,7 @@ module _ (K : Domain) where
 
   -- what c differentials and shifts by h in all make of t^a, where u k e is t^e with k differentials less
   unfoldable pub expand : K.Number → ℕ → ℕ → (ℕ → ℕ → Operator K) → Operator K
-  expand h c a u = sum_to K c (λ k. scale K plain_cmp (of_nat K.ring (choose c k * falling a k)) (shifted h (a - k) (u k)))
+  expand h c a u = sum_to K c (λ k. scale K plain_cmp (of_nat K.ring (choose c k * falling_factorial a k)) (shifted h (a - k) (u k)))
 
   shifted_more : (h : K.Number) (n : ℕ) (v : ℕ → Operator K) → shifted h (suc n) v ≡ plus K plain_cmp (shifted h n (λ e. v (suc e))) (scale K plain_cmp h (shifted h n v))
   unfolding shifted
@@ -85,49 +85,49 @@ module _ (K : Domain) where
   expand_first h u = simp (K.plus_zero, K.times_one, Operators.scale_one K)
 
   expand_none : (h : K.Number) (c : ℕ) (u : ℕ → ℕ → Operator K) → expand h c 0 u ≡ u 0 0
-  unfolding expand falling choose sum_to
+  unfolding expand falling_factorial choose sum_to
   expand_none h zero u = expand_first h (u 0)
   expand_none h (suc c) u = (λ i. plus K plain_cmp (expand_first h (u 0) i) ((sum_to_same K c (λ k. scale K plain_cmp (of_nat K.ring (choose (suc c) (suc k) * 0)) (shifted h (0 - suc k) (u (suc k)))) (λ k. empty_sum K plain_cmp) (λ k l. none_of (choose (suc c) (suc k) * 0) _ (omega arith)) ∙ sum_none c) i)) ∙ Operators.plus_zero K _
 
   expand_part : (h : K.Number) (c a k : ℕ) (u : ℕ → ℕ → Operator K) → Operator K
-  expand_part h c a k u = scale K plain_cmp (of_nat K.ring (choose c k * falling a k)) (shifted h (a - k) (u k))
+  expand_part h c a k u = scale K plain_cmp (of_nat K.ring (choose c k * falling_factorial a k)) (shifted h (a - k) (u k))
 
   expand_is : (h : K.Number) (c a : ℕ) (u : ℕ → ℕ → Operator K) → expand h c a u ≡ sum_to K c (λ k. expand_part h c a k u)
   unfolding expand expand_part
   expand_is h c a u = refl
 
   -- where the differentials leave a shift over one more
-  stays_part : (h : K.Number) (c a k : ℕ) (u : ℕ → ℕ → Operator K) → Dec (k ≤ a) → scale K plain_cmp (of_nat K.ring (choose c k * falling a k)) (shifted h (suc a - k) (u k)) ≡ plus K plain_cmp (expand_part h c a k (λ k e. u k (suc e))) (scale K plain_cmp h (expand_part h c a k u))
+  stays_part : (h : K.Number) (c a k : ℕ) (u : ℕ → ℕ → Operator K) → Dec (k ≤ a) → scale K plain_cmp (of_nat K.ring (choose c k * falling_factorial a k)) (shifted h (suc a - k) (u k)) ≡ plus K plain_cmp (expand_part h c a k (λ k e. u k (suc e))) (scale K plain_cmp h (expand_part h c a k u))
   unfolding expand_part
   stays_part h c a k u (yes l) =
       let e : suc a - k ≡ suc (a - k) = omega arith in
-      ap (λ n. scale K plain_cmp (of_nat K.ring (choose c k * falling a k)) (shifted h n (u k))) e
-      ∙ ap (scale K plain_cmp (of_nat K.ring (choose c k * falling a k))) (shifted_more h (a - k) (u k))
+      ap (λ n. scale K plain_cmp (of_nat K.ring (choose c k * falling_factorial a k)) (shifted h n (u k))) e
+      ∙ ap (scale K plain_cmp (of_nat K.ring (choose c k * falling_factorial a k))) (shifted_more h (a - k) (u k))
       ∙ Operators.scale-plus K _ _ _
       ∙ ap (plus K plain_cmp _) (Operators.scale-scale K _ _ _ ∙ ap (λ j. scale K plain_cmp j (shifted h (a - k) (u k))) (K.times_comm _ _) ∙ sym (Operators.scale-scale K _ _ _))
   stays_part h c a k u (no n) =
-      let z : choose c k * falling a k ≡ 0 = ap (λ m. choose c k * m) (falling_above a k (omega arith)) ∙ omega arith in
+      let z : choose c k * falling_factorial a k ≡ 0 = ap (λ m. choose c k * m) (falling_above a k (omega arith)) ∙ omega arith in
       none_of _ _ z ∙ sym ((λ i. plus K plain_cmp (none_of _ (shifted h (a - k) (λ e. u k (suc e))) z i) (scale K plain_cmp h (none_of _ (shifted h (a - k) (u k)) z i))) ∙ ap (plus K plain_cmp (empty_sum K plain_cmp)) (Operators.scale-empty_sum K h) ∙ Operators.plus_zero K _)
 
   -- where a differential is spent
   spent_part : (h : K.Number) (c a k : ℕ) (u : ℕ → ℕ → Operator K) → Operator K
-  spent_part h c a k u = scale K plain_cmp (of_nat K.ring (choose c k * (k * falling a (pred k)))) (shifted h (suc a - k) (u k))
+  spent_part h c a k u = scale K plain_cmp (of_nat K.ring (choose c k * (k * falling_factorial a (pred k)))) (shifted h (suc a - k) (u k))
 
   spent_sum : (h : K.Number) (c a : ℕ) (u : ℕ → ℕ → Operator K) → sum_to K c (λ k. spent_part h c a k u) ≡ scale K plain_cmp (of_nat K.ring c) (expand h (pred c) a (λ k. u (suc k)))
   unfolding spent_part sum_to expand_part
-  spent_sum h zero a u = none_of (choose 0 0 * (0 * falling a 0)) _ (omega arith) ∙ sym (none_of 0 _ refl)
+  spent_sum h zero a u = none_of (choose 0 0 * (0 * falling_factorial a 0)) _ (omega arith) ∙ sym (none_of 0 _ refl)
   spent_sum h (suc c) a u =
-      (λ i. plus K plain_cmp (none_of (choose (suc c) 0 * (0 * falling a 0)) (shifted h (suc a - 0) (u 0)) (omega arith) i)
+      (λ i. plus K plain_cmp (none_of (choose (suc c) 0 * (0 * falling_factorial a 0)) (shifted h (suc a - 0) (u 0)) (omega arith) i)
       ((sum_to_same K c _ (λ i. scale K plain_cmp (of_nat K.ring (suc c)) (expand_part h c a i (λ k. u (suc k)))) each ∙ sum_to-scale K c (of_nat K.ring (suc c)) (λ i. expand_part h c a i (λ k. u (suc k))) ∙ ap (scale K plain_cmp (of_nat K.ring (suc c))) (sym (expand_is h c a (λ k. u (suc k))))) i))
       ∙ Operators.zero-plus K _
     where
-      each : (i : ℕ) → i ≤ c → scale K plain_cmp (of_nat K.ring (choose (suc c) (suc i) * (suc i * falling a i))) (shifted h (suc a - suc i) (u (suc i))) ≡ scale K plain_cmp (of_nat K.ring (suc c)) (expand_part h c a i (λ k. u (suc k)))
+      each : (i : ℕ) → i ≤ c → scale K plain_cmp (of_nat K.ring (choose (suc c) (suc i) * (suc i * falling_factorial a i))) (shifted h (suc a - suc i) (u (suc i))) ≡ scale K plain_cmp (of_nat K.ring (suc c)) (expand_part h c a i (λ k. u (suc k)))
       each i l =
           let e : suc a - suc i ≡ a - i = omega arith in
-          let t = ap (λ m. m * falling a i) (choose_times c i) in
-          let n : choose (suc c) (suc i) * (suc i * falling a i) ≡ suc c * (choose c i * falling a i) = omega arith in
+          let t = ap (λ m. m * falling_factorial a i) (choose_times c i) in
+          let n : choose (suc c) (suc i) * (suc i * falling_factorial a i) ≡ suc c * (choose c i * falling_factorial a i) = omega arith in
           (λ j. scale K plain_cmp (of_nat K.ring (n j)) (shifted h (e j) (u (suc i))))
-          ∙ ap (λ k. scale K plain_cmp k (shifted h (a - i) (u (suc i)))) (of_nat-times (suc c) (choose c i * falling a i))
+          ∙ ap (λ k. scale K plain_cmp k (shifted h (a - i) (u (suc i)))) (of_nat-times (suc c) (choose c i * falling_factorial a i))
           ∙ sym (Operators.scale-scale K _ _ _)
 
   expand_more : (h : K.Number) (c a : ℕ) (u : ℕ → ℕ → Operator K) → expand h c (suc a) u ≡ plus K plain_cmp (expand h c a (λ k e. u k (suc e))) (plus K plain_cmp (scale K plain_cmp h (expand h c a u)) (scale K plain_cmp (of_nat K.ring c) (expand h (pred c) a (λ k. u (suc k)))))
@@ -142,7 +142,7 @@ module _ (K : Domain) where
       each : (k : ℕ) → expand_part h c (suc a) k u ≡ plus K plain_cmp (plus K plain_cmp (expand_part h c a k (λ k e. u k (suc e))) (scale K plain_cmp h (expand_part h c a k u))) (spent_part h c a k u)
       each k =
           let e = falling_more a k in
-          let n : choose c k * falling (suc a) k ≡ choose c k * falling a k + choose c k * (k * falling a (pred k)) = ap (λ m. choose c k * m) e ∙ omega arith in
+          let n : choose c k * falling_factorial (suc a) k ≡ choose c k * falling_factorial a k + choose c k * (k * falling_factorial a (pred k)) = ap (λ m. choose c k * m) e ∙ omega arith in
           ap (λ m. scale K plain_cmp (of_nat K.ring m) (shifted h (suc a - k) (u k))) n
           ∙ ap (λ m. scale K plain_cmp m (shifted h (suc a - k) (u k))) (of_nat-sum K _ _)
           ∙ Operators.plus-scale K _ _ _
@@ -310,8 +310,8 @@ module _ (K : Domain) where
 
   pub expand-linear : {S : Operator K → Operator K} → IsLinear K plain_cmp S → (h : K.Number) (c a : ℕ) (u : ℕ → ℕ → Operator K) → S (expand K h c a u) ≡ expand K h c a (λ k e. S (u k e))
   unfolding expand
-  expand-linear l h c a u = sum_to-linear l c (λ k. scale K plain_cmp (of_nat K.ring (choose c k * falling a k)) (shifted K h (a - k) (u k)))
-      ∙ sum_to_same K c _ _ (λ k j. l.scale (of_nat K.ring (choose c k * falling a k)) (shifted K h (a - k) (u k)) ∙ ap (scale K plain_cmp (of_nat K.ring (choose c k * falling a k))) (shifted-linear l h (a - k) (u k)))
+  expand-linear l h c a u = sum_to-linear l c (λ k. scale K plain_cmp (of_nat K.ring (choose c k * falling_factorial a k)) (shifted K h (a - k) (u k)))
+      ∙ sum_to_same K c _ _ (λ k j. l.scale (of_nat K.ring (choose c k * falling_factorial a k)) (shifted K h (a - k) (u k)) ∙ ap (scale K plain_cmp (of_nat K.ring (choose c k * falling_factorial a k))) (shifted-linear l h (a - k) (u k)))
 
 module _ (K : Domain) (s : Signature) (lawful : IsLawful s) (t d : ℕ) (axis : IsAxis K s t d) where
   -- to lower d again

@@ -1,35 +1,16 @@
 -- The monomials by which lowering divides.
---     sum-power, power_is     a list with one exponent is a power of one variable
 --     divisor-product         a divisor is a product of two powers
 --     divides_room            a divisor divides what has room for it
 --     quotient-divisor        dividing is lowering
-use Rattle.std.proofs.Common.{◌≡◌, ◌≢◌, ℕ, zero, suc, ◌+◌, ◌-◌, ◌<◌, ◌≤◌, get_or, set, replicate, OkIff, IsOkAnd, refl, sym, ap, ◌∙◌, subst, arith}
+use Rattle.std.proofs.Common.{◌≡◌, ◌≢◌, ℕ, ◌+◌, ◌-◌, ◌<◌, ◌≤◌, set, replicate, OkIff, IsOkAnd, sym, ap, ◌∙◌, subst, arith}
 use Rattle.std.specs.declared.result.Result.{Result}
 use Rattle.std.specs.declared.result.Result.TheVariants.{Ok, Err}
 use Rattle.std.specs.List.{sum}
-use Rattle.std.proofs.lemmas.List.{length-set}
-use Rattle.std.proofs.lemmas.List.Sums.{get_or-le-sum_by}
 use native.Mathlib.Decide.{dec_lt, ℕ_discrete}
-use Rattle.ore_monomial.specs.Monomial.{Monomial, exponent, degree, with_exponent, unit, lower, product, quotient, Divides, monomial_of}
-use Rattle.ore_monomial.proofs.Monomials.{same_list, twelve_numbers, same_exponents, exponent-same, exponent-other, exponent-unit, exponent_past, exponent-product, exponent-quotient, degree-raise, raise-with, with_own}
+use Rattle.ore_monomial.specs.Monomial.{Monomial, exponent, with_exponent, unit, lower, product, quotient, Divides, monomial_of}
+use Rattle.ore_monomial.proofs.Monomials.{same_exponents, exponent-same, exponent-other, exponent-unit, exponent_past, exponent-product, exponent-quotient, sum-power, power_is}
 use Rattle.ore_commute.specs.ClosedForm.{divisor, fallen}
 use Rattle.ore_commute.proofs.Lowering.{with_past}
-
-pub degree_unit : degree unit ≡ 0
-unfolding degree unit
-degree_unit = refl
-
-pub degree-power : (x e : ℕ) → x < 12 → degree (with_exponent x e unit) ≡ e
-degree-power x zero h = ap (λ n. degree (with_exponent x n unit)) (sym (exponent-unit x)) ∙ ap degree (with_own x unit) ∙ degree_unit
-degree-power x (suc e) h = ap degree (sym (raise-with x e unit h)) ∙ degree-raise x (with_exponent x e unit) h ∙ ap suc (degree-power x e h)
-
-pub sum-power : (x e : ℕ) → x < 12 → sum (set (replicate 12 0) x e) ≡ e
-unfolding degree with_exponent unit
-sum-power x e h = degree-power x e h
-
-pub power_is : (x e : ℕ) → monomial_of (set (replicate 12 0) x e) ≡ with_exponent x e unit
-unfolding with_exponent unit
-power_is x e = same_list _ (with_exponent x e unit) (twelve_numbers (set (replicate 12 0) x e) (length-set (replicate 12 0) x e))
 
 pub power_exact : {E : Type 0} (x e : ℕ) → x < 12 → (r : Result Monomial E) → OkIff r (sum (set (replicate 12 0) x e) ≤ 32767) (monomial_of (set (replicate 12 0) x e)) → OkIff r (e ≤ 32767) (with_exponent x e unit)
 power_exact x e h r k = subst (λ m. OkIff r (e ≤ 32767) m) (power_is x e) (subst (λ n. OkIff r (n ≤ 32767) (monomial_of (set (replicate 12 0) x e))) (sum-power x e h) k)
@@ -86,11 +67,3 @@ quotient-divisor t d k j m tl n = same_exponents _ _ (λ x xl. at x xl (ℕ_disc
     at x xl (no r) (no q) =
         let a = exponent-quotient m (divisor t d k j) x in let b = (exponent-divisor t d k j x tl n).2 r q in
         let c = exponent-other t x (exponent (lower d k m) t - (k + j)) (lower d k m) r in let f = exponent-other d x (exponent m d - k) m q in omega arith
-
-pub exponent-degree : (m : Monomial) (x : ℕ) → exponent m x ≤ degree m
-unfolding exponent degree
-exponent-degree m x = by (dec_lt x 12)
-  where
-    by : Dec (x < 12) → get_or m.exponents x 0 ≤ sum m.exponents
-    by (yes h) = get_or-le-sum_by (λ e. e) m.exponents x 0 (subst (λ n. x < n) (sym m.twelve) h)
-    by (no n) = let z : get_or m.exponents x 0 ≡ 0 = exponent_past x m (omega arith) in omega arith

@@ -7,7 +7,7 @@ use Rattle.std.specs.List.{flat_map}
 use Rattle.ore_algebra.specs.Domain.{Domain}
 use Rattle.ore_algebra.specs.Ring.{of_nat, power}
 use Rattle.ore_algebra.specs.Free.{empty_sum, single, plus, scale, collect}
-use Rattle.ore_commute.specs.ClosedForm.{falling, number, total_step}
+use Rattle.ore_commute.specs.ClosedForm.{falling_factorial, number, total_step}
 use Rattle.ore_monomial.specs.Monomial.{Monomial, exponent, with_exponent, raise, lower, product, plain_cmp}
 use Rattle.ore_monomial.specs.Signature.{Signature, kind_at, is_acting, IsLawful}
 use Rattle.ore_monomial.specs.Passing.{choose, numbers_to}
@@ -37,11 +37,11 @@ module _ (K : Domain) where
   unfolding expand shifted shift_term number
   expand-flat h c a F =
       sum_to_same K c _ _ (λ k l.
-      sym (sum_to-scale K (a - k) (of_nat K.ring (choose c k * falling a k)) (λ j. scale K plain_cmp (K.times (of_nat K.ring (choose (a - k) j)) (power K.ring h j)) (collect K plain_cmp (F k (a - k - j)))))
-      ∙ sum_to_same K (a - k) _ (λ j. collect K plain_cmp (map (λ u. (u.0, K.times (K.times (of_nat K.ring (choose c k * falling a k)) (K.times (of_nat K.ring (choose (a - k) j)) (power K.ring h j))) u.1)) (F k (a - k - j))))
+      sym (sum_to-scale K (a - k) (of_nat K.ring (choose c k * falling_factorial a k)) (λ j. scale K plain_cmp (K.times (of_nat K.ring (choose (a - k) j)) (power K.ring h j)) (collect K plain_cmp (F k (a - k - j)))))
+      ∙ sum_to_same K (a - k) _ (λ j. collect K plain_cmp (map (λ u. (u.0, K.times (K.times (of_nat K.ring (choose c k * falling_factorial a k)) (K.times (of_nat K.ring (choose (a - k) j)) (power K.ring h j))) u.1)) (F k (a - k - j))))
       (λ j m. Operators.scale-scale K _ _ _ ∙ sym (Operators.collect-scaled K _ (F k (a - k - j))))
-      ∙ sym (collect-flat (λ j. map (λ u. (u.0, K.times (K.times (of_nat K.ring (choose c k * falling a k)) (K.times (of_nat K.ring (choose (a - k) j)) (power K.ring h j))) u.1)) (F k (a - k - j))) (a - k)))
-      ∙ sym (collect-flat (λ k. flat_map (λ j. map (λ u. (u.0, K.times (K.times (of_nat K.ring (choose c k * falling a k)) (K.times (of_nat K.ring (choose (a - k) j)) (power K.ring h j))) u.1)) (F k (a - k - j))) (numbers_to (a - k))) c)
+      ∙ sym (collect-flat (λ j. map (λ u. (u.0, K.times (K.times (of_nat K.ring (choose c k * falling_factorial a k)) (K.times (of_nat K.ring (choose (a - k) j)) (power K.ring h j))) u.1)) (F k (a - k - j))) (a - k)))
+      ∙ sym (collect-flat (λ k. flat_map (λ j. map (λ u. (u.0, K.times (K.times (of_nat K.ring (choose c k * falling_factorial a k)) (K.times (of_nat K.ring (choose (a - k) j)) (power K.ring h j))) u.1)) (F k (a - k - j))) (numbers_to (a - k))) c)
 
 module _ (K : Domain) (s : Signature) where
   unfoldable pub flat : List (ℕ × ℕ) → Monomial → Monomial → List (Monomial × K.Number)

@@ -1,5 +1,6 @@
 -- Where a coordinate is lowered, what passing the other coordinates makes is lowered alike.
 --     lower_comm, fallen_comm     lowering at different variables commutes
+--     TermList                    monomials with numbers
 --     passed-lowered              terms of lowered monomials are the lowered terms
 use Rattle.std.proofs.Common.{◌≡◌, ◌≢◌, ℕ, ◌+◌, ◌-◌, ◌<◌, ◌≤◌, min, List, [], ◌∷◌, map, refl, sym, ap, ◌∙◌, subst, arith}
 use Rattle.std.proofs.lemmas.List.{set_past}
@@ -74,24 +75,24 @@ product-fallen t d k j m n tl td kl jl = same_exponents _ _ (λ x xl. at x xl (�
 -- ---- the terms that passing makes
 
 module _ (K : Domain) where
-  abbrev Terms : Type 0
-  Terms = List (Monomial × K.Number)
+  abbrev pub TermList : Type 0
+  TermList = List (Monomial × K.Number)
 
   fallen_term : ℕ → ℕ → ℕ → ℕ → Monomial × K.Number → Monomial × K.Number
   fallen_term t d k j u = (fallen t d k j u.0, u.1)
 
-  lowered-fallen : (z : K.Number) (t d k j : ℕ) (p : ℕ × ℕ) (i q : ℕ) (us : Terms) → AreFour t d p.0 p.1
+  lowered-fallen : (z : K.Number) (t d k j : ℕ) (p : ℕ × ℕ) (i q : ℕ) (us : TermList) → AreFour t d p.0 p.1
       → lowered K z p i q (map (fallen_term t d k j) us) ≡ map (fallen_term t d k j) (lowered K z p i q us)
   unfolding fallen_term
   lowered-fallen z t d k j p i q us f =
       elim (K.discrete z K.zero) as (λ (e : Dec (z ≡ K.zero)).
-      ◌≡◌ {A = Terms} (elim e [ yes h ↦ [] | no h ↦ map (λ (u : Monomial × K.Number). (fallen p.0 p.1 i q u.0, K.times z u.1)) (map (fallen_term t d k j) us) ])
+      ◌≡◌ {A = TermList} (elim e [ yes h ↦ [] | no h ↦ map (λ (u : Monomial × K.Number). (fallen p.0 p.1 i q u.0, K.times z u.1)) (map (fallen_term t d k j) us) ])
       (map (fallen_term t d k j) (elim e [ yes h ↦ [] | no h ↦ map (λ (u : Monomial × K.Number). (fallen p.0 p.1 i q u.0, K.times z u.1)) us ]))) [
         | yes h ↦ refl
         | no h ↦ map_map _ _ us ∙ (λ l. map (λ (u : Monomial × K.Number). (fallen_comm t d p.0 p.1 k j i q u.0 f l, K.times z u.1)) us) ∙ sym (map_map _ _ us)
       ]
 
-  axis_terms-fallen : (h : K.Number) (p : ℕ × ℕ) (c a t d k j : ℕ) (us : Terms) → AreFour t d p.0 p.1
+  axis_terms-fallen : (h : K.Number) (p : ℕ × ℕ) (c a t d k j : ℕ) (us : TermList) → AreFour t d p.0 p.1
       → axis_terms K h p c a (map (fallen_term t d k j) us) ≡ map (fallen_term t d k j) (axis_terms K h p c a us)
   unfolding axis_terms shifted_terms
   axis_terms-fallen h p c a t d k j us f = sym (

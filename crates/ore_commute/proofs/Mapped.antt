@@ -21,7 +21,7 @@ use Rattle.ore_monomial.specs.declared.signature.VarKind.{VarKind}
 use Rattle.ore_monomial.specs.declared.signature.VarKind.TheVariants.{Coordinate, Constant, Plain, Differential, Shift, Delay}
 use Rattle.ore_monomial.specs.LetterRule.{monomial_times}
 use Rattle.ore_monomial.proofs.Letters.{one_term}
-use Rattle.ore_commute.specs.ClosedForm.{step_sum, total_step, step_on, falling, number, axes}
+use Rattle.ore_commute.specs.ClosedForm.{step_sum, total_step, step_on, falling_factorial, number, axes}
 use Rattle.ore_commute.proofs.FlatForm.{flat}
 use Rattle.ore_commute.proofs.Axes.{pass_form}
 
@@ -52,7 +52,7 @@ module _ (K L : Domain) (f : K.Number → L.Number) (r : IsRingMap K L f) where
 
   map-number : (h : K.Number) (h' : L.Number) → f h ≡ h' → (c a k j : ℕ) → f (number K h c a k j) ≡ number L h' c a k j
   unfolding number
-  map-number h h' e c a k j = r.times _ _ ∙ (λ i. L.times (sent-of_nat K L f r (choose c k * falling a k) i) ((r.times _ _ ∙ (λ l. L.times (sent-of_nat K L f r (choose (a - k) j) l) ((sent-power K L f r h h' e j) l))) i))
+  map-number h h' e c a k j = r.times _ _ ∙ (λ i. L.times (sent-of_nat K L f r (choose c k * falling_factorial a k) i) ((r.times _ _ ∙ (λ l. L.times (sent-of_nat K L f r (choose (a - k) j) l) ((sent-power K L f r h h' e j) l))) i))
 
   mapped : List (Monomial × K.Number) → List (Monomial × L.Number)
   mapped us = map (λ u. (u.0, f u.1)) us

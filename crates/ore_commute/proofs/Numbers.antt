@@ -12,30 +12,30 @@ use Rattle.ore_algebra.proofs.Integers.{integers}
 use native.Mathlib.Decide.{dec_le}
 use Rattle.std.proofs.Math.Nat.{div-add-mod, mul-div_cancel_left, mul-le-mul_right, le_of_mul-le-mul_right}
 use Rattle.ore_monomial.specs.Passing.{choose}
-use Rattle.ore_commute.specs.ClosedForm.{falling, number}
+use Rattle.ore_commute.specs.ClosedForm.{falling_factorial, number}
 use Rattle.ore_commute.proofs.ClosedForm.{falling_next, choose_times}
 
 -- ---- products that fall
 
-falling_one_more : (d i : ℕ) → falling (d + i) (suc i) ≡ falling (d + i) i * d
+falling_one_more : (d i : ℕ) → falling_factorial (d + i) (suc i) ≡ falling_factorial (d + i) i * d
 falling_one_more d i = let e = falling_next (d + i) i in omega arith
 
-pub falling_step : (a i : ℕ) → i ≤ a → falling a (suc i) ≡ falling a i * (a - i)
-falling_step a i h = let e : (a - i) + i ≡ a = omega arith in subst (λ b. falling b (suc i) ≡ falling b i * (a - i)) e (falling_one_more (a - i) i)
+pub falling_step : (a i : ℕ) → i ≤ a → falling_factorial a (suc i) ≡ falling_factorial a i * (a - i)
+falling_step a i h = let e : (a - i) + i ≡ a = omega arith in subst (λ b. falling_factorial b (suc i) ≡ falling_factorial b i * (a - i)) e (falling_one_more (a - i) i)
 
 pub le-times : (x y : ℕ) → 1 ≤ y → x ≤ x * y
 le-times x (suc y) h = omega arith
 le-times x zero h = absurd (omega arith)
 
-pub falling_rises : (a i k : ℕ) → i ≤ k → k ≤ a → falling a i ≤ falling a k
-falling_rises a i zero h l = let e : i ≡ 0 = omega arith in subst (λ j. falling a j ≤ falling a 0) (sym e) (omega arith)
+pub falling_rises : (a i k : ℕ) → i ≤ k → k ≤ a → falling_factorial a i ≤ falling_factorial a k
+falling_rises a i zero h l = let e : i ≡ 0 = omega arith in subst (λ j. falling_factorial a j ≤ falling_factorial a 0) (sym e) (omega arith)
 falling_rises a i (suc k) h l = by (dec_le i k) (λ b. falling_rises a i k b (omega arith))
   where
-    by : Dec (i ≤ k) → (i ≤ k → falling a i ≤ falling a k) → falling a i ≤ falling a (suc k)
-    by (yes b) rest = let e = falling_step a k (omega arith) in let r = rest b in let g = le-times (falling a k) (a - k) (omega arith) in omega arith
-    by (no n) rest = let e : i ≡ suc k = omega arith in subst (λ j. falling a j ≤ falling a (suc k)) (sym e) (omega arith)
+    by : Dec (i ≤ k) → (i ≤ k → falling_factorial a i ≤ falling_factorial a k) → falling_factorial a i ≤ falling_factorial a (suc k)
+    by (yes b) rest = let e = falling_step a k (omega arith) in let r = rest b in let g = le-times (falling_factorial a k) (a - k) (omega arith) in omega arith
+    by (no n) rest = let e : i ≡ suc k = omega arith in subst (λ j. falling_factorial a j ≤ falling_factorial a (suc k)) (sym e) (omega arith)
 
-pub falling_from : (a i v : ℕ) → i ≤ a → v ≡ falling a i → v * (a - i) ≡ falling a (suc i)
+pub falling_from : (a i v : ℕ) → i ≤ a → v ≡ falling_factorial a i → v * (a - i) ≡ falling_factorial a (suc i)
 falling_from a i v h e = ap (λ w. w * (a - i)) e ∙ sym (falling_step a i h)
 
 -- ---- binomial numbers
@@ -152,15 +152,15 @@ pub of_nat-is : (n : ℕ) → of_nat integers.ring n ≡ pos n
 of_nat-is zero = refl
 of_nat-is (suc n) = ap (λ z. integers.plus (pos 1) z) (of_nat-is n) ∙ pos-+ℤ-pos 1 n ∙ ap pos (let e : 1 + n ≡ suc n = omega arith in e)
 
-pub number_is : (h : ℤ) (c a k j : ℕ) → number integers h c a k j ≡ pos (choose c k * falling a k) *ℤ (pos (choose (a - k) j) *ℤ power integers.ring h j)
+pub number_is : (h : ℤ) (c a k j : ℕ) → number integers h c a k j ≡ pos (choose c k * falling_factorial a k) *ℤ (pos (choose (a - k) j) *ℤ power integers.ring h j)
 unfolding number
-number_is h c a k j = λ i. of_nat-is (choose c k * falling a k) i *ℤ (of_nat-is (choose (a - k) j) i *ℤ power integers.ring h j)
+number_is h c a k j = λ i. of_nat-is (choose c k * falling_factorial a k) i *ℤ (of_nat-is (choose (a - k) j) i *ℤ power integers.ring h j)
 
-pub number_size : (h : ℤ) (c a k j : ℕ) → nat_abs (number integers h c a k j) ≡ (choose c k * falling a k) * (choose (a - k) j * nat_abs (power integers.ring h j))
+pub number_size : (h : ℤ) (c a k j : ℕ) → nat_abs (number integers h c a k j) ≡ (choose c k * falling_factorial a k) * (choose (a - k) j * nat_abs (power integers.ring h j))
 number_size h c a k j =
     ap nat_abs (number_is h c a k j)
-    ∙ nat_abs-times (pos (choose c k * falling a k)) (pos (choose (a - k) j) *ℤ power integers.ring h j)
-    ∙ ap (λ x. (choose c k * falling a k) * x) (nat_abs-times (pos (choose (a - k) j)) (power integers.ring h j))
+    ∙ nat_abs-times (pos (choose c k * falling_factorial a k)) (pos (choose (a - k) j) *ℤ power integers.ring h j)
+    ∙ ap (λ x. (choose c k * falling_factorial a k) * x) (nat_abs-times (pos (choose (a - k) j)) (power integers.ring h j))
 
 pub choose_apart : (n j : ℕ) → j ≤ n → 1 ≤ choose n j
 unfolding choose
@@ -168,15 +168,15 @@ choose_apart n zero h = omega arith
 choose_apart zero (suc j) h = absurd (omega arith)
 choose_apart (suc n) (suc j) h = let r = choose_apart n j (omega arith) in omega arith
 
-pub falling_apart : (a k : ℕ) → k ≤ a → 1 ≤ falling a k
-unfolding falling
+pub falling_apart : (a k : ℕ) → k ≤ a → 1 ≤ falling_factorial a k
+unfolding falling_factorial
 falling_apart a k h = falling_rises a 0 k (omega arith) h
 
 -- no factor of a number is larger than it
 pub record AreWithin (h : ℤ) (c a k j : ℕ) : Type 0 where
   pub chosen : choose c k ≤ nat_abs (number integers h c a k j)
-  pub fallen : falling a k ≤ nat_abs (number integers h c a k j)
-  pub spent : choose c k * falling a k ≤ nat_abs (number integers h c a k j)
+  pub fallen : falling_factorial a k ≤ nat_abs (number integers h c a k j)
+  pub spent : choose c k * falling_factorial a k ≤ nat_abs (number integers h c a k j)
   pub places : choose (a - k) j ≤ nat_abs (number integers h c a k j)
   pub steps : nat_abs (power integers.ring h j) ≤ nat_abs (number integers h c a k j)
   pub shifted : nat_abs (pos (choose (a - k) j) *ℤ power integers.ring h j) ≤ nat_abs (number integers h c a k j)
@@ -192,7 +192,7 @@ product_apart x y h l = times-le x y 1 l h
 
 pub factors : (h : ℤ) (c a k j : ℕ) → k ≤ c → k + j ≤ a → (0 < j → h ≢ pos 0) → AreWithin h c a k j
 factors h c a k j kc ja n =
-    let C = choose c k in let F = falling a k in let D = choose (a - k) j in let P = nat_abs (power integers.ring h j) in
+    let C = choose c k in let F = falling_factorial a k in let D = choose (a - k) j in let P = nat_abs (power integers.ring h j) in
     let c1 : 1 ≤ C = choose_apart c k kc in
     let f1 : 1 ≤ F = falling_apart a k (omega arith) in
     let d1 : 1 ≤ D = choose_apart (a - k) j (omega arith) in
@@ -216,5 +216,5 @@ number_apart h c a k j kc ja n e =
     let z : nat_abs (number integers h c a k j) ≡ 0 = ap nat_abs e in absurd (omega arith)
 
 pub number_first : (h : ℤ) (c a : ℕ) → number integers h c a 0 0 ≡ pos 1
-unfolding number choose falling
+unfolding number choose falling_factorial
 number_first h c a = refl

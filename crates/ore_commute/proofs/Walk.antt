@@ -19,7 +19,7 @@ use Rattle.ore_monomial.specs.declared.signature.VarKind.TheVariants.{Coordinate
 use Rattle.ore_monomial.specs.Passing.{numbers_to}
 use Rattle.ore_monomial.proofs.Monomials.{exponent_past, with_own}
 use Rattle.ore_commute.specs.ClosedForm.{fallen, number, lowered, shifted_terms, axis_terms, passed, closed_form, differential_of, axes, axes_below, total_step}
-use Rattle.ore_commute.specs.Product.{Terms, checked, IsStarted, HasRoom}
+use Rattle.ore_commute.specs.Product.{IntegerTerms, checked, IsStarted, HasRoom}
 use Rattle.ore_monomial.specs.Numbers.{are_within}
 use Rattle.ore_commute.proofs.Lists.{drop-numbers_to}
 use Rattle.ore_commute.proofs.Numbers.{number_first}
@@ -58,11 +58,11 @@ module _ (s : Signature) where
 
 -- ---- the term that lowers nothing stands first
 
-module _ (h : ℤ) (p : ℕ × ℕ) (c a : ℕ) (us : Terms) where
+module _ (h : ℤ) (p : ℕ × ℕ) (c a : ℕ) (us : IntegerTerms) where
   same_term : Monomial × ℤ → Monomial × ℤ
   same_term u = (fallen p.0 p.1 0 0 u.0, pos 1 *ℤ u.1)
 
-  axis_split : (rest : Terms) × (axis_terms integers h p c a us ≡ map same_term us ++ rest)
+  axis_split : (rest : IntegerTerms) × (axis_terms integers h p c a us ≡ map same_term us ++ rest)
   unfolding axis_terms shifted_terms same_term
   axis_split =
       let n = number integers h c a 0 0 in
@@ -95,7 +95,7 @@ module _ (h : ℤ) (p : ℕ × ℕ) (c a : ℕ) (us : Terms) where
       nothing : (x : ℕ) (m : Monomial) → lower x 0 m ≡ m
       nothing x m = let q : exponent m x - 0 ≡ exponent m x = omega arith in ap (λ e. with_exponent x e m) q ∙ with_own x m
 
-      each : (us : Terms) → map (λ (u : Monomial × ℤ). (fallen p.0 p.1 0 0 u.0, pos 1 *ℤ u.1)) us ≡ us
+      each : (us : IntegerTerms) → map (λ (u : Monomial × ℤ). (fallen p.0 p.1 0 0 u.0, pos 1 *ℤ u.1)) us ≡ us
       each [] = refl
       each (u ∷ us) = λ i. ((nothing p.0 (lower p.1 0 u.0) ∙ nothing p.1 u.0) i, integer_one-times u.1 i) ∷ each us i
 
@@ -103,7 +103,7 @@ module _ (h : ℤ) (p : ℕ × ℕ) (c a : ℕ) (us : Terms) where
   unfolding same_term
   started_again s = subst IsStarted (sym axis_split.1) (first us s axis_split.0)
     where
-      first : (us : Terms) → IsStarted us → (rest : Terms) → IsStarted (map same_term us ++ rest)
+      first : (us : IntegerTerms) → IsStarted us → (rest : IntegerTerms) → IsStarted (map same_term us ++ rest)
       first [] s rest = absurd s
       first (u ∷ us) s rest = λ e. s (sym (integer_one-times u.1) ∙ e)
 
@@ -111,7 +111,7 @@ module _ (h : ℤ) (p : ℕ × ℕ) (c a : ℕ) (us : Terms) where
   unfolding same_term
   spoilt_again f = ap (are_within program) axis_split.1 ∙ list_all-append _ (map same_term us) axis_split.0 ∙ ap (λ b. b && are_within program axis_split.0) (same us ∙ f)
     where
-      same : (us : Terms) → are_within program (map same_term us) ≡ are_within program us
+      same : (us : IntegerTerms) → are_within program (map same_term us) ≡ are_within program us
       same [] = refl
       same (u ∷ us) = λ i. nat_le (nat_abs (integer_one-times u.1 i)) 170141183460469231731687303715884105727 && same us i
 

@@ -15,12 +15,12 @@ use Rattle.ore_algebra.proofs.Integers.{integers}
 use Rattle.ore_monomial.specs.Monomial.{Monomial, degree, order_cmp, plain_cmp}
 use Rattle.ore_monomial.specs.Signature.{Signature}
 use Rattle.ore_commute.specs.ClosedForm.{closed_form}
-use Rattle.ore_commute.specs.Product.{Terms, pass_within}
+use Rattle.ore_commute.specs.Product.{IntegerTerms, pass_within}
 use Rattle.ore_monomial.specs.Numbers.{numbers, falling_over, are_within, numbers_within}
 use Rattle.ore_commute.proofs.Kept.{closed_form_is, closed_form_apart, closed_form_numbers}
 use Rattle.ore_commute.proofs.Falling.{falls_sorted, all-permuted, all_from_falling}
 
-abbrev pub AreSorted : Signature → Terms → Type 0
+abbrev pub AreSorted : Signature → IntegerTerms → Type 0
 AreSorted s us = IsSortedBy (λ t u. is_lt (flip_args (order_cmp s.order) t.0 u.0)) us
 
 module _ (s : Signature) (m n : Monomial) where
@@ -28,7 +28,7 @@ module _ (s : Signature) (m n : Monomial) where
   unfolding numbers falling_over
   falling_terms = ap (λ f. terms integers (flip_args (order_cmp s.order)) (collect integers (flip_args (order_cmp s.order)) (terms integers plain_cmp f))) (closed_form_is integers s m n)
 
-  pub numbers_are : (us : Terms) → IsPermutation (closed_form integers s m n) us → AreSorted s us → numbers s m n ≡ us
+  pub numbers_are : (us : IntegerTerms) → IsPermutation (closed_form integers s m n) us → AreSorted s us → numbers s m n ≡ us
   numbers_are us p sorted = falling_terms ∙ falls_sorted s.order (closed_form integers s m n) us (closed_form_apart integers s m n) (closed_form_numbers integers s m n) p sorted
 
   degree_fits : degree m + degree n ≤ 32767 → nat_le (degree m + degree n) 32767 ≡ true
@@ -49,7 +49,7 @@ module _ (s : Signature) (m n : Monomial) where
   unfolding numbers_within
   pass_tested b h e = pass_small h ∙ ap (λ c. guard c (numbers s m n) Overflow) e
 
-  pub pass_ok : (us : Terms) → degree m + degree n ≤ 32767 → are_within program (closed_form integers s m n) ≡ true → IsPermutation (closed_form integers s m n) us → AreSorted s us → pass_within program s m n ≡ Ok us
+  pub pass_ok : (us : IntegerTerms) → degree m + degree n ≤ 32767 → are_within program (closed_form integers s m n) ≡ true → IsPermutation (closed_form integers s m n) us → AreSorted s us → pass_within program s m n ≡ Ok us
   pass_ok us h within p sorted =
       let e = numbers_are us p sorted in
       pass_tested true h (ap (are_within program) e ∙ sym (all-permuted _ (closed_form integers s m n) us p) ∙ within) ∙ ap Ok e
@@ -68,12 +68,12 @@ module _ (s : Signature) (m n : Monomial) where
   unfolding pass_within numbers_within
   pass_unlimited = ap (λ b. guard b (numbers s m n) Overflow) (all_true (numbers s m n))
     where
-      all_true : (ts : Terms) → are_within unlimited ts ≡ true
+      all_true : (ts : IntegerTerms) → are_within unlimited ts ≡ true
       all_true [] = refl
       all_true (t ∷ ts) = all_true ts
 
   -- what is answered within limits is the product
-  pub pass_is : (l : Limits) (ts : Terms) → pass_within l s m n ≡ Ok ts → ts ≡ numbers s m n
+  pub pass_is : (l : Limits) (ts : IntegerTerms) → pass_within l s m n ≡ Ok ts → ts ≡ numbers s m n
   unfolding pass_within numbers_within
   pass_is l ts e = by (is_within l.degree (degree m + degree n)) (are_within l (numbers s m n)) e
     where

@@ -1,6 +1,6 @@
 -- The closed form of a product of two ordered monomials.
 -- (Leibniz' rule for differential operators, the binomial theorem for shifts.)
---     falling           a!/(a-k)!
+--     falling_factorial  a!/(a-k)!
 --     step_on           what a letter adds to a coordinate that it passes over: its step, or minus it
 --     step_sum, total_step    the sum of the steps of all letters of a monomial over one coordinate
 --     number            the number of the term that lowers the differential operator by k and its coordinate by k + j
@@ -11,6 +11,7 @@
 --     shifted_terms, axis_terms   what passing one coordinate makes of terms
 --     passed            the terms of a product of monomials, where they pass these coordinates
 --     closed_form       the terms of a product of monomials
+--     differential_below, axes_below  the same among the first n variables
 use Rattle.std.specs.Prelude.{ℕ, zero, suc, ◌+◌, ◌-◌, ◌*◌, min, nat_eq, cond, List, [], ◌∷◌, map}
 use Rattle.std.specs.List.{flat_map}
 use Rattle.ore_algebra.specs.Domain.{Domain}
@@ -22,10 +23,10 @@ use Rattle.ore_monomial.specs.Passing.{choose, numbers_to}
 use Rattle.ore_monomial.specs.Signature.{Signature, kind_at, is_coordinate, is_differential_on}
 
 -- a!/(a-k)!, the product of the k numbers from a down; 0 where k is greater than a
-unfoldable pub falling : ℕ → ℕ → ℕ
-falling a zero = 1
-falling zero (suc k) = 0
-falling (suc a) (suc k) = suc a * falling a k
+unfoldable pub falling_factorial : ℕ → ℕ → ℕ
+falling_factorial a zero = 1
+falling_factorial zero (suc k) = 0
+falling_factorial (suc a) (suc k) = suc a * falling_factorial a k
 
 -- The differential operator of t among the first n variables, or 12, which is no variable. Where there is more than one it is the last.
 unfoldable pub differential_below : Signature → ℕ → ℕ → ℕ
@@ -63,7 +64,7 @@ module _ (K : Domain) where
   -- C(c,k) a!/(a-k)! C(a-k,j) h^j, where c is the exponent of the differential operator, a that of its coordinate,
   -- and h the sum of the steps over it
   unfoldable pub number : K.Number → ℕ → ℕ → ℕ → ℕ → K.Number
-  number h c a k j = K.times (of_nat K.ring (choose c k * falling a k)) (K.times (of_nat K.ring (choose (a - k) j)) (power K.ring h j))
+  number h c a k j = K.times (of_nat K.ring (choose c k * falling_factorial a k)) (K.times (of_nat K.ring (choose (a - k) j)) (power K.ring h j))
 
   -- the terms us, lowered and times this number; none where the number is zero
   abbrev pub lowered : K.Number → ℕ × ℕ → ℕ → ℕ → List (Monomial × K.Number) → List (Monomial × K.Number)

@@ -1,5 +1,5 @@
 -- The product of two ordered monomials over the whole numbers.
---     Terms          monomials with whole numbers
+--     IntegerTerms   monomials with whole numbers
 --     pass_within    the terms of the product, or the cause why they are beyond limits
 --     IsStarted, HasRoom     there is a term that isn't zero; a monomial can be lowered
 --     divided        a term divided by a monomial, and times a number
@@ -13,11 +13,11 @@ use Rattle.ore_monomial.specs.Numbers.{numbers, are_within, numbers_within}
 use Rattle.ore_monomial.specs.Signature.{Signature}
 
 -- monomials with whole numbers
-abbrev pub Terms : Type 0
-Terms = List (Monomial × ℤ)
+abbrev pub IntegerTerms : Type 0
+IntegerTerms = List (Monomial × ℤ)
 
 -- the terms of m n, where the degrees sum to no more than the limit, and no whole number is beyond it
-unfoldable pub pass_within : Limits → Signature → Monomial → Monomial → Result Terms Cause
+unfoldable pub pass_within : Limits → Signature → Monomial → Monomial → Result IntegerTerms Cause
 pass_within l s m n = cond (is_within l.degree (degree m + degree n)) (numbers_within l (numbers s m n)) (Err Degree)
 
 -- ---- words of the calls inside
@@ -31,11 +31,11 @@ unfoldable pub divided : Monomial → ℤ → Monomial × ℤ → Monomial × �
 divided m k t = (quotient t.0 m, k *ℤ t.1)
 
 -- terms after others, where their numbers are in range
-unfoldable pub checked : Terms → Terms → Result Terms Cause
+unfoldable pub checked : IntegerTerms → IntegerTerms → Result IntegerTerms Cause
 checked front ts = guard (are_within program ts) (front ++ ts) Overflow
 
 -- there is a term, and its number isn't zero
-abbrev pub IsStarted : Terms → Type 0
+abbrev pub IsStarted : IntegerTerms → Type 0
 IsStarted [] = ⊥
 IsStarted (t ∷ ts) = t.1 ≢ pos 0
 

@@ -4,7 +4,7 @@ ghost use Rattle.std.specs.Prelude.{◌≡◌, ◌≢◌, ◌+◌, ◌-◌, ◌*
 ghost use Rattle.ore_algebra.specs.Ring.{power as power_of};
 ghost use Rattle.ore_algebra.proofs.Integers.{integers};
 ghost use Rattle.ore_monomial.specs.Passing.{choose};
-ghost use Rattle.ore_commute.specs.ClosedForm.{falling as falling_of, number as number_of};
+ghost use Rattle.ore_commute.specs.ClosedForm.{falling_factorial as falling_of, number as number_of};
 
 /// The greatest magnitude of a whole number.
 const MOST: u128 = 0x7fff_ffff_ffff_ffff_ffff_ffff_ffff_ffff;

@@ -7,19 +7,19 @@ use Rattle.std.specs.declared.result.Result.TheVariants.{Ok, Err}
 use Rattle.ore_algebra.specs.Limits.{Cause}
 use Rattle.ore_course.specs.Choices.{Refusal, Runner, Stopped}
 use Rattle.ore_course.specs.Course.{Course, Done, Stops, Runs}
-use Rattle.ore_course.specs.Leading.{is_lawful, any_rule, run, AreAllowed, LeadsTo, IsIn, AreAllowedIn}
+use Rattle.ore_course.specs.Leading.{shows_lawful, any_rule, run, AreAllowed, LeadsTo, IsIn, AreAllowedIn}
 use Rattle.ore_course.specs.Report.{Reported, StopLine, Report, IsHonestAt, IsHonest, IsStopAllowed, IsHonestBy, AtForced, AtChoice, AtBudget}
 use Rattle.ore_course.proofs.Basics.{one_ok}
 use Rattle.ore_algebra.proofs.ResultLaws.{no_ok}
 use Rattle.ore_course.proofs.Calls.{in_one}
 
 -- what isn't refused as unlawful is lawful
-lawful_next : {S : Type 0} (r : Result S Refusal) (next : S) → r ≡ Ok next → is_lawful r ≡ true
-unfolding is_lawful
+lawful_next : {S : Type 0} (r : Result S Refusal) (next : S) → r ≡ Ok next → shows_lawful r ≡ true
+unfolding shows_lawful
 lawful_next r next e = rw e refl
 
-lawful_stop : {S : Type 0} (r : Result S Refusal) (c : Cause) → r ≡ Err (Stopped c) → is_lawful r ≡ true
-unfolding is_lawful
+lawful_stop : {S : Type 0} (r : Result S Refusal) (c : Cause) → r ≡ Err (Stopped c) → shows_lawful r ≡ true
+unfolding shows_lawful
 lawful_stop r c e = rw e refl
 
 module _ {S C : Type 0} (R : Runner S C) where
@@ -29,7 +29,7 @@ module _ {S C : Type 0} (R : Runner S C) where
   any_allowed st (c ∷ cs) last e = by (R.step st c) refl e (λ next. any_allowed next cs last)
     where
       by : (r : Result S Refusal) → R.step st c ≡ r → ◌≡◌ {A = Result S Refusal} (elim r [ Ok next ↦ run R next cs | Err refusal ↦ Err refusal ]) (Ok last)
-          → ((next : S) → run R next cs ≡ Ok last → AreAllowed R (any_rule R) next cs) → (is_lawful (R.step st c) ≡ true) × ((next : S) → R.step st c ≡ Ok next → AreAllowed R (any_rule R) next cs)
+          → ((next : S) → run R next cs ≡ Ok last → AreAllowed R (any_rule R) next cs) → (shows_lawful (R.step st c) ≡ true) × ((next : S) → R.step st c ≡ Ok next → AreAllowed R (any_rule R) next cs)
       by (Ok next) s h more = (lawful_next (R.step st c) next s, λ other f. subst (λ x. AreAllowed R (any_rule R) x cs) (one_ok (R.step st c) next other s f) (more next h))
       by (Err refusal) s h more = absurd (no_ok h)
 

@@ -13,9 +13,9 @@ use Rattle.std.specs.List.{Contains}
 use Rattle.std.specs.declared.result.Result.{Result}
 use Rattle.std.specs.declared.result.Result.TheVariants.{Ok, Err}
 use Rattle.ore_algebra.specs.Limits.{Cause, IsAtMost}
-use Rattle.ore_course.specs.Choices.{Refusal, Runner, cost, treats, treats_in}
+use Rattle.ore_course.specs.Choices.{Refusal, Runner, cost, treatment_count, treatment_count_in}
 use Rattle.ore_course.specs.Course.{Course, ◌>>=◌, forced, run_from, Done, Stops, Runs}
-use Rattle.ore_course.specs.Leading.{run, IsComplete, LeadsTo, IsIn}
+use Rattle.ore_course.specs.Leading.{run, IsCompleteState, LeadsTo, IsIn}
 use Rattle.ore_course.specs.Report.{Reported, StopLine, Report, IsHonestAt, IsHonest, ByStop, ByBudget, AtForced, AtChoice, AtBudget}
 use Rattle.ore_course.specs.Bounded.{IsShort, HasFewChoices, AreRunsOf, AreShort, HasBudget, Extends, IsCourseAtMost}
 use Rattle.ore_course.proofs.Basics.{one_ok, no_nil, result_cases, bool_cases, true_false}
@@ -44,8 +44,8 @@ module _ {S C : Type 0} (R : Runner S C) where
       by true = omega arith
       by false = omega arith
 
-  few : (cs : List C) → treats R.is_treatment cs ≤ length cs
-  unfolding treats
+  few : (cs : List C) → treatment_count R.is_treatment cs ≤ length cs
+  unfolding treatment_count
   few [] = omega arith
   few (c ∷ cs) = let h = few cs in let small = cost_small c in omega (arith, h, small)
 
@@ -71,11 +71,11 @@ module _ {S C : Type 0} (R : Runner S C) where
   honest_runs course runs cause AtBudget (e, st, h, s) = in_runs course runs st h
 
   -- a report that the budget is spent says how many were treated
-  pub spent_cause : {X : Type 0} (course : Course S X) (runs : List (List C)) (cause : Reported) (stop : StopLine C) (n : ℕ) → IsHonestAt R course runs cause stop → cause ≡ ByBudget n → n ≡ treats_in R.is_treatment runs
+  pub spent_cause : {X : Type 0} (course : Course S X) (runs : List (List C)) (cause : Reported) (stop : StopLine C) (n : ℕ) → IsHonestAt R course runs cause stop → cause ≡ ByBudget n → n ≡ treatment_count_in R.is_treatment runs
   unfolding IsHonestAt
   spent_cause course runs cause AtForced n (c, e, h) same = absurd (no_stop (sym e ∙ same))
   spent_cause course runs cause (AtChoice choice) n (c, e, st, h, s) same = absurd (no_stop (sym e ∙ same))
-  spent_cause course runs cause AtBudget n h same = same_budget n (treats_in R.is_treatment runs) (sym same ∙ h.0)
+  spent_cause course runs cause AtBudget n h same = same_budget n (treatment_count_in R.is_treatment runs) (sym same ∙ h.0)
 
   module _ (few_choices : HasFewChoices R) where
     -- ---- one number for finitely many choices
@@ -145,14 +145,14 @@ module _ {S C : Type 0} (R : Runner S C) where
     module _ {X : Type 0} where
       -- the runs of a course that follow a state, where this is complete
       abbrev Fewer : S → Course S X → ℕ → Type 0
-      Fewer last course b = (runs : List (List C)) → (runs ≢ [] → IsComplete R last) → AreRunsOf R course runs → treats_in R.is_treatment runs < b
+      Fewer last course b = (runs : List (List C)) → (runs ≢ [] → IsCompleteState R last) → AreRunsOf R course runs → treatment_count_in R.is_treatment runs < b
 
       incomplete_fewer : (last : S) (course : Course S X) → R.is_complete last ≡ false → Fewer last course 1
-      unfolding treats_in
+      unfolding treatment_count_in
       incomplete_fewer last course left [] complete h = omega arith
       incomplete_fewer last course left (cs ∷ runs) complete h = absurd (true_false (R.is_complete last) (complete (λ e. no_nil e)) left)
 
-      after_state : (last : S) (course : Course S X) → (IsComplete R last → HasBudget R course) → (b : ℕ) × Fewer last course b
+      after_state : (last : S) (course : Course S X) → (IsCompleteState R last → HasBudget R course) → (b : ℕ) × Fewer last course b
       after_state last course h = by (bool_cases (R.is_complete last))
         where
           by : (R.is_complete last ≡ true) ⊎ (R.is_complete last ≡ false) → (b : ℕ) × Fewer last course b
@@ -160,11 +160,11 @@ module _ {S C : Type 0} (R : Runner S C) where
           by (inr left) = (1, incomplete_fewer last course left)
 
       pub budget_exists : (course : Course S X) → AreShort R course → HasBudget R course
-      unfolding AreShort AreRunsOf treats_in
+      unfolding AreShort AreRunsOf treatment_count_in
       budget_exists (Done x) h = (1, elim [ [] ↦ λ k. omega arith | cs ∷ runs ↦ λ k. absurd k ])
       budget_exists (Stops c) h = (1, elim [ [] ↦ λ k. omega arith | cs ∷ runs ↦ λ k. absurd k ])
       budget_exists (Runs first next) (short, later) =
-          by (one_serves (λ last b. Fewer last (next last) b) (λ st a b le h runs over k. below (treats_in R.is_treatment runs) a b le (h runs over k)) short.0 first short.1
+          by (one_serves (λ last b. Fewer last (next last) b) (λ st a b le h runs over k. below (treatment_count_in R.is_treatment runs) a b le (h runs over k)) short.0 first short.1
           (λ cs last e. after_state last (next last) (λ complete. budget_exists (next last) (later cs last e complete))))
         where
           below : (t a b : ℕ) → a ≤ b → t < a → t < b
@@ -184,7 +184,7 @@ module _ {S C : Type 0} (R : Runner S C) where
             suc (short.0 + b),
             elim [
               | [] ↦ λ k. omega arith
-              | cs ∷ runs ↦ λ (last, led, over, more). after (treats R.is_treatment cs + treats_in R.is_treatment runs) (short.0 + b) (sum (treats R.is_treatment cs) (treats_in R.is_treatment runs) short.0 b (less (treats R.is_treatment cs) (length cs) short.0 (few cs) (short.1 cs last led)) (h cs last led runs over more))
+              | cs ∷ runs ↦ λ (last, led, over, more). after (treatment_count R.is_treatment cs + treatment_count_in R.is_treatment runs) (short.0 + b) (sum (treatment_count R.is_treatment cs) (treatment_count_in R.is_treatment runs) short.0 b (less (treatment_count R.is_treatment cs) (length cs) short.0 (few cs) (short.1 cs last led)) (h cs last led runs over more))
             ],
           )
 
@@ -236,18 +236,18 @@ module _ {S C : Type 0} (R E : Runner S C) (extends : Extends R E) where
   unfolding cost
   same_cost c = ap (λ b. cond b 1 0) (extends.treatments c)
 
-  same_treats : (cs : List C) → treats R.is_treatment cs ≡ treats E.is_treatment cs
-  unfolding treats
+  same_treats : (cs : List C) → treatment_count R.is_treatment cs ≡ treatment_count E.is_treatment cs
+  unfolding treatment_count
   same_treats [] = refl
   same_treats (c ∷ cs) = let one = same_cost c in let more = same_treats cs in omega (arith, one, more)
 
-  same_treats_in : (runs : List (List C)) → treats_in R.is_treatment runs ≡ treats_in E.is_treatment runs
-  unfolding treats_in
+  same_treats_in : (runs : List (List C)) → treatment_count_in R.is_treatment runs ≡ treatment_count_in E.is_treatment runs
+  unfolding treatment_count_in
   same_treats_in [] = refl
   same_treats_in (cs ∷ runs) = let one = same_treats cs in let more = same_treats_in runs in omega (arith, one, more)
 
   -- every honest report has fewer treatments than the number of the exact course
-  pub fewer : {X : Type 0} (course exact : Course S X) → IsCourseAtMost course exact → (budget : HasBudget E exact) → (report : Report C) → IsHonest R course report → treats_in R.is_treatment report.runs < budget.0
+  pub fewer : {X : Type 0} (course exact : Course S X) → IsCourseAtMost course exact → (budget : HasBudget E exact) → (report : Report C) → IsHonest R course report → treatment_count_in R.is_treatment report.runs < budget.0
   fewer course exact most budget report h =
       subst (λ n. n < budget.0) (sym (same_treats_in report.runs)) (budget.1 report.runs (within_exact course exact report.runs most (honest_runs R course report.runs report.cause report.stop h)))
 

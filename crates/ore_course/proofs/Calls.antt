@@ -12,13 +12,13 @@ use Rattle.std.proofs.Common.{◌≡◌, ◌≢◌, ℕ, ◌+◌, ◌≤◌, Boo
 use Rattle.std.specs.declared.result.Result.{Result}
 use Rattle.std.specs.declared.result.Result.TheVariants.{Ok, Err}
 use Rattle.ore_algebra.specs.Limits.{Cause}
-use Rattle.ore_course.specs.Choices.{cost, Runner, treats_in, with_choice, without_last, next_kept}
+use Rattle.ore_course.specs.Choices.{cost, Runner, treatment_count_in, with_choice, without_last, next_kept}
 use Rattle.ore_course.specs.Course.{Course, ◌>>=◌, forced, Done, Stops, Runs}
 use Rattle.ore_course.specs.Leading.{IsFormedWithin, Rule, run, LeadsTo, IsIn, IsFormedBy, AreAllowedIn}
 use Rattle.ore_course.specs.Report.{IsHonestAt, IsStopAllowed, IsHonestBy, IsWithin, ByStop, ByBudget, AtChoice}
 use Rattle.ore_course.specs.Following.{IsReported, Halt, report_of, IsReportable, Follows, IsLeftIn, IsStopChoice, IsSpent, IsUnlawful, IsHaltedIn, InForced, InChoice, Passed, Spent, NoLawful, Memory}
 use Rattle.ore_course.proofs.Basics.{one_ok, no_nil}
-use Rattle.ore_course.proofs.GivenRuns.{with_choice-append, without_last-with_choice, treats_in-with_choice}
+use Rattle.ore_course.proofs.GivenRuns.{with_choice-append, without_last-with_choice, treatment_count_in-with_choice}
 use Rattle.ore_course.proofs.Leads.{bind_done, leads_trans, leads_bind, in_none, in_trans, in_bind, allowed_none, allowed_trans, allowed_bind, allowed_in_bind}
 
 module _ {S C : Type 0} (R : Runner S C) where
@@ -134,8 +134,8 @@ module _ {S C : Type 0} (R : Runner S C) where
     pub formed : {X : Type 0} {course : Course S X} {given : List (List C)} {x : X} → Follows R rule course [] given (Done x) → IsFormedBy R course given x × AreAllowedIn R rule course given
     formed {course = course} {x = x} h = (subst (λ rs. LeadsTo R course rs (Done x)) (sym h.given_is) h.leads, subst (λ rs. AreAllowedIn R rule course rs) (sym h.given_is) h.allowed)
 
-    pub formed_within : {X : Type 0} {course : Course S X} {given : List (List C)} {x : X} (budget : ℕ) → Follows R rule course [] given (Done x) → treats_in R.is_treatment given ≤ budget → IsFormedWithin R rule budget course given x
-    formed_within budget h paid = let k = formed h in record { formed = k.0; allowed = k.1; paid = paid }
+    pub formed_within : {X : Type 0} {course : Course S X} {given : List (List C)} {x : X} (budget : ℕ) → Follows R rule course [] given (Done x) → treatment_count_in R.is_treatment given ≤ budget → IsFormedWithin R rule budget course given x
+    formed_within budget h within_budget = let k = formed h in record { formed = k.0; allowed = k.1; within_budget = within_budget }
 
     stop_there : {X : Type 0} (course : Course S X) (runs : List (List C)) (c : Cause) (choice : C) → IsLeftIn R rule course runs (IsStopChoice R rule c choice)
         → IsHonestBy R rule course (record { cause = ByStop c; runs = runs; stop = AtChoice choice })
@@ -147,20 +147,20 @@ module _ {S C : Type 0} (R : Runner S C) where
     }
 
     pub reported : {X : Type 0} (course : Course S X) (given : List (List C)) (budget : ℕ) (replays : Bool) (kept : List (List C)) (halt : Halt C)
-        → IsHaltedIn R rule course [] given budget replays kept halt → IsReportable halt → treats_in R.is_treatment given ≤ budget
+        → IsHaltedIn R rule course [] given budget replays kept halt → IsReportable halt → treatment_count_in R.is_treatment given ≤ budget
         → IsHonestBy R rule course (report_of given budget halt) × IsWithin R budget (report_of given budget halt)
     unfolding IsHaltedIn IsHonestAt IsStopAllowed
-    reported course given budget replays kept (Passed c InForced) h u paid = (
+    reported course given budget replays kept (Passed c InForced) h u within_budget = (
       record { honest = (c, refl, subst (λ rs. LeadsTo R course rs (Stops c)) (sym h.given_is) h.leads); choices = subst (λ rs. AreAllowedIn R rule course rs) (sym h.given_is) h.allowed; stop = tt },
       omega arith,
     )
-    reported course given budget replays kept (Passed c (InChoice choice)) (passed, e, left) u paid =
+    reported course given budget replays kept (Passed c (InChoice choice)) (passed, e, left) u within_budget =
         let same : passed ≡ without_last given = sym (ap without_last e ∙ without_last-with_choice passed choice) in
-        let count : treats_in R.is_treatment given ≡ treats_in R.is_treatment passed + cost R.is_treatment choice = ap (λ rs. treats_in R.is_treatment rs) e ∙ treats_in-with_choice R.is_treatment passed choice (in_some course passed left.state left.is_in) in (
+        let count : treatment_count_in R.is_treatment given ≡ treatment_count_in R.is_treatment passed + cost R.is_treatment choice = ap (λ rs. treatment_count_in R.is_treatment rs) e ∙ treatment_count_in-with_choice R.is_treatment passed choice (in_some course passed left.state left.is_in) in (
           subst (λ rs. IsHonestBy R rule course (record { cause = ByStop c; runs = rs; stop = AtChoice choice })) same (stop_there course passed c choice left),
-          subst (λ rs. treats_in R.is_treatment rs + cost R.is_treatment choice ≤ budget) same (omega (arith, count)),
+          subst (λ rs. treatment_count_in R.is_treatment rs + cost R.is_treatment choice ≤ budget) same (omega (arith, count)),
         )
-    reported course given budget replays kept Spent (added, e, left, spent, live) u paid =
+    reported course given budget replays kept Spent (added, e, left, spent, live) u within_budget =
         let is_in : IsIn R course given left.state = subst (λ rs. IsIn R course rs left.state) (sym e) left.is_in in (
           record {
             honest = (ap ByBudget (sym spent), left.state, is_in, left.here.0);
@@ -169,13 +169,13 @@ module _ {S C : Type 0} (R : Runner S C) where
           },
           refl,
         )
-    reported course given budget replays kept NoLawful h u paid = absurd u
-    reported course given budget replays kept Memory h u paid = absurd u
+    reported course given budget replays kept NoLawful h u within_budget = absurd u
+    reported course given budget replays kept Memory h u within_budget = absurd u
 
     -- the clause of a wrapper: a call that began where no run was given, of whose halts this is the halt
     pub halt_reported : {X A H : Type 0} (course : Course S X) (halt_of : H → Halt C) (result : Result A H) (before given : List (List C)) (budget : ℕ) (replays : Bool) (kept : List (List C))
-        → IfErr result (λ h. IsHaltedIn R rule course before given budget replays kept (halt_of h)) → before ≡ [] → treats_in R.is_treatment given ≤ budget
+        → IfErr result (λ h. IsHaltedIn R rule course before given budget replays kept (halt_of h)) → before ≡ [] → treatment_count_in R.is_treatment given ≤ budget
         → IfErr result (λ h. IsReported R rule course given budget (halt_of h))
-    halt_reported course halt_of (Ok a) before given budget replays kept h start paid = tt
-    halt_reported course halt_of (Err halt) before given budget replays kept h start paid =
-        λ reportable. reported course given budget replays kept (halt_of halt) (subst (λ b. IsHaltedIn R rule course b given budget replays kept (halt_of halt)) start h) reportable paid
+    halt_reported course halt_of (Ok a) before given budget replays kept h start within_budget = tt
+    halt_reported course halt_of (Err halt) before given budget replays kept h start within_budget =
+        λ reportable. reported course given budget replays kept (halt_of halt) (subst (λ b. IsHaltedIn R rule course b given budget replays kept (halt_of halt)) start h) reportable within_budget

@@ -9,10 +9,10 @@ use Rattle.std.specs.declared.option.Option.TheVariants.{None, Some}
 use Rattle.std.specs.declared.result.Result.{Result}
 use Rattle.std.specs.declared.result.Result.TheVariants.{Ok, Err}
 use Rattle.ore_algebra.specs.Limits.{Cause, Overflow, Degree}
-use Rattle.ore_course.specs.Choices.{Refusal, Unlawful, Stopped, Runner, cost, treats, treats_in}
+use Rattle.ore_course.specs.Choices.{Refusal, Unlawful, Stopped, Runner, cost, treatment_count, treatment_count_in}
 use Rattle.ore_course.specs.Course.{Course, ◌>>=◌, forced, run_from}
 use Rattle.ore_course.specs.Report.{Reported, ByStop, ByBudget, StopLine, AtForced, AtChoice, AtBudget}
-use Rattle.ore_course.specs.Failing.{Place, OfRun, OfChoice, OfStop, lines_before, line_of, is_cause, is_budget, follow, stops_so, is_stopped, stop_passes, failing, first_failing}
+use Rattle.ore_course.specs.Failing.{ReportPlace, OfRun, OfChoice, OfStop, run_lines_before, report_line, is_cause, is_budget, follow, stops_so, is_stopped, stop_passes, failing, first_failing}
 
 data Pick : Type 0 where
   Take : Pick
@@ -47,13 +47,13 @@ two_runs work = do
   c ← run_from (Ok b)
   forced (Ok 7)
 
-answer : Result ℕ Cause → Reported → List (List Pick) → StopLine Pick → Option (Place Pick)
-unfolding two_runs toy pick is_zero is_take failing follow stop_passes is_stopped stops_so is_cause is_budget cost treats treats_in ◌>>=◌ forced run_from
+answer : Result ℕ Cause → Reported → List (List Pick) → StopLine Pick → Option (ReportPlace Pick)
+unfolding two_runs toy pick is_zero is_take failing follow stop_passes is_stopped stops_so is_cause is_budget cost treatment_count treatment_count_in ◌>>=◌ forced run_from
 answer work cause runs stop = first_failing toy (two_runs work) (record { cause = cause; runs = runs; stop = stop })
 
-line : List (List Pick) → Place Pick → ℕ
-unfolding line_of lines_before
-line runs place = line_of 4 runs place
+line : List (List Pick) → ReportPlace Pick → ℕ
+unfolding report_line run_lines_before
+line runs place = report_line 4 runs place
 
 module _ where
   -- one is taken of two, and the budget is that; a pass costs nothing; another budget; a run that is complete

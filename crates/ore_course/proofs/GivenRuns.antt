@@ -1,8 +1,8 @@
 -- Runs, as lists of choices, with a new run or with one choice more.
---     with_choice, without_last, treats    of runs with one choice more
+--     with_choice, without_last, treatment_count  of runs with one choice more
 --     .._start                 the same of runs with a new one
 use Rattle.std.proofs.Common.{◌≡◌, ◌≢◌, ◌+◌, Bool, List, [], ◌∷◌, ◌++◌, refl, ap, ◌∙◌, arith}
-use Rattle.ore_course.specs.Choices.{cost, treats, treats_in, with_choice, but_last, without_last}
+use Rattle.ore_course.specs.Choices.{cost, treatment_count, treatment_count_in, with_choice, but_last, without_last}
 use Rattle.ore_course.proofs.Basics.{no_nil}
 
 module _ {C : Type 0} where
@@ -36,18 +36,18 @@ module _ {C : Type 0} where
   without_last-with_choice (cs ∷ ds ∷ runs) c = without_last-cons cs (with_choice (ds ∷ runs) c) (with_choice-some ds runs c) ∙ ap (λ rs. cs ∷ rs) (without_last-with_choice (ds ∷ runs) c)
 
 module _ {C : Type 0} (is_treatment : C → Bool) where
-  treats-push : (cs : List C) (c : C) → treats is_treatment (cs ++ c ∷ []) ≡ treats is_treatment cs + cost is_treatment c
-  unfolding treats
-  treats-push [] c = omega arith
-  treats-push (d ∷ cs) c = let h = treats-push cs c in omega (arith, h)
+  treatment_count-push : (cs : List C) (c : C) → treatment_count is_treatment (cs ++ c ∷ []) ≡ treatment_count is_treatment cs + cost is_treatment c
+  unfolding treatment_count
+  treatment_count-push [] c = omega arith
+  treatment_count-push (d ∷ cs) c = let h = treatment_count-push cs c in omega (arith, h)
 
-  pub treats_in-with_choice : (runs : List (List C)) (c : C) → runs ≢ [] → treats_in is_treatment (with_choice runs c) ≡ treats_in is_treatment runs + cost is_treatment c
-  unfolding treats_in with_choice
-  treats_in-with_choice [] c h = absurd (h refl)
-  treats_in-with_choice (cs ∷ []) c h = let e = treats-push cs c in omega (arith, e)
-  treats_in-with_choice (cs ∷ ds ∷ runs) c h = let e = treats_in-with_choice (ds ∷ runs) c (λ e. no_nil e) in omega (arith, e)
+  pub treatment_count_in-with_choice : (runs : List (List C)) (c : C) → runs ≢ [] → treatment_count_in is_treatment (with_choice runs c) ≡ treatment_count_in is_treatment runs + cost is_treatment c
+  unfolding treatment_count_in with_choice
+  treatment_count_in-with_choice [] c h = absurd (h refl)
+  treatment_count_in-with_choice (cs ∷ []) c h = let e = treatment_count-push cs c in omega (arith, e)
+  treatment_count_in-with_choice (cs ∷ ds ∷ runs) c h = let e = treatment_count_in-with_choice (ds ∷ runs) c (λ e. no_nil e) in omega (arith, e)
 
-  pub treats_in-start : (runs : List (List C)) → treats_in is_treatment (runs ++ [] ∷ []) ≡ treats_in is_treatment runs
-  unfolding treats_in treats
-  treats_in-start [] = omega arith
-  treats_in-start (cs ∷ runs) = ap (λ n. treats is_treatment cs + n) (treats_in-start runs)
+  pub treatment_count_in-start : (runs : List (List C)) → treatment_count_in is_treatment (runs ++ [] ∷ []) ≡ treatment_count_in is_treatment runs
+  unfolding treatment_count_in treatment_count
+  treatment_count_in-start [] = omega arith
+  treatment_count_in-start (cs ∷ runs) = ap (λ n. treatment_count is_treatment cs + n) (treatment_count_in-start runs)

@@ -13,14 +13,15 @@ use Rattle.std.specs.declared.option.Option.TheVariants.{None, Some}
 use Rattle.std.specs.declared.result.Result.{Result}
 use Rattle.std.specs.declared.result.Result.TheVariants.{Ok, Err}
 use Rattle.std.proofs.lemmas.Bool.{and_parts, and_from, not-true}
+use Rattle.std.proofs.lemmas.Option.{same_Some}
 use Rattle.ore_algebra.specs.Limits.{Cause, Overflow, Degree}
-use Rattle.ore_course.specs.Choices.{Refusal, Runner, treats_in, Unlawful, Stopped}
+use Rattle.ore_course.specs.Choices.{Refusal, Runner, treatment_count_in, Unlawful, Stopped}
 use Rattle.ore_course.specs.Course.{Course, Done, Stops, Runs}
 use Rattle.ore_course.specs.Leading.{run, LeadsTo, IsIn}
 use Rattle.ore_course.specs.Report.{Reported, StopLine, Report, IsHonestAt, IsHonest, ByStop, ByBudget, AtForced, AtChoice, AtBudget}
-use Rattle.ore_course.specs.Failing.{OfChoice, Place, is_cause, is_budget, follow, is_over, stops_so, is_stopped, stop_passes, failing, first_failing, OfRun}
+use Rattle.ore_course.specs.Failing.{OfChoice, ReportPlace, is_cause, is_budget, follow, is_over, stops_so, is_stopped, stop_passes, failing, first_failing, OfRun}
 use Rattle.ore_course.specs.FirstFailing.{AreFollowed}
-use Rattle.ore_course.proofs.Basics.{result_cases, bool_cases, true_false, same_some, no_some}
+use Rattle.ore_course.proofs.Basics.{result_cases, bool_cases, true_false, no_some}
 use Rattle.ore_algebra.proofs.ResultLaws.{same_ok, no_ok}
 
 -- ---- tests
@@ -77,18 +78,18 @@ module _ {S C : Type 0} (R : Runner S C) where
     where
       by : (r : Result S Refusal) → ◌≡◌ {A = Result S Refusal} (elim r [ Ok next ↦ run R next cs | Err refusal ↦ Err refusal ]) (Ok last)
           → ((next : S) → run R next cs ≡ Ok last → follow R k (suc n) next cs ≡ Ok last)
-          → ◌≡◌ {A = Result S (Place C)} (elim r [ Ok next ↦ follow R k (suc n) next cs | Err refusal ↦ Err (OfChoice k n c) ]) (Ok last)
+          → ◌≡◌ {A = Result S (ReportPlace C)} (elim r [ Ok next ↦ follow R k (suc n) next cs | Err refusal ↦ Err (OfChoice k n c) ]) (Ok last)
       by (Ok next) h more = more next h
       by (Err refusal) h more = absurd (no_ok h)
 
-  pub follow_err : (k n : ℕ) (st : S) (cs : List C) (refusal : Refusal) → run R st cs ≡ Err refusal → (f : Place C) × (follow R k n st cs ≡ Err f)
+  pub follow_err : (k n : ℕ) (st : S) (cs : List C) (refusal : Refusal) → run R st cs ≡ Err refusal → (f : ReportPlace C) × (follow R k n st cs ≡ Err f)
   unfolding run follow
   follow_err k n st [] refusal e = absurd (no_ok (sym e))
   follow_err k n st (c ∷ cs) refusal e = by (R.step st c) e (λ next h. follow_err k (suc n) next cs refusal h)
     where
       by : (r : Result S Refusal) → ◌≡◌ {A = Result S Refusal} (elim r [ Ok next ↦ run R next cs | Err other ↦ Err other ]) (Err refusal)
-          → ((next : S) → run R next cs ≡ Err refusal → (f : Place C) × (follow R k (suc n) next cs ≡ Err f))
-          → (f : Place C) × (◌≡◌ {A = Result S (Place C)} (elim r [ Ok next ↦ follow R k (suc n) next cs | Err other ↦ Err (OfChoice k n c) ]) (Err f))
+          → ((next : S) → run R next cs ≡ Err refusal → (f : ReportPlace C) × (follow R k (suc n) next cs ≡ Err f))
+          → (f : ReportPlace C) × (◌≡◌ {A = Result S (ReportPlace C)} (elim r [ Ok next ↦ follow R k (suc n) next cs | Err other ↦ Err (OfChoice k n c) ]) (Err f))
       by (Ok next) h more = more next h
       by (Err other) h more = (OfChoice k n c, refl)
 
@@ -106,7 +107,7 @@ module _ {S C : Type 0} (R : Runner S C) where
     unfolding failing
     failing_on report k last first next cs runs st over led = rw (over, failing, follow_ok k 0 first cs st led, failing) refl
 
-    pub failing_at : (report : Report C) (k : ℕ) (last : Option S) (first : S) (next : S → Course S X) (cs : List C) (runs : List (List C)) (f : Place C)
+    pub failing_at : (report : Report C) (k : ℕ) (last : Option S) (first : S) (next : S → Course S X) (cs : List C) (runs : List (List C)) (f : ReportPlace C)
         → is_over R last ≡ true → follow R k 0 first cs ≡ Err f → failing R report k last (Runs first next) (cs ∷ runs) ≡ Some f
     unfolding failing
     failing_at report k last first next cs runs f over led = rw (over, failing, led, failing) refl
@@ -124,7 +125,7 @@ module _ {S C : Type 0} (R : Runner S C) where
     Passes cause treated stop last rest = stop_passes R cause treated last rest stop ≡ true
 
     fails_not : (report : Report C) (k : ℕ) (last : Option S) (rest : Course S X) (runs : List (List C))
-        → failing R report k last rest runs ≡ None → AreFollowed R (Passes report.cause (treats_in R.is_treatment report.runs) report.stop) last rest runs
+        → failing R report k last rest runs ≡ None → AreFollowed R (Passes report.cause (treatment_count_in R.is_treatment report.runs) report.stop) last rest runs
     unfolding failing AreFollowed
     fails_not report k last rest [] e = cond_none _ _ e
     fails_not report k last (Done x) (cs ∷ runs) e = absurd (no_some e)
@@ -132,14 +133,14 @@ module _ {S C : Type 0} (R : Runner S C) where
     fails_not report k last (Runs first next) (cs ∷ runs) e = by (bool_cases (is_over R last)) (result_cases (run R first cs)) (λ st. fails_not report (suc k) (Some st) (next st) runs)
       where
         by : (is_over R last ≡ true) ⊎ (is_over R last ≡ false) → ((st : S) × (run R first cs ≡ Ok st)) ⊎ ((c : Refusal) × (run R first cs ≡ Err c))
-            → ((st : S) → failing R report (suc k) (Some st) (next st) runs ≡ None → AreFollowed R (Passes report.cause (treats_in R.is_treatment report.runs) report.stop) (Some st) (next st) runs)
-            → (is_over R last ≡ true) × (st : S) × (run R first cs ≡ Ok st) × AreFollowed R (Passes report.cause (treats_in R.is_treatment report.runs) report.stop) (Some st) (next st) runs
+            → ((st : S) → failing R report (suc k) (Some st) (next st) runs ≡ None → AreFollowed R (Passes report.cause (treatment_count_in R.is_treatment report.runs) report.stop) (Some st) (next st) runs)
+            → (is_over R last ≡ true) × (st : S) × (run R first cs ≡ Ok st) × AreFollowed R (Passes report.cause (treatment_count_in R.is_treatment report.runs) report.stop) (Some st) (next st) runs
         by (inl over) (inl (st, led)) more = (over, st, led, more st (sym (failing_on report k last first next cs runs st over led) ∙ e))
         by (inl over) (inr (c, led)) more = let f = follow_err k 0 first cs c led in absurd (no_some (sym (failing_at report k last first next cs runs f.0 over f.1) ∙ e))
         by (inr over) r more = absurd (no_some (sym (failing_run report k last (Runs first next) cs runs over) ∙ e))
 
     not_fails : (report : Report C) (k : ℕ) (last : Option S) (rest : Course S X) (runs : List (List C))
-        → AreFollowed R (Passes report.cause (treats_in R.is_treatment report.runs) report.stop) last rest runs → failing R report k last rest runs ≡ None
+        → AreFollowed R (Passes report.cause (treatment_count_in R.is_treatment report.runs) report.stop) last rest runs → failing R report k last rest runs ≡ None
     unfolding failing AreFollowed
     not_fails report k last rest [] e = rw e refl
     not_fails report k last (Done x) (cs ∷ runs) e = absurd e
@@ -188,7 +189,7 @@ module _ {S C : Type 0} (R : Runner S C) where
       unfolding AreFollowed IsIn
       ends_in last (Done x) cs runs e = absurd e
       ends_in last (Stops c) cs runs e = absurd e
-      ends_in last (Runs first next) cs [] (over, st, led, more) = let h = in_state (Some st) (next st) more in (h.0, led ∙ ap Ok (same_some _ _ h.1), h.2)
+      ends_in last (Runs first next) cs [] (over, st, led, more) = let h = in_state (Some st) (next st) more in (h.0, led ∙ ap Ok (same_Some _ _ h.1), h.2)
       ends_in last (Runs first next) cs (ds ∷ runs) (over, st, led, more) =
           let h = ends_in (Some st) (next st) ds runs more in (h.0, (st, led, over_of Q (Some st) (next st) ds runs more, h.1), h.2)
 
@@ -225,24 +226,24 @@ module _ {S C : Type 0} (R : Runner S C) where
 
     -- ---- the law
 
-    stop_honest : (course : Course S X) (runs : List (List C)) (cause : Reported) (stop : StopLine C) → AreFollowed R (Passes cause (treats_in R.is_treatment runs) stop) None course runs → IsHonestAt R course runs cause stop
+    stop_honest : (course : Course S X) (runs : List (List C)) (cause : Reported) (stop : StopLine C) → AreFollowed R (Passes cause (treatment_count_in R.is_treatment runs) stop) None course runs → IsHonestAt R course runs cause stop
     unfolding IsHonestAt
-    stop_honest course runs cause AtForced e = forced_stops cause (treats_in R.is_treatment runs) None course runs e
+    stop_honest course runs cause AtForced e = forced_stops cause (treatment_count_in R.is_treatment runs) None course runs e
     stop_honest course runs cause (AtChoice choice) e =
-        let h = none_ends (Passes cause (treats_in R.is_treatment runs) (AtChoice choice)) (ChoiceStops cause choice) (choice_state cause (treats_in R.is_treatment runs) choice) (choice_passes cause (treats_in R.is_treatment runs) choice) course runs e in
+        let h = none_ends (Passes cause (treatment_count_in R.is_treatment runs) (AtChoice choice)) (ChoiceStops cause choice) (choice_state cause (treatment_count_in R.is_treatment runs) choice) (choice_passes cause (treatment_count_in R.is_treatment runs) choice) course runs e in
         let s = stops_so_true cause _ h.2 in (s.0, s.1, h.0, h.1, s.2)
     stop_honest course runs cause AtBudget e =
-        let h = none_ends (Passes cause (treats_in R.is_treatment runs) AtBudget) (IsLeft cause (treats_in R.is_treatment runs)) (budget_state cause (treats_in R.is_treatment runs)) (budget_passes cause (treats_in R.is_treatment runs)) course runs e in
-        let s = and_parts _ _ h.2 in (is_budget_true cause (treats_in R.is_treatment runs) s.1, h.0, h.1, not-true _ s.0)
+        let h = none_ends (Passes cause (treatment_count_in R.is_treatment runs) AtBudget) (IsLeft cause (treatment_count_in R.is_treatment runs)) (budget_state cause (treatment_count_in R.is_treatment runs)) (budget_passes cause (treatment_count_in R.is_treatment runs)) course runs e in
+        let s = and_parts _ _ h.2 in (is_budget_true cause (treatment_count_in R.is_treatment runs) s.1, h.0, h.1, not-true _ s.0)
 
-    honest_stop : (course : Course S X) (runs : List (List C)) (cause : Reported) (stop : StopLine C) → IsHonestAt R course runs cause stop → AreFollowed R (Passes cause (treats_in R.is_treatment runs) stop) None course runs
+    honest_stop : (course : Course S X) (runs : List (List C)) (cause : Reported) (stop : StopLine C) → IsHonestAt R course runs cause stop → AreFollowed R (Passes cause (treatment_count_in R.is_treatment runs) stop) None course runs
     unfolding IsHonestAt
-    honest_stop course runs cause AtForced (c, e, h) = forced_ends cause (treats_in R.is_treatment runs) None course runs c refl e h
+    honest_stop course runs cause AtForced (c, e, h) = forced_ends cause (treatment_count_in R.is_treatment runs) None course runs c refl e h
     honest_stop course runs cause (AtChoice choice) (c, e, st, h, s) =
-        in_ends (Passes cause (treats_in R.is_treatment runs) (AtChoice choice)) (ChoiceStops cause choice) (choice_state cause (treats_in R.is_treatment runs) choice) (choice_passes cause (treats_in R.is_treatment runs) choice) None course runs st refl h (so_stops cause _ c e s)
+        in_ends (Passes cause (treatment_count_in R.is_treatment runs) (AtChoice choice)) (ChoiceStops cause choice) (choice_state cause (treatment_count_in R.is_treatment runs) choice) (choice_passes cause (treatment_count_in R.is_treatment runs) choice) None course runs st refl h (so_stops cause _ c e s)
     honest_stop course runs cause AtBudget (e, st, h, s) =
-        in_ends (Passes cause (treats_in R.is_treatment runs) AtBudget) (IsLeft cause (treats_in R.is_treatment runs)) (budget_state cause (treats_in R.is_treatment runs)) (budget_passes cause (treats_in R.is_treatment runs)) None course runs st refl h
-        (and_from _ _ (rw s refl) (budget_true cause (treats_in R.is_treatment runs) e))
+        in_ends (Passes cause (treatment_count_in R.is_treatment runs) AtBudget) (IsLeft cause (treatment_count_in R.is_treatment runs)) (budget_state cause (treatment_count_in R.is_treatment runs)) (budget_passes cause (treatment_count_in R.is_treatment runs)) None course runs st refl h
+        (and_from _ _ (rw s refl) (budget_true cause (treatment_count_in R.is_treatment runs) e))
 
     pub honest_exactly : (course : Course S X) (report : Report C) → (first_failing R course report ≡ None) ↔ IsHonest R course report
     honest_exactly course report = (

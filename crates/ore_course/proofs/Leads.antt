@@ -12,7 +12,7 @@ use Rattle.std.specs.declared.result.Result.TheVariants.{Ok, Err}
 use Rattle.ore_algebra.specs.Limits.{Cause}
 use Rattle.ore_course.specs.Choices.{Runner}
 use Rattle.ore_course.specs.Course.{Course, ◌>>=◌, forced, run_from, Done, Stops, Runs}
-use Rattle.ore_course.specs.Leading.{Rule, run, IsComplete, LeadsTo, IsIn, AreAllowedIn}
+use Rattle.ore_course.specs.Leading.{Rule, run, IsCompleteState, LeadsTo, IsIn, AreAllowedIn}
 use Rattle.ore_course.proofs.Basics.{one_ok}
 
 pub bind_done : {S X : Type 0} (course : Course S X) → (course >>= Done) ≡ course
@@ -61,7 +61,7 @@ module _ {S C : Type 0} (R : Runner S C) where
   in_none (Runs first next) st h = h
 
   pub in_step : {X : Type 0} (first : S) (next : S → Course S X) (cs : List C) (runs : List (List C)) (last st : S)
-      → run R first cs ≡ Ok last → IsComplete R last → IsIn R (next last) runs st → IsIn R (Runs first next) (cs ∷ runs) st
+      → run R first cs ≡ Ok last → IsCompleteState R last → IsIn R (next last) runs st → IsIn R (Runs first next) (cs ∷ runs) st
   unfolding IsIn
   in_step first next cs [] last st led complete h = absurd (in_none (next last) st h)
   in_step first next cs (ds ∷ runs) last st led complete h = (last, led, complete, h)
@@ -103,7 +103,7 @@ module _ {S C : Type 0} (R : Runner S C) where
   worked_split (Err c) f (cs ∷ runs) y h = absurd h
 
   pub ran_split : {Y : Type 0} (starts : Result S Cause) (f : S → Course S Y) (runs : List (List C)) (y : Y) → LeadsTo R (run_from starts >>= f) runs (Done y)
-      → (first : S) × (cs : List C) × (after : List (List C)) × (last : S) × (starts ≡ Ok first) × (runs ≡ cs ∷ after) × (run R first cs ≡ Ok last) × IsComplete R last × LeadsTo R (f last) after (Done y)
+      → (first : S) × (cs : List C) × (after : List (List C)) × (last : S) × (starts ≡ Ok first) × (runs ≡ cs ∷ after) × (run R first cs ≡ Ok last) × IsCompleteState R last × LeadsTo R (f last) after (Done y)
   unfolding LeadsTo ◌>>=◌ forced run_from
   ran_split (Ok first) f [] y h = absurd (no_run h)
   ran_split (Ok first) f (cs ∷ runs) y (last, led, complete, more) = (first, cs, runs, last, refl, refl, led, complete, more)

@@ -11,7 +11,7 @@ use Rattle.std.specs.declared.result.Result.TheVariants.{Ok, Err}
 use Rattle.ore_algebra.specs.Limits.{Cause}
 use Rattle.ore_course.specs.Choices.{Refusal, Stopped, Runner, with_choice}
 use Rattle.ore_course.specs.Course.{◌>>=◌, forced, run_from, Done, Stops}
-use Rattle.ore_course.specs.Leading.{Rule, run, IsComplete, AreAllowed, LeadsTo, IsIn, AreAllowedIn}
+use Rattle.ore_course.specs.Leading.{Rule, run, IsCompleteState, AreAllowed, LeadsTo, IsIn, AreAllowedIn}
 use Rattle.ore_course.specs.Following.{InChoice, Passed, Follows, IsLeftIn, IsStopChoice, IsHaltedIn}
 use Rattle.ore_algebra.proofs.ResultLaws.{same_ok, no_ok}
 use Rattle.ore_course.proofs.Leads.{run_step}
@@ -50,7 +50,7 @@ module _ {S C : Type 0} (R : Runner S C) (rule : Rule S C) where
       unfolding AreAllowedIn run_from forced ◌>>=◌
       allowed_in_run h = subst (λ r. AreAllowedIn R rule (run_from r) (cs ∷ [])) (sym begun) (h, λ last led. tt)
 
-      pub one_run_answered : (before given : List (List C)) (last : S) → given ≡ before ++ cs ∷ [] → run R first cs ≡ Ok last → IsComplete R last → AreAllowed R rule first cs
+      pub one_run_answered : (before given : List (List C)) (last : S) → given ≡ before ++ cs ∷ [] → run R first cs ≡ Ok last → IsCompleteState R last → AreAllowed R rule first cs
           → Follows R rule (run_from starts) before given (Done last)
       unfolding LeadsTo run_from forced ◌>>=◌
       one_run_answered before given last more led complete allowed = record {

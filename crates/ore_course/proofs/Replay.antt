@@ -14,12 +14,13 @@ use Rattle.std.specs.declared.option.Option.TheVariants.{None, Some}
 use Rattle.std.specs.declared.result.Result.{Result}
 use Rattle.std.specs.declared.result.Result.TheVariants.{Ok, Err}
 use Rattle.std.proofs.lemmas.Option.{slice_get_past}
+use Rattle.ore_algebra.specs.Lists.{BeginsWith}
 use Rattle.ore_algebra.specs.Limits.{Cause}
-use Rattle.ore_course.specs.Choices.{IsClosed, Refusal, Runner, treats_in, present, with_choice, without_last, BeginsWith, next_kept, Unlawful, Stopped}
+use Rattle.ore_course.specs.Choices.{IsClosed, Refusal, Runner, treatment_count_in, present, with_choice, without_last, next_kept, Unlawful, Stopped}
 use Rattle.ore_course.specs.Course.{Course, forced, Done, Stops, Runs}
 use Rattle.ore_course.specs.Leading.{Rule, run, LeadsTo, IsIn}
 use Rattle.ore_course.specs.Report.{Reported, StopLine, Report, AtForced, AtChoice, AtBudget}
-use Rattle.ore_course.specs.Failing.{Place, is_cause, follow, is_over, stops_so, is_stopped, stop_passes, failing, first_failing, OfRun, OfChoice, OfStop}
+use Rattle.ore_course.specs.Failing.{ReportPlace, is_cause, follow, is_over, stops_so, is_stopped, stop_passes, failing, first_failing, OfRun, OfChoice, OfStop}
 use Rattle.ore_course.specs.Following.{Halt, Follows, IsHaltedIn, InForced, InChoice, Passed, Spent, NoLawful, Memory}
 use Rattle.ore_course.specs.Replaying.{End, kept_with, kept_of, stop_decided, AreFronts, decided, replayed}
 use Rattle.ore_course.proofs.Basics.{no_nil, same_cons, true_false}
@@ -184,14 +185,14 @@ module _ {S C : Type 0} (R : Runner S C) where
   unfolding run follow
   follow_at k n st [] c tail last refusal e s = by (R.step st c) (ap (λ x. R.step x c) (same_ok st last e) ∙ s)
     where
-      by : (r : Result S Refusal) → r ≡ Err refusal → ◌≡◌ {A = Result S (Place C)} (elim r [ Ok next ↦ follow R k (suc n) next tail | Err other ↦ Err (OfChoice k n c) ]) (Err (OfChoice k (n + 0) c))
+      by : (r : Result S Refusal) → r ≡ Err refusal → ◌≡◌ {A = Result S (ReportPlace C)} (elim r [ Ok next ↦ follow R k (suc n) next tail | Err other ↦ Err (OfChoice k n c) ]) (Err (OfChoice k (n + 0) c))
       by (Ok next) g = absurd (no_ok (sym g))
       by (Err other) g = ap (λ m. Err (OfChoice k m c)) (omega arith)
   follow_at k n st (d ∷ gs) c tail last refusal e s = by (R.step st d) e (λ next g. follow_at k (suc n) next gs c tail last refusal g s)
     where
       by : (r : Result S Refusal) → ◌≡◌ {A = Result S Refusal} (elim r [ Ok next ↦ run R next gs | Err other ↦ Err other ]) (Ok last)
           → ((next : S) → run R next gs ≡ Ok last → follow R k (suc n) next (gs ++ c ∷ tail) ≡ Err (OfChoice k (suc n + length gs) c))
-          → ◌≡◌ {A = Result S (Place C)} (elim r [ Ok next ↦ follow R k (suc n) next (gs ++ c ∷ tail) | Err other ↦ Err (OfChoice k n d) ]) (Err (OfChoice k (n + suc (length gs)) c))
+          → ◌≡◌ {A = Result S (ReportPlace C)} (elim r [ Ok next ↦ follow R k (suc n) next (gs ++ c ∷ tail) | Err other ↦ Err (OfChoice k n d) ]) (Err (OfChoice k (n + suc (length gs)) c))
       by (Ok next) g more = more next g ∙ ap (λ m. Err (OfChoice k m c)) (omega arith)
       by (Err other) g more = absurd (no_ok g)
 
@@ -247,7 +248,7 @@ module _ {S C : Type 0} (R : Runner S C) where
 
   module _ (closed : IsClosed R) (report : Report C) (end : End C) where
     abbrev passes_at : End C → StopLine C → Bool
-    passes_at e stop = stop_decided report.cause (treats_in R.is_treatment report.runs) stop e
+    passes_at e stop = stop_decided report.cause (treatment_count_in R.is_treatment report.runs) stop e
 
     decided_at : (k : ℕ) (gs : List C) (passed : List (List C)) (cs : List C) (runs : List (List C)) (c : C)
         → slice_get cs (length gs) ≡ Some c → decided R report end k (gs ∷ passed) (cs ∷ runs) ≡ Some (OfChoice k (length gs) c)
@@ -265,7 +266,7 @@ module _ {S C : Type 0} (R : Runner S C) where
     decided_stop k (gs ∷ passed) h = refl
 
     module _ {X : Type 0} where
-      failing_end : (k : ℕ) (last : Option S) (rest : Course S X) (b : Bool) → stop_passes R report.cause (treats_in R.is_treatment report.runs) last rest report.stop ≡ b
+      failing_end : (k : ℕ) (last : Option S) (rest : Course S X) (b : Bool) → stop_passes R report.cause (treatment_count_in R.is_treatment report.runs) last rest report.stop ≡ b
           → failing R report k last rest [] ≡ cond b None (Some OfStop)
       unfolding failing
       failing_end k last rest b e = ap (λ b. cond b None (Some OfStop)) e
@@ -274,7 +275,7 @@ module _ {S C : Type 0} (R : Runner S C) where
       none_over : (k : ℕ) (last : Option S) (first : S) (next : S → Course S X) (gs : List C) (passed : List (List C)) → is_over R last ≡ true
           → failing R report k last (Runs first next) [] ≡ decided R report end k (gs ∷ passed) []
       unfolding decided
-      none_over k last first next gs passed over = failing_end k last (Runs first next) false (not_before_run closed report.cause (treats_in R.is_treatment report.runs) last first next report.stop over)
+      none_over k last first next gs passed over = failing_end k last (Runs first next) false (not_before_run closed report.cause (treatment_count_in R.is_treatment report.runs) last first next report.stop over)
 
       -- a choice of the report is refused in the state to which the choices before it lead
       refused_here : (k : ℕ) (last : Option S) (first : S) (next : S → Course S X) (gs : List C) (passed : List (List C)) (cs : List C) (more : List (List C)) (c : C) (tail : List C) (st : S) (refusal : Refusal)
@@ -293,7 +294,7 @@ module _ {S C : Type 0} (R : Runner S C) where
           let mid = run_split first cs choice st (subst (λ ds. run R first ds ≡ Ok st) g led) in
           failing_on R report k last first next cs more mid.0 over mid.1
           ∙ (ap (λ rs. failing R report (suc k) (Some mid.0) (next mid.0) rs) m
-          ∙ (failing_end (suc k) (Some mid.0) (next mid.0) false (choice_done report.cause (treats_in R.is_treatment report.runs) choice mid.0 st (next mid.0) report.stop s mid.2)
+          ∙ (failing_end (suc k) (Some mid.0) (next mid.0) false (choice_done report.cause (treatment_count_in R.is_treatment report.runs) choice mid.0 st (next mid.0) report.stop s mid.2)
           ∙ (sym (decided_stop (suc k) passed ends)
           ∙ (ap (λ rs. decided R report end (suc k) passed rs) (sym m)
           ∙ sym (decided_on k gs passed cs more (subst (λ ds. slice_get cs (length ds) ≡ None) (sym g) (past_more cs choice)))))))
@@ -329,7 +330,7 @@ module _ {S C : Type 0} (R : Runner S C) where
       unfolding LeadsTo decided
       replay_over rest no_run forced no_choice budget k last course [] [] over e kept =
           ap (λ p. failing R report k last p []) e
-          ∙ failing_end k last rest (passes_at end report.stop) (only_forced closed report.cause (treats_in R.is_treatment report.runs) last rest report.stop end over forced no_choice budget)
+          ∙ failing_end k last rest (passes_at end report.stop) (only_forced closed report.cause (treatment_count_in R.is_treatment report.runs) last rest report.stop end over forced no_choice budget)
       replay_over rest no_run forced no_choice budget k last course [] (cs ∷ runs) over e kept = ap (λ p. failing R report k last p (cs ∷ runs)) e ∙ no_run k last cs runs
       replay_over rest no_run forced no_choice budget k last (Done x) (gs ∷ given) runs over e kept = absurd e
       replay_over rest no_run forced no_choice budget k last (Stops c) (gs ∷ given) runs over e kept = absurd e
@@ -345,8 +346,8 @@ module _ {S C : Type 0} (R : Runner S C) where
         → failing R report k (Some st) rest [] ≡ decided R report (Some (Passed c (InChoice choice))) k [] []
     unfolding decided
     at_choice c choice k st rest other t s =
-        failing_end closed report (Some (Passed c (InChoice choice))) k (Some st) rest (is_cause report.cause c) (choice_stops report.cause (treats_in R.is_treatment report.runs) other st rest report.stop c t s)
-        ∙ ap (λ stop. cond (stop_decided report.cause (treats_in R.is_treatment report.runs) stop (Some (Passed c (InChoice choice)))) None (Some OfStop)) (sym t)
+        failing_end closed report (Some (Passed c (InChoice choice))) k (Some st) rest (is_cause report.cause c) (choice_stops report.cause (treatment_count_in R.is_treatment report.runs) other st rest report.stop c t s)
+        ∙ ap (λ stop. cond (stop_decided report.cause (treatment_count_in R.is_treatment report.runs) stop (Some (Passed c (InChoice choice)))) None (Some OfStop)) (sym t)
 
     replay_choice : (c : Cause) (choice : C) (st : S) → R.step st choice ≡ Err (Stopped c) → (k : ℕ) (last : Option S) (course : Course S X) (passed runs : List (List C))
         → is_over R last ≡ true → IsIn R course passed st → AreFronts (kept_with runs report.stop) (with_choice passed choice)
@@ -387,7 +388,7 @@ module _ {S C : Type 0} (R : Runner S C) where
         → failing R report k (Some st) rest more ≡ decided R report (Some NoLawful) k [] more
     unfolding decided
     left_end k gs st rest [] left h =
-        failing_end closed report (Some NoLawful) k (Some st) rest (stop_decided report.cause (treats_in R.is_treatment report.runs) report.stop (Some NoLawful)) (left_stop report.cause (treats_in R.is_treatment report.runs) gs st rest report.stop left h)
+        failing_end closed report (Some NoLawful) k (Some st) rest (stop_decided report.cause (treatment_count_in R.is_treatment report.runs) report.stop (Some NoLawful)) (left_stop report.cause (treatment_count_in R.is_treatment report.runs) gs st rest report.stop left h)
     left_end k gs st rest (cs ∷ more) left h = failing_run R report k (Some st) rest cs more left
 
     replay_left : (st : S) → R.is_complete st ≡ false → (k : ℕ) (last : Option S) (course : Course S X) (given runs : List (List C)) → is_over R last ≡ true → IsIn R course given st
@@ -408,7 +409,7 @@ module _ {S C : Type 0} (R : Runner S C) where
         by kept_is (inr (inl e), fr) = all_given closed report (Some NoLawful) k last first next gs [] cs more st over h e
             (left_end (suc k) gs st (next st) more left (subst (λ ds. IfSome (next_of (kept_with (ds ∷ more) report.stop) (gs ∷ [])) (λ c. R.step st c ≡ Err Unlawful)) e unlawful))
         by kept_is (inr (inr (m, choice, s, g)), fr) = treated_too closed report (Some NoLawful) k last first next gs [] cs more st choice over h m s g
-            (λ p. ap (λ stop. stop_decided report.cause (treats_in R.is_treatment report.runs) stop (Some NoLawful)) s)
+            (λ p. ap (λ stop. stop_decided report.cause (treatment_count_in R.is_treatment report.runs) stop (Some NoLawful)) s)
     replay_left st left k last (Runs first next) (gs ∷ hs ∷ given) [] over (mid, led, complete, more_in) kept unlawful = none_over closed report (Some NoLawful) k last first next gs (hs ∷ given) over
     replay_left st left k last (Runs first next) (gs ∷ hs ∷ given) (cs ∷ more) over (mid, led, complete, more_in) kept unlawful =
         let keeps = kept_cons cs more report.stop in

@@ -11,9 +11,9 @@ use Rattle.std.proofs.Common.{◌≡◌, ◌⊎◌, ℕ, ◌+◌, ◌≤◌, tru
 use Rattle.std.specs.declared.result.Result.{Result}
 use Rattle.std.specs.declared.result.Result.TheVariants.{Ok, Err}
 use Rattle.ore_algebra.specs.Limits.{Cause}
-use Rattle.ore_course.specs.Choices.{IsClosed, Refusal, Runner, cost, treats, treats_in, Unlawful, Stopped}
+use Rattle.ore_course.specs.Choices.{IsClosed, Refusal, Runner, cost, treatment_count, treatment_count_in, Unlawful, Stopped}
 use Rattle.ore_course.specs.Course.{Course, Done, Stops, Runs}
-use Rattle.ore_course.specs.Leading.{Rule, run, IsComplete, AreAllowed, LeadsTo, IsIn, IsFormedBy, AreAllowedIn}
+use Rattle.ore_course.specs.Leading.{Rule, run, IsCompleteState, AreAllowed, LeadsTo, IsIn, IsFormedBy, AreAllowedIn}
 use Rattle.ore_course.specs.Report.{Reported, StopLine, Report, IsHonestAt, IsStopAllowed, IsHonestBy, IsWithinBy, IsWithin, ByStop, ByBudget, AtForced, AtChoice, AtBudget}
 use Rattle.ore_course.specs.Bounded.{IsStrict}
 use Rattle.ore_course.proofs.Basics.{one_ok, ok_err, true_false}
@@ -57,12 +57,12 @@ module _ {S C : Type 0} (R : Runner S C) (rule : Rule S C) where
     path_bounded G h st used [] g = h st used g
     path_bounded G h st used (c ∷ cs) (a, next, e, more) = let k = path_bounded G h next (used + cost R.is_treatment c) cs more in omega (arith, k)
 
-    path_of : (G : S → ℕ → Type 0) (st : S) (used : ℕ) (cs : List C) (last : S) → AreAllowed R rule st cs → run R st cs ≡ Ok last → G last (used + treats R.is_treatment cs) → Path G st used cs
-    unfolding Path AreAllowed run treats
+    path_of : (G : S → ℕ → Type 0) (st : S) (used : ℕ) (cs : List C) (last : S) → AreAllowed R rule st cs → run R st cs ≡ Ok last → G last (used + treatment_count R.is_treatment cs) → Path G st used cs
+    unfolding Path AreAllowed run treatment_count
     path_of G st used [] last a e g = let same : used + 0 ≡ used = omega arith in subst (λ n. G st n) same (subst (λ s. G s (used + 0)) (sym (same_ok st last e)) g)
     path_of G st used (c ∷ cs) last a e g = by (R.step st c) refl e
         (λ next h more. path_of G next (used + cost R.is_treatment c) cs last more h
-        (let same : used + treats R.is_treatment (c ∷ cs) ≡ used + cost R.is_treatment c + treats R.is_treatment cs = omega arith in subst (λ n. G last n) same g))
+        (let same : used + treatment_count R.is_treatment (c ∷ cs) ≡ used + cost R.is_treatment c + treatment_count R.is_treatment cs = omega arith in subst (λ n. G last n) same g))
       where
         by : (r : Result S Refusal) → R.step st c ≡ r → ◌≡◌ {A = Result S Refusal} (elim r [ Ok next ↦ run R next cs | Err refusal ↦ Err refusal ]) (Ok last)
             → ((next : S) → run R next cs ≡ Ok last → AreAllowed R rule next cs → Path G next (used + cost R.is_treatment c) cs)
@@ -96,7 +96,7 @@ module _ {S C : Type 0} (R : Runner S C) (rule : Rule S C) where
       AtBudgetHere st used o = (o ≡ Stop (ByBudget budget) AtBudget) × (R.is_complete st ≡ false) × (rule.allows_spent st ≡ true) × (used ≡ budget)
 
       abbrev EndsRun : List (List C) → Outcome C X → (S → ℕ → Type 0) → S → ℕ → Type 0
-      EndsRun runs o V st used = ((runs ≡ []) × (AtChoiceHere st used o ⊎ AtBudgetHere st used o)) ⊎ (IsComplete R st × V st used)
+      EndsRun runs o V st used = ((runs ≡ []) × (AtChoiceHere st used o ⊎ AtBudgetHere st used o)) ⊎ (IsCompleteState R st × V st used)
 
       Valid : List (List C) → Outcome C X → Course S X → ℕ → Type 0
       Valid [] o (Done x) used = (o ≡ Answer x) × (used ≤ budget)
@@ -108,7 +108,7 @@ module _ {S C : Type 0} (R : Runner S C) (rule : Rule S C) where
 
       ends_bounded : (runs : List (List C)) (o : Outcome C X) (V : S → ℕ → Type 0) → ((st : S) (used : ℕ) → V st used → used ≤ budget) → (st : S) (used : ℕ) → EndsRun runs o V st used → used ≤ budget
       unfolding AtChoiceHere AtBudgetHere
-      ends_bounded runs o V h st used (inl (e, inl (c, choice, f, s, a, paid))) = omega (arith, paid)
+      ends_bounded runs o V h st used (inl (e, inl (c, choice, f, s, a, within_budget))) = omega (arith, within_budget)
       ends_bounded runs o V h st used (inl (e, inr (f, left, a, spent))) = omega (arith, spent)
       ends_bounded runs o V h st used (inr (complete, v)) = h st used v
 
@@ -124,7 +124,7 @@ module _ {S C : Type 0} (R : Runner S C) (rule : Rule S C) where
 
       blocks : (runs : List (List C)) (o : Outcome C X) (V : S → ℕ → Type 0) (H : S → ℕ → Type 0) → ((st : S) (used : ℕ) → H st used → used ≤ budget) → Blocks (EndsRun runs o V) H
       unfolding AtChoiceHere AtBudgetHere
-      blocks runs o V H h st used c next cs (inl (e, inl (cause, choice, f, s, a, paid))) b g more =
+      blocks runs o V H h st used c next cs (inl (e, inl (cause, choice, f, s, a, within_budget))) b g more =
           ok_err (R.step st c) next (Stopped cause) g (subst (λ x. R.step st x ≡ Err (Stopped cause)) (strict.one st choice c a b) s)
       blocks runs o V H h st used c next cs (inl (e, inr (f, left, a, spent))) b g more =
           let one = cost_treatment c (strict.treats_last st c a b) in
@@ -133,17 +133,17 @@ module _ {S C : Type 0} (R : Runner S C) (rule : Rule S C) where
 
       one_stop : (st : S) (used : ℕ) (o p : Outcome C X) → AtChoiceHere st used o ⊎ AtBudgetHere st used o → AtChoiceHere st used p ⊎ AtBudgetHere st used p → o ≡ p
       unfolding AtChoiceHere AtBudgetHere
-      one_stop st used o p (inl (c, choice, f, s, a, paid)) (inl (d, other, g, t, b, paid_too)) =
+      one_stop st used o p (inl (c, choice, f, s, a, within_budget)) (inl (d, other, g, t, b, within_budget_too)) =
           let same : other ≡ choice = strict.one st other choice b a in
           let cause : d ≡ c = same_stopped d c (same_err (Stopped d) (Stopped c) (sym (subst (λ u. R.step st u ≡ Err (Stopped d)) same t) ∙ s)) in
           f ∙ sym (g ∙ (ap (λ e. Stop (ByStop e) (AtChoice other)) cause ∙ ap (λ u. Stop (ByStop c) (AtChoice u)) same))
-      one_stop st used o p (inl (c, choice, f, s, a, paid)) (inr (g, left, b, spent)) = let one = cost_treatment choice (strict.treats_last st choice b a) in absurd (omega (arith, paid, spent, one))
-      one_stop st used o p (inr (g, left, b, spent)) (inl (c, choice, f, s, a, paid)) = let one = cost_treatment choice (strict.treats_last st choice b a) in absurd (omega (arith, paid, spent, one))
+      one_stop st used o p (inl (c, choice, f, s, a, within_budget)) (inr (g, left, b, spent)) = let one = cost_treatment choice (strict.treats_last st choice b a) in absurd (omega (arith, within_budget, spent, one))
+      one_stop st used o p (inr (g, left, b, spent)) (inl (c, choice, f, s, a, within_budget)) = let one = cost_treatment choice (strict.treats_last st choice b a) in absurd (omega (arith, within_budget, spent, one))
       one_stop st used o p (inr (f, left, a, spent)) (inr (g, left_too, b, spent_too)) = f ∙ sym g
 
       not_complete : (st : S) (used : ℕ) (o : Outcome C X) → AtChoiceHere st used o ⊎ AtBudgetHere st used o → R.is_complete st ≡ true → ⊥
       unfolding AtChoiceHere AtBudgetHere
-      not_complete st used o (inl (c, choice, f, s, a, paid)) complete = not_stopped (same_err Unlawful (Stopped c) (sym (closed st choice complete) ∙ s))
+      not_complete st used o (inl (c, choice, f, s, a, within_budget)) complete = not_stopped (same_err Unlawful (Stopped c) (sym (closed st choice complete) ∙ s))
       not_complete st used o (inr (f, left, a, spent)) complete = true_false (R.is_complete st) complete left
 
       one_end : (runs rs : List (List C)) (o p : Outcome C X) (V W : S → ℕ → Type 0) (st : S) (used : ℕ) → (V st used → W st used → (runs ≡ rs) × (o ≡ p))
@@ -186,47 +186,47 @@ module _ {S C : Type 0} (R : Runner S C) (rule : Rule S C) where
       -- ---- reports and answers go this way
 
       run_valid : (runs : List (List C)) (o : Outcome C X) (first : S) (next : S → Course S X) (used : ℕ) (cs : List C) (last : S) → AreAllowed R rule first cs → run R first cs ≡ Ok last
-          → EndsRun runs o (λ st n. Valid runs o (next st) n) last (used + treats R.is_treatment cs) → Valid (cs ∷ runs) o (Runs first next) used
+          → EndsRun runs o (λ st n. Valid runs o (next st) n) last (used + treatment_count R.is_treatment cs) → Valid (cs ∷ runs) o (Runs first next) used
       unfolding Valid
       run_valid runs o first next used cs last a led end = path_of (EndsRun runs o (λ st n. Valid runs o (next st) n)) first used cs last a led end
 
       lead_valid : (runs : List (List C)) (o : Outcome C X) (course rest : Course S X) (used : ℕ) → LeadsTo R course runs rest → AreAllowedIn R rule course runs
-          → Valid [] o rest (used + treats_in R.is_treatment runs) → Valid runs o course used
-      unfolding LeadsTo AreAllowedIn treats_in
+          → Valid [] o rest (used + treatment_count_in R.is_treatment runs) → Valid runs o course used
+      unfolding LeadsTo AreAllowedIn treatment_count_in
       lead_valid [] o course rest used e a v = let same : used + 0 ≡ used = omega arith in subst (λ n. Valid [] o course n) same (subst (λ p. Valid [] o p (used + 0)) (sym e) v)
       lead_valid (cs ∷ runs) o (Done x) rest used e a v = absurd e
       lead_valid (cs ∷ runs) o (Stops c) rest used e a v = absurd e
       lead_valid (cs ∷ runs) o (Runs first next) rest used (last, led, complete, more) a v =
-          run_valid runs o first next used cs last a.0 led (inr (complete, lead_valid runs o (next last) rest (used + treats R.is_treatment cs) more (a.1 last led) (shifted (λ n. Valid [] o rest n) used (treats R.is_treatment cs) (treats_in R.is_treatment runs) v)))
+          run_valid runs o first next used cs last a.0 led (inr (complete, lead_valid runs o (next last) rest (used + treatment_count R.is_treatment cs) more (a.1 last led) (shifted (λ n. Valid [] o rest n) used (treatment_count R.is_treatment cs) (treatment_count_in R.is_treatment runs) v)))
 
       in_valid : (runs : List (List C)) (o : Outcome C X) (course : Course S X) (st : S) (used : ℕ) → IsIn R course runs st → AreAllowedIn R rule course runs
-          → AtChoiceHere st (used + treats_in R.is_treatment runs) o ⊎ AtBudgetHere st (used + treats_in R.is_treatment runs) o → Valid runs o course used
-      unfolding IsIn AreAllowedIn treats_in
+          → AtChoiceHere st (used + treatment_count_in R.is_treatment runs) o ⊎ AtBudgetHere st (used + treatment_count_in R.is_treatment runs) o → Valid runs o course used
+      unfolding IsIn AreAllowedIn treatment_count_in
       in_valid runs o (Done x) st used h a s = absurd h
       in_valid runs o (Stops c) st used h a s = absurd h
       in_valid [] o (Runs first next) st used h a s = absurd h
       in_valid (cs ∷ []) o (Runs first next) st used h a s =
-          let same : used + (treats R.is_treatment cs + 0) ≡ used + treats R.is_treatment cs = omega arith in
+          let same : used + (treatment_count R.is_treatment cs + 0) ≡ used + treatment_count R.is_treatment cs = omega arith in
           run_valid [] o first next used cs st a.0 h (inl (refl, subst (λ n. AtChoiceHere st n o ⊎ AtBudgetHere st n o) same s))
       in_valid (cs ∷ ds ∷ runs) o (Runs first next) st used (last, led, complete, more) a s =
           run_valid (ds ∷ runs) o first next used cs last a.0 led
-          (inr (complete, in_valid (ds ∷ runs) o (next last) st (used + treats R.is_treatment cs) more (a.1 last led) (shifted (λ n. AtChoiceHere st n o ⊎ AtBudgetHere st n o) used (treats R.is_treatment cs) (treats_in R.is_treatment (ds ∷ runs)) s)))
+          (inr (complete, in_valid (ds ∷ runs) o (next last) st (used + treatment_count R.is_treatment cs) more (a.1 last led) (shifted (λ n. AtChoiceHere st n o ⊎ AtBudgetHere st n o) used (treatment_count R.is_treatment cs) (treatment_count_in R.is_treatment (ds ∷ runs)) s)))
 
-      formed_valid : (course : Course S X) (runs : List (List C)) (x : X) → IsFormedBy R course runs x → AreAllowedIn R rule course runs → treats_in R.is_treatment runs ≤ budget → Valid runs (Answer x) course 0
+      formed_valid : (course : Course S X) (runs : List (List C)) (x : X) → IsFormedBy R course runs x → AreAllowedIn R rule course runs → treatment_count_in R.is_treatment runs ≤ budget → Valid runs (Answer x) course 0
       unfolding Valid
-      formed_valid course runs x h a paid = lead_valid runs (Answer x) course (Done x) 0 h a (refl, omega (arith, paid))
+      formed_valid course runs x h a within_budget = lead_valid runs (Answer x) course (Done x) 0 h a (refl, omega (arith, within_budget))
 
       stop_valid : (course : Course S X) (runs : List (List C)) (cause : Reported) (stop : StopLine C) → IsHonestAt R course runs cause stop → AreAllowedIn R rule course runs → IsStopAllowed R rule course runs stop
           → IsWithinBy R budget (record { cause = cause; runs = runs; stop = stop }) cause → Valid runs (Stop cause stop) course 0
       unfolding Valid IsHonestAt IsStopAllowed AtChoiceHere AtBudgetHere
       stop_valid course runs cause AtForced (c, e, h) a s w =
-          let paid : treats_in R.is_treatment runs + 0 ≤ budget = subst (λ r. IsWithinBy R budget (record { cause = cause; runs = runs; stop = AtForced }) r) e w in
-          lead_valid runs (Stop cause AtForced) course (Stops c) 0 h a (ap (λ r. Stop r AtForced) e, omega (arith, paid))
+          let within_budget : treatment_count_in R.is_treatment runs + 0 ≤ budget = subst (λ r. IsWithinBy R budget (record { cause = cause; runs = runs; stop = AtForced }) r) e w in
+          lead_valid runs (Stop cause AtForced) course (Stops c) 0 h a (ap (λ r. Stop r AtForced) e, omega (arith, within_budget))
       stop_valid course runs cause (AtChoice choice) (c, e, st, h, t) a s w =
-          let paid : treats_in R.is_treatment runs + cost R.is_treatment choice ≤ budget = subst (λ r. IsWithinBy R budget (record { cause = cause; runs = runs; stop = AtChoice choice }) r) e w in
-          in_valid runs (Stop cause (AtChoice choice)) course st 0 h a (inl (c, choice, ap (λ r. Stop r (AtChoice choice)) e, t, s st h, omega (arith, paid)))
+          let within_budget : treatment_count_in R.is_treatment runs + cost R.is_treatment choice ≤ budget = subst (λ r. IsWithinBy R budget (record { cause = cause; runs = runs; stop = AtChoice choice }) r) e w in
+          in_valid runs (Stop cause (AtChoice choice)) course st 0 h a (inl (c, choice, ap (λ r. Stop r (AtChoice choice)) e, t, s st h, omega (arith, within_budget)))
       stop_valid course runs cause AtBudget (e, st, h, t) a s w =
-          let spent : treats_in R.is_treatment runs ≡ budget = subst (λ r. IsWithinBy R budget (record { cause = cause; runs = runs; stop = AtBudget }) r) e w in
+          let spent : treatment_count_in R.is_treatment runs ≡ budget = subst (λ r. IsWithinBy R budget (record { cause = cause; runs = runs; stop = AtBudget }) r) e w in
           in_valid runs (Stop cause AtBudget) course st 0 h a (inr (ap (λ r. Stop r AtBudget) (e ∙ ap ByBudget spent), t, s st h, omega (arith, spent)))
 
       honest_valid : (course : Course S X) (report : Report C) → IsHonestBy R rule course report → IsWithin R budget report → Valid report.runs (Stop report.cause report.stop) course 0
@@ -240,12 +240,12 @@ module _ {S C : Type 0} (R : Runner S C) (rule : Rule S C) where
           let n = same_stop {C = C} {X = X} r.cause s.cause r.stop s.stop m.1 in
           λ i. record { cause = n.0 i; runs = m.0 i; stop = n.1 i }
 
-      pub one_answer : (course : Course S X) (runs rs : List (List C)) (x y : X) → IsFormedBy R course runs x → AreAllowedIn R rule course runs → treats_in R.is_treatment runs ≤ budget
-          → IsFormedBy R course rs y → AreAllowedIn R rule course rs → treats_in R.is_treatment rs ≤ budget → (runs ≡ rs) × (x ≡ y)
-      one_answer course runs rs x y h a paid k b paid_too =
-          let m = one_outcome runs rs (Answer x) (Answer y) course 0 (formed_valid course runs x h a paid) (formed_valid course rs y k b paid_too) in (m.0, same_answer x y m.1)
+      pub one_answer : (course : Course S X) (runs rs : List (List C)) (x y : X) → IsFormedBy R course runs x → AreAllowedIn R rule course runs → treatment_count_in R.is_treatment runs ≤ budget
+          → IsFormedBy R course rs y → AreAllowedIn R rule course rs → treatment_count_in R.is_treatment rs ≤ budget → (runs ≡ rs) × (x ≡ y)
+      one_answer course runs rs x y h a within_budget k b within_budget_too =
+          let m = one_outcome runs rs (Answer x) (Answer y) course 0 (formed_valid course runs x h a within_budget) (formed_valid course rs y k b within_budget_too) in (m.0, same_answer x y m.1)
 
-      pub not_both : (course : Course S X) (runs : List (List C)) (x : X) (r : Report C) → IsFormedBy R course runs x → AreAllowedIn R rule course runs → treats_in R.is_treatment runs ≤ budget
+      pub not_both : (course : Course S X) (runs : List (List C)) (x : X) (r : Report C) → IsFormedBy R course runs x → AreAllowedIn R rule course runs → treatment_count_in R.is_treatment runs ≤ budget
           → IsHonestBy R rule course r → IsWithin R budget r → ⊥
-      not_both course runs x r h a paid k w =
-          no_answer (one_outcome runs r.runs (Answer x) (Stop r.cause r.stop) course 0 (formed_valid course runs x h a paid) (honest_valid course r k w)).1
+      not_both course runs x r h a within_budget k w =
+          no_answer (one_outcome runs r.runs (Answer x) (Stop r.cause r.stop) course 0 (formed_valid course runs x h a within_budget) (honest_valid course r k w)).1

@@ -10,9 +10,9 @@
 use Rattle.std.specs.Prelude.{◌≡◌, ◌≢◌, ℕ, ◌<◌, true, List, [], ◌∷◌, length}
 use Rattle.std.specs.List.{Contains}
 use Rattle.std.specs.declared.result.Result.TheVariants.{Ok}
-use Rattle.ore_course.specs.Choices.{Runner, treats_in}
+use Rattle.ore_course.specs.Choices.{Runner, treatment_count_in}
 use Rattle.ore_course.specs.Course.{Course, Done, Stops, Runs}
-use Rattle.ore_course.specs.Leading.{Rule, run, IsComplete}
+use Rattle.ore_course.specs.Leading.{Rule, run, IsCompleteState}
 
 module _ {S C : Type 0} (R : Runner S C) where
   -- whatever choices lead on from the state, they are fewer than n
@@ -27,7 +27,7 @@ module _ {S C : Type 0} (R : Runner S C) where
     -- the choices of some runs of the course, in order; only the last may be incomplete
     unfoldable pub AreRunsOf : Course S X → List (List C) → Type 0
     AreRunsOf course [] = Unit {0}
-    AreRunsOf (Runs first next) (cs ∷ runs) = (last : S) × (run R first cs ≡ Ok last) × (runs ≢ [] → IsComplete R last) × AreRunsOf (next last) runs
+    AreRunsOf (Runs first next) (cs ∷ runs) = (last : S) × (run R first cs ≡ Ok last) × (runs ≢ [] → IsCompleteState R last) × AreRunsOf (next last) runs
     AreRunsOf (Done x) (cs ∷ runs) = ⊥
     AreRunsOf (Stops cause) (cs ∷ runs) = ⊥
 
@@ -35,11 +35,11 @@ module _ {S C : Type 0} (R : Runner S C) where
     unfoldable pub AreShort : Course S X → Type 0
     AreShort (Done x) = Unit {0}
     AreShort (Stops cause) = Unit {0}
-    AreShort (Runs first next) = ((n : ℕ) × IsShort n first) × ((cs : List C) (last : S) → run R first cs ≡ Ok last → IsComplete R last → AreShort (next last))
+    AreShort (Runs first next) = ((n : ℕ) × IsShort n first) × ((cs : List C) (last : S) → run R first cs ≡ Ok last → IsCompleteState R last → AreShort (next last))
 
     -- whatever is chosen, all runs together have fewer treatments than some number
     abbrev pub HasBudget : Course S X → Type 0
-    HasBudget course = (bound : ℕ) × ((runs : List (List C)) → AreRunsOf course runs → treats_in R.is_treatment runs < bound)
+    HasBudget course = (bound : ℕ) × ((runs : List (List C)) → AreRunsOf course runs → treatment_count_in R.is_treatment runs < bound)
 
 -- each choice that leads on by the first leads to the same state by the second; complete states and treatments are the same
 pub record Extends {S C : Type 0} (R E : Runner S C) : Type 0 where

@@ -2,10 +2,9 @@
 --     Refusal                   why a choice leads nowhere
 --     Runner                    what a choice makes of a state, which states are complete, which choices are treatments
 --     IsClosed                  a complete state has no lawful choice
---     cost, treats, treats_in   how many treatments a choice, some choices and some runs are
+--     cost, treatment_count, treatment_count_in  how many treatments a choice, some choices and some runs are
 --     present, with_choice      the choices of the present run, which is the last; one more of them
 --     but_last, without_last    choices without the last; the runs without the last choice of the last
---     BeginsWith                a list begins with another
 --     next_kept                 of the kept choices the one whose turn it is
 use Rattle.std.specs.Prelude.{◌≡◌, ℕ, ◌+◌, ◌-◌, Bool, true, cond, List, [], ◌∷◌, ◌++◌, length, get_or, slice_get}
 use Rattle.std.specs.declared.option.Option.{Option}
@@ -35,14 +34,14 @@ module _ {C : Type 0} (is_treatment : C → Bool) where
   cost c = cond (is_treatment c) 1 0
 
   -- how many of the choices are treatments
-  unfoldable pub treats : List C → ℕ
-  treats [] = 0
-  treats (c ∷ cs) = cost c + treats cs
+  unfoldable pub treatment_count : List C → ℕ
+  treatment_count [] = 0
+  treatment_count (c ∷ cs) = cost c + treatment_count cs
 
   -- how many of the choices of all runs are treatments
-  unfoldable pub treats_in : List (List C) → ℕ
-  treats_in [] = 0
-  treats_in (cs ∷ runs) = treats cs + treats_in runs
+  unfoldable pub treatment_count_in : List (List C) → ℕ
+  treatment_count_in [] = 0
+  treatment_count_in (cs ∷ runs) = treatment_count cs + treatment_count_in runs
 
 -- ---- runs, one list of choices for each run that was begun
 
@@ -70,10 +69,6 @@ module _ {C : Type 0} where
   without_last [] = []
   without_last (cs ∷ []) = but_last cs ∷ []
   without_last (cs ∷ ds ∷ runs) = cs ∷ without_last (ds ∷ runs)
-
-  -- the first list is the second, followed by some rest
-  abbrev pub BeginsWith : List C → List C → Type 0
-  BeginsWith xs front = (rest : List C) × (xs ≡ front ++ rest)
 
   -- the kept choice at the place in the present run that comes next
   abbrev pub next_kept : List (List C) → List (List C) → Option C

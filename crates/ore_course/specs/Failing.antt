@@ -1,6 +1,6 @@
 -- The first line of a report that fails. A line is told by its place, and its number in a text is worked out from that.
---     Place                that of a run, of a choice in a run, or of the stop line
---     lines_before, line_of    how many lines the first k runs have; the number of the line of a place
+--     ReportPlace          that of a run, of a choice in a run, or of the stop line
+--     run_lines_before, report_line  how many lines the first k runs have; the number of the line of a place
 --     follow               the choices of a run line by line: the state to which they lead, or the place that fails
 --     is_over              no run was begun, or the last one is complete
 --     is_cause, is_budget  the report says that an operation stopped for this cause; that its budget is so many treatments
@@ -15,27 +15,27 @@ use Rattle.std.specs.declared.option.Option.TheVariants.{None, Some}
 use Rattle.std.specs.declared.result.Result.{Result}
 use Rattle.std.specs.declared.result.Result.TheVariants.{Ok, Err}
 use Rattle.ore_algebra.specs.Limits.{Cause, Overflow, Degree}
-use Rattle.ore_course.specs.Choices.{Refusal, Unlawful, Stopped, Runner, treats_in}
+use Rattle.ore_course.specs.Choices.{Refusal, Unlawful, Stopped, Runner, treatment_count_in}
 use Rattle.ore_course.specs.Course.{Course, Done, Stops, Runs}
 use Rattle.ore_course.specs.Report.{Reported, ByStop, ByBudget, StopLine, AtForced, AtChoice, AtBudget, Report}
 
 -- the line that begins run k, from 0; that of choice n of run k, which is this one; the stop line
-pub data Place (C : Type 0) : Type 0 where
-  OfRun : ℕ → Place C
-  OfChoice : ℕ → ℕ → C → Place C
-  OfStop : Place C
+pub data ReportPlace (C : Type 0) : Type 0 where
+  OfRun : ℕ → ReportPlace C
+  OfChoice : ℕ → ℕ → C → ReportPlace C
+  OfStop : ReportPlace C
 
 -- how many lines the first k runs have: a run has a line of its own, and one for each choice
-unfoldable pub lines_before : {C : Type 0} → List (List C) → ℕ → ℕ
-lines_before [] k = 0
-lines_before (cs ∷ runs) zero = 0
-lines_before (cs ∷ runs) (suc k) = suc (length cs) + lines_before runs k
+unfoldable pub run_lines_before : {C : Type 0} → List (List C) → ℕ → ℕ
+run_lines_before [] k = 0
+run_lines_before (cs ∷ runs) zero = 0
+run_lines_before (cs ∷ runs) (suc k) = suc (length cs) + run_lines_before runs k
 
 -- the number of the line, where that of the first run is given; the stop line stands behind all runs
-unfoldable pub line_of : {C : Type 0} → ℕ → List (List C) → Place C → ℕ
-line_of start runs (OfRun k) = start + lines_before runs k
-line_of start runs (OfChoice k n c) = suc (start + lines_before runs k + n)
-line_of start runs OfStop = start + lines_before runs (length runs)
+unfoldable pub report_line : {C : Type 0} → ℕ → List (List C) → ReportPlace C → ℕ
+report_line start runs (OfRun k) = start + run_lines_before runs k
+report_line start runs (OfChoice k n c) = suc (start + run_lines_before runs k + n)
+report_line start runs OfStop = start + run_lines_before runs (length runs)
 
 -- the report says that an operation stopped for this cause
 unfoldable pub is_cause : Reported → Cause → Bool
@@ -52,7 +52,7 @@ is_budget (ByBudget m) n = nat_eq m n
 
 module _ {S C : Type 0} (R : Runner S C) where
   -- the choices from number n of run k on
-  unfoldable pub follow : ℕ → ℕ → S → List C → Result S (Place C)
+  unfoldable pub follow : ℕ → ℕ → S → List C → Result S (ReportPlace C)
   follow k n st [] = Ok st
   follow k n st (c ∷ cs) = elim (R.step st c) [ Ok next ↦ follow k (suc n) next cs | Err refusal ↦ Err (OfChoice k n c) ]
 
@@ -83,8 +83,8 @@ module _ {S C : Type 0} (R : Runner S C) where
     stop_passes why treated (Some st) rest AtBudget = not (R.is_complete st) && is_budget why treated
 
     -- from run k on: the runs that are left, after the state of the run before, with this course left
-    unfoldable pub failing : Report C → ℕ → Option S → Course S X → List (List C) → Option (Place C)
-    failing report k last rest [] = cond (stop_passes report.cause (treats_in R.is_treatment report.runs) last rest report.stop) None (Some OfStop)
+    unfoldable pub failing : Report C → ℕ → Option S → Course S X → List (List C) → Option (ReportPlace C)
+    failing report k last rest [] = cond (stop_passes report.cause (treatment_count_in R.is_treatment report.runs) last rest report.stop) None (Some OfStop)
     failing report k last (Done x) (cs ∷ runs) = Some (OfRun k)
     failing report k last (Stops cause) (cs ∷ runs) = Some (OfRun k)
     failing report k last (Runs first next) (cs ∷ runs) = elim (is_over last) [
@@ -93,5 +93,5 @@ module _ {S C : Type 0} (R : Runner S C) where
     ]
 
     -- the first place of the report that fails
-    abbrev pub first_failing : Course S X → Report C → Option (Place C)
+    abbrev pub first_failing : Course S X → Report C → Option (ReportPlace C)
     first_failing course report = failing report 0 None course report.runs

@@ -6,11 +6,11 @@ use Rattle.std.specs.Prelude.{◌≡◌, ◌<◌, true, false, List, [], ◌∷�
 use Rattle.std.specs.declared.option.Option.{Option}
 use Rattle.std.specs.declared.option.Option.TheVariants.{None, Some}
 use Rattle.std.specs.declared.result.Result.TheVariants.{Ok, Err}
-use Rattle.ore_course.specs.Choices.{Refusal, Runner, treats_in}
+use Rattle.ore_course.specs.Choices.{Refusal, Runner, treatment_count_in}
 use Rattle.ore_course.specs.Course.{Course, Done, Stops, Runs}
 use Rattle.ore_course.specs.Leading.{run}
 use Rattle.ore_course.specs.Report.{Report}
-use Rattle.ore_course.specs.Failing.{Place, OfRun, OfChoice, OfStop, is_over, stop_passes}
+use Rattle.ore_course.specs.Failing.{ReportPlace, OfRun, OfChoice, OfStop, is_over, stop_passes}
 
 module _ {S C : Type 0} (R : Runner S C) {X : Type 0} where
   -- these runs are begun and followed, one after another, and this holds of the last state and of what is left
@@ -33,8 +33,8 @@ module _ {S C : Type 0} (R : Runner S C) {X : Type 0} where
   IsRefused before c last (Stops cause) = ⊥
 
   -- the lines before the place pass, and its own doesn't
-  unfoldable pub IsFirstFailing : Course S X → Report C → Place C → Type 0
+  unfoldable pub IsFirstFailing : Course S X → Report C → ReportPlace C → Type 0
   IsFirstFailing course report (OfRun k) = (k < length report.runs) × AreFollowed CannotBegin None course (take k report.runs)
   IsFirstFailing course report (OfChoice k n c) =
       (cs : List C) × (slice_get report.runs k ≡ Some cs) × (slice_get cs n ≡ Some c) × AreFollowed (IsRefused (take n cs) c) None course (take k report.runs)
-  IsFirstFailing course report OfStop = AreFollowed (λ last rest. stop_passes R report.cause (treats_in R.is_treatment report.runs) last rest report.stop ≡ false) None course report.runs
+  IsFirstFailing course report OfStop = AreFollowed (λ last rest. stop_passes R report.cause (treatment_count_in R.is_treatment report.runs) last rest report.stop ≡ false) None course report.runs

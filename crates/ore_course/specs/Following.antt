@@ -12,7 +12,7 @@ use Rattle.std.specs.Prelude.{◌≡◌, ℕ, Bool, true, false, List, ◌++◌,
 use Rattle.std.specs.declared.option.Option.{Option}
 use Rattle.std.specs.declared.result.Result.TheVariants.{Err}
 use Rattle.ore_algebra.specs.Limits.{Cause}
-use Rattle.ore_course.specs.Choices.{Unlawful, Stopped, Runner, treats_in, with_choice, without_last, next_kept}
+use Rattle.ore_course.specs.Choices.{Unlawful, Stopped, Runner, treatment_count_in, with_choice, without_last, next_kept}
 use Rattle.ore_course.specs.Course.{Course, Stops}
 use Rattle.ore_course.specs.Leading.{Rule, LeadsTo, IsIn, AreAllowedIn}
 use Rattle.ore_course.specs.Report.{ByStop, ByBudget, AtForced, AtChoice, AtBudget, Report, IsHonestBy, IsWithin}
@@ -81,7 +81,7 @@ module _ {S C : Type 0} (R : Runner S C) (rule : Rule S C) where
     IsHaltedIn course before given budget replays kept (Passed cause (InChoice c)) =
         (passed : List (List C)) × (given ≡ before ++ with_choice passed c) × IsLeftIn R rule course passed (IsStopChoice cause c)
     IsHaltedIn course before given budget replays kept Spent =
-        (added : List (List C)) × (given ≡ before ++ added) × IsLeftIn R rule course added IsSpent × (treats_in R.is_treatment given ≡ budget) × (replays ≡ false)
+        (added : List (List C)) × (given ≡ before ++ added) × IsLeftIn R rule course added IsSpent × (treatment_count_in R.is_treatment given ≡ budget) × (replays ≡ false)
     IsHaltedIn course before given budget replays kept NoLawful =
         (added : List (List C)) × (given ≡ before ++ added) × IsLeftIn R rule course added (IsUnlawful (next_kept kept given)) × (replays ≡ true)
     IsHaltedIn course before given budget replays kept Memory = Unit {0}

@@ -6,7 +6,7 @@
 --     FollowedIsFormed, HaltIsReported   what code that follows a course answers, and why it stops
 --     AnswersUnlessReported              where there is no report, such code answers, or memory gives out
 --     HasOneReport, HasOneAnswer, HasOneEnd    under a strict rule there is one report or one answer, and not both
---     BudgetExists                       the runs of a course have fewer treatments than some number
+--     TreatmentsAreBounded               the runs of a course have fewer treatments than some number
 --     ReportsHaveFewer, BudgetIsNotSpent    so have those of a course that may stop, and no budget so great is spent
 --     HasOnlyReport, HasItsReport        the one report of forced work alone
 use Rattle.std.specs.Prelude.{◌≡◌, ◌≢◌, ◌⊎◌, ◌↔◌, ℕ, ◌≤◌, ◌<◌, Bool, true, false, List, [], IfOk, IfErr}
@@ -14,11 +14,11 @@ use Rattle.std.specs.declared.option.Option.TheVariants.{None, Some}
 use Rattle.std.specs.declared.result.Result.{Result}
 use Rattle.std.specs.declared.result.Result.TheVariants.{Ok, Err}
 use Rattle.ore_algebra.specs.Limits.{Cause}
-use Rattle.ore_course.specs.Choices.{Runner, IsClosed, treats_in}
+use Rattle.ore_course.specs.Choices.{Runner, IsClosed, treatment_count_in}
 use Rattle.ore_course.specs.Course.{Course, Done, forced}
 use Rattle.ore_course.specs.Leading.{Rule, any_rule, IsFormedWithin}
 use Rattle.ore_course.specs.Report.{Report, ByStop, ByBudget, AtForced, IsHonest, IsHonestBy, IsWithin, HasNoReport}
-use Rattle.ore_course.specs.Failing.{Place, first_failing}
+use Rattle.ore_course.specs.Failing.{ReportPlace, first_failing}
 use Rattle.ore_course.specs.FirstFailing.{IsFirstFailing}
 use Rattle.ore_course.specs.Following.{Halt, Memory, Follows, IsHaltedIn, IsReported}
 use Rattle.ore_course.specs.Replaying.{kept_of, replayed, AreFronts}
@@ -33,7 +33,7 @@ module _ (S C X : Type 0) where
 
   -- the place that is found is the one whose line doesn't pass while those before it do
   abbrev pub FindsFirstFailing : Type 0
-  FindsFirstFailing = (R : Runner S C) (course : Course S X) (report : Report C) (place : Place C) → (first_failing R course report ≡ Some place) ↔ IsFirstFailing R course report place
+  FindsFirstFailing = (R : Runner S C) (course : Course S X) (report : Report C) (place : ReportPlace C) → (first_failing R course report ≡ Some place) ↔ IsFirstFailing R course report place
 
   -- a report is honest exactly where it is so by the rule that every lawful choice may come
   abbrev pub AllowsAllHonest : Type 0
@@ -52,17 +52,17 @@ module _ (S C X : Type 0) where
   -- an answer is formed by the choices given, as the rule allows
   abbrev pub FollowedIsFormed : Type 0
   FollowedIsFormed = (R : Runner S C) (rule : Rule S C) (course : Course S X) (given : List (List C)) (x : X) (budget : ℕ)
-      → Follows R rule course [] given (Done x) → treats_in R.is_treatment given ≤ budget → IsFormedWithin R rule budget course given x
+      → Follows R rule course [] given (Done x) → treatment_count_in R.is_treatment given ≤ budget → IsFormedWithin R rule budget course given x
 
   -- a halt that has a report has an honest one, by the rule and within the budget
   abbrev pub HaltIsReported : Type 0
   HaltIsReported = (R : Runner S C) (rule : Rule S C) (course : Course S X) (given : List (List C)) (budget : ℕ) (replays : Bool) (kept : List (List C)) (halt : Halt C)
-      → IsHaltedIn R rule course [] given budget replays kept halt → treats_in R.is_treatment given ≤ budget → IsReported R rule course given budget halt
+      → IsHaltedIn R rule course [] given budget replays kept halt → treatment_count_in R.is_treatment given ≤ budget → IsReported R rule course given budget halt
 
   -- where no report is honest by the rule and within the budget, a call with a live chooser answers, or memory gives out
   abbrev pub AnswersUnlessReported : Type 0
   AnswersUnlessReported = (R : Runner S C) (rule : Rule S C) (course : Course S X) (given : List (List C)) (budget : ℕ) (kept : List (List C)) (result : Result X (Halt C))
-      → HasNoReport R rule budget course → treats_in R.is_treatment given ≤ budget → IfOk result (λ x. Follows R rule course [] given (Done x)) → IfErr result (IsHaltedIn R rule course [] given budget false kept)
+      → HasNoReport R rule budget course → treatment_count_in R.is_treatment given ≤ budget → IfOk result (λ x. Follows R rule course [] given (Done x)) → IfErr result (IsHaltedIn R rule course [] given budget false kept)
       → ((x : X) × (result ≡ Ok x) × Follows R rule course [] given (Done x)) ⊎ (result ≡ Err Memory)
 
   -- the course was followed by the choices that are kept for a report, up to an answer
@@ -95,13 +95,13 @@ module _ (S C X : Type 0) where
   -- ---- budgets
 
   -- where each state has finitely many choices and each run an end, all runs have fewer treatments than some number
-  abbrev pub BudgetExists : Type 0
-  BudgetExists = (R : Runner S C) → HasFewChoices R → (course : Course S X) → AreShort R course → HasBudget R course
+  abbrev pub TreatmentsAreBounded : Type 0
+  TreatmentsAreBounded = (R : Runner S C) → HasFewChoices R → (course : Course S X) → AreShort R course → HasBudget R course
 
   -- a course that may stop has honest reports with fewer treatments than the one that it is at most
   abbrev pub ReportsHaveFewer : Type 0
   ReportsHaveFewer = (R E : Runner S C) → Extends R E → (course exact : Course S X) → IsCourseAtMost course exact → (budget : HasBudget E exact) (report : Report C)
-      → IsHonest R course report → treats_in R.is_treatment report.runs < budget.0
+      → IsHonest R course report → treatment_count_in R.is_treatment report.runs < budget.0
 
   -- and no budget of that number or more is spent
   abbrev pub BudgetIsNotSpent : Type 0

@@ -1,8 +1,8 @@
 -- What choices make of a course. They are given run by run, one list for each run that was begun.
 --     Rule                    which choices may come in a state, and in which states the budget may be spent
---     is_lawful               what a choice makes of a state shows that it is lawful
+--     shows_lawful            what a choice makes of a state shows that it is lawful
 --     any_rule                the rule that every lawful choice may come, and the budget be spent while a run isn't complete
---     run, IsComplete         what choices make of a state, in order; nothing is left to choose
+--     run, IsCompleteState    what choices make of a state, in order; nothing is left to choose
 --     AreAllowed              a rule allows each choice of a run at its place
 --     LeadsTo                 complete runs leave this much of a course
 --     IsIn                    the last run that was begun is in this state
@@ -12,7 +12,7 @@
 use Rattle.std.specs.Prelude.{◌≡◌, ℕ, ◌≤◌, Bool, true, false, not, List, [], ◌∷◌}
 use Rattle.std.specs.declared.result.Result.{Result}
 use Rattle.std.specs.declared.result.Result.TheVariants.{Ok, Err}
-use Rattle.ore_course.specs.Choices.{Refusal, Unlawful, Stopped, Runner, treats_in}
+use Rattle.ore_course.specs.Choices.{Refusal, Unlawful, Stopped, Runner, treatment_count_in}
 use Rattle.ore_course.specs.Course.{Course, Done, Stops, Runs}
 
 -- which choices may come in a state, and in which states the budget may be spent
@@ -21,15 +21,15 @@ pub record Rule (S C : Type 0) : Type 0 where
   pub allows_spent : S → Bool
 
 -- a choice that leads on is lawful, and so is one whose treatment stops
-unfoldable pub is_lawful : {S : Type 0} → Result S Refusal → Bool
-is_lawful (Ok next) = true
-is_lawful (Err Unlawful) = false
-is_lawful (Err (Stopped cause)) = true
+unfoldable pub shows_lawful : {S : Type 0} → Result S Refusal → Bool
+shows_lawful (Ok next) = true
+shows_lawful (Err Unlawful) = false
+shows_lawful (Err (Stopped cause)) = true
 
 module _ {S C : Type 0} (R : Runner S C) where
   -- every lawful choice may come, and the budget may be spent while something is left to choose
   abbrev pub any_rule : Rule S C
-  any_rule = record { allows = λ st c. is_lawful (R.step st c); allows_spent = λ st. not (R.is_complete st) }
+  any_rule = record { allows = λ st c. shows_lawful (R.step st c); allows_spent = λ st. not (R.is_complete st) }
 
   -- what choices make of a state, in order
   unfoldable pub run : S → List C → Result S Refusal
@@ -37,8 +37,8 @@ module _ {S C : Type 0} (R : Runner S C) where
   run st (c ∷ cs) = elim (R.step st c) [ Ok next ↦ run next cs | Err refusal ↦ Err refusal ]
 
   -- nothing is left to choose
-  abbrev pub IsComplete : S → Type 0
-  IsComplete st = R.is_complete st ≡ true
+  abbrev pub IsCompleteState : S → Type 0
+  IsCompleteState st = R.is_complete st ≡ true
 
   -- the rule allows each choice, at its place in its run
   unfoldable pub AreAllowed : Rule S C → S → List C → Type 0
@@ -49,14 +49,14 @@ module _ {S C : Type 0} (R : Runner S C) where
     -- each list of choices leads to a complete state of the run that is next, and then this is left
     unfoldable pub LeadsTo : Course S X → List (List C) → Course S X → Type 0
     LeadsTo course [] rest = course ≡ rest
-    LeadsTo (Runs first next) (cs ∷ runs) rest = (last : S) × (run first cs ≡ Ok last) × IsComplete last × LeadsTo (next last) runs rest
+    LeadsTo (Runs first next) (cs ∷ runs) rest = (last : S) × (run first cs ≡ Ok last) × IsCompleteState last × LeadsTo (next last) runs rest
     LeadsTo (Done x) (cs ∷ runs) rest = ⊥
     LeadsTo (Stops cause) (cs ∷ runs) rest = ⊥
 
     -- each list but the last leads to a complete state, and the last leads to this state
     unfoldable pub IsIn : Course S X → List (List C) → S → Type 0
     IsIn (Runs first next) (cs ∷ []) st = run first cs ≡ Ok st
-    IsIn (Runs first next) (cs ∷ ds ∷ runs) st = (last : S) × (run first cs ≡ Ok last) × IsComplete last × IsIn (next last) (ds ∷ runs) st
+    IsIn (Runs first next) (cs ∷ ds ∷ runs) st = (last : S) × (run first cs ≡ Ok last) × IsCompleteState last × IsIn (next last) (ds ∷ runs) st
     IsIn course runs st = ⊥
 
     -- the course makes this answer of complete runs, one for each run of it
@@ -72,4 +72,4 @@ module _ {S C : Type 0} (R : Runner S C) where
     pub record IsFormedWithin (rule : Rule S C) (budget : ℕ) (course : Course S X) (runs : List (List C)) (x : X) : Type 0 where
       pub formed : IsFormedBy course runs x
       pub allowed : AreAllowedIn rule course runs
-      pub paid : treats_in R.is_treatment runs ≤ budget
+      pub within_budget : treatment_count_in R.is_treatment runs ≤ budget

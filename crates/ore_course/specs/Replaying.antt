@@ -8,9 +8,10 @@
 use Rattle.std.specs.Prelude.{◌≡◌, ℕ, suc, Bool, false, cond, List, [], ◌∷◌, length, slice_get}
 use Rattle.std.specs.declared.option.Option.{Option}
 use Rattle.std.specs.declared.option.Option.TheVariants.{None, Some}
-use Rattle.ore_course.specs.Choices.{Runner, treats_in, with_choice, without_last, BeginsWith}
+use Rattle.ore_algebra.specs.Lists.{BeginsWith}
+use Rattle.ore_course.specs.Choices.{Runner, treatment_count_in, with_choice, without_last}
 use Rattle.ore_course.specs.Report.{Reported, StopLine, AtForced, AtChoice, AtBudget, Report}
-use Rattle.ore_course.specs.Failing.{Place, OfRun, OfChoice, OfStop, is_cause, is_budget}
+use Rattle.ore_course.specs.Failing.{ReportPlace, OfRun, OfChoice, OfStop, is_cause, is_budget}
 use Rattle.ore_course.specs.Following.{InForced, InChoice, Halt, Passed, Spent, NoLawful, Memory}
 
 -- in an answer, or in this halt
@@ -65,12 +66,12 @@ module _ {C : Type 0} where
 
 module _ {S C : Type 0} (R : Runner S C) where
   -- run by run, a line fails where fewer choices passed than are listed; where no run was begun; where one more was begun
-  unfoldable pub decided : Report C → End C → ℕ → List (List C) → List (List C) → Option (Place C)
-  decided report end k [] [] = cond (stop_decided report.cause (treats_in R.is_treatment report.runs) report.stop end) None (Some OfStop)
+  unfoldable pub decided : Report C → End C → ℕ → List (List C) → List (List C) → Option (ReportPlace C)
+  decided report end k [] [] = cond (stop_decided report.cause (treatment_count_in R.is_treatment report.runs) report.stop end) None (Some OfStop)
   decided report end k (gs ∷ passed) [] = Some OfStop
   decided report end k [] (cs ∷ runs) = Some (OfRun k)
   decided report end k (gs ∷ passed) (cs ∷ runs) = elim (slice_get cs (length gs)) [ Some c ↦ Some (OfChoice k (length gs) c) | None ↦ decided report end (suc k) passed runs ]
 
   -- the first failing place of the report, by lengths alone
-  abbrev pub replayed : Report C → List (List C) → End C → Option (Place C)
+  abbrev pub replayed : Report C → List (List C) → End C → Option (ReportPlace C)
   replayed report given end = decided report end 0 (passed_of given end) report.runs

@@ -11,7 +11,7 @@
 use Rattle.std.specs.Prelude.{◌≡◌, ℕ, ◌+◌, ◌≤◌, true, false, List}
 use Rattle.std.specs.declared.result.Result.TheVariants.{Err}
 use Rattle.ore_algebra.specs.Limits.{Cause}
-use Rattle.ore_course.specs.Choices.{Stopped, Runner, cost, treats_in}
+use Rattle.ore_course.specs.Choices.{Stopped, Runner, cost, treatment_count_in}
 use Rattle.ore_course.specs.Course.{Course, Stops}
 use Rattle.ore_course.specs.Leading.{Rule, LeadsTo, IsIn, AreAllowedIn}
 
@@ -38,7 +38,7 @@ module _ {S C : Type 0} (R : Runner S C) {X : Type 0} where
   unfoldable pub IsHonestAt : Course S X → List (List C) → Reported → StopLine C → Type 0
   IsHonestAt course runs why AtForced = (cause : Cause) × (why ≡ ByStop cause) × LeadsTo R course runs (Stops cause)
   IsHonestAt course runs why (AtChoice c) = (cause : Cause) × (why ≡ ByStop cause) × (st : S) × IsIn R course runs st × (R.step st c ≡ Err (Stopped cause))
-  IsHonestAt course runs why AtBudget = (why ≡ ByBudget (treats_in R.is_treatment runs)) × (st : S) × IsIn R course runs st × (R.is_complete st ≡ false)
+  IsHonestAt course runs why AtBudget = (why ≡ ByBudget (treatment_count_in R.is_treatment runs)) × (st : S) × IsIn R course runs st × (R.is_complete st ≡ false)
 
   -- the choices of the report lead to the stop that it names
   abbrev pub IsHonest : Course S X → Report C → Type 0
@@ -65,7 +65,7 @@ module _ {S C : Type 0} (R : Runner S C) where
 
   -- its budget is this one, or an operation stopped and the budget allows all treatments, with that of the stop
   abbrev pub IsWithinBy : ℕ → Report C → Reported → Type 0
-  IsWithinBy budget report (ByStop cause) = treats_in R.is_treatment report.runs + stop_cost report.stop ≤ budget
+  IsWithinBy budget report (ByStop cause) = treatment_count_in R.is_treatment report.runs + stop_cost report.stop ≤ budget
   IsWithinBy budget report (ByBudget n) = n ≡ budget
 
   -- the report is within the budget

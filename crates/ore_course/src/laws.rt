@@ -6,7 +6,7 @@
 ghost use Rattle.ore_course.specs.Laws.{
   AllowsAllHonest,
   AnswersUnlessReported,
-  BudgetExists,
+  TreatmentsAreBounded,
   BudgetIsNotSpent,
   FailsNowhereIfHonest,
   FindsFirstFailing,
@@ -69,8 +69,8 @@ pub fn law_report_is_one<S, C, X>()
 /// Where runs end and each state has finitely many choices, all runs of a course have fewer treatments together than some
 /// number. A course that may stop, but is the same else, has no honest report with so many, and none that so great a
 /// budget was spent.
-pub fn law_budget_exists<S, C, X>()
-    ensures exists { BudgetExists S C X }
+pub fn law_treatments_bounded<S, C, X>()
+    ensures exists { TreatmentsAreBounded S C X }
     ensures fewer { ReportsHaveFewer S C X }
     ensures spent { BudgetIsNotSpent S C X }
 {}

@@ -12,6 +12,7 @@ use Rattle.std.specs.declared.option.Option.TheVariants.{None, Some}
 use Rattle.std.proofs.lemmas.Bool.Decides.{nat_tests}
 use Rattle.std.proofs.lemmas.List.Quantifiers.{position-Some}
 use Rattle.std.proofs.lemmas.List.Sums.{fails_before_first}
+use Rattle.std.proofs.lemmas.Bool.{and_parts}
 use Rattle.ore_monomial.specs.Monomial.{Monomial, exponent, Divides}
 use Rattle.ore_monomial.specs.Term.{Term}
 use Rattle.ore_leads.specs.FirstDivisor.{divides_term, first_divisor}
@@ -41,10 +42,6 @@ pub divides_tested : (m n : Monomial) → (list_all (λ p. nat_le p.0 p.1) (zip 
 unfolding exponent
 divides_tested m n = (λ h. passed_each m.exponents n.exponents (m.twelve ∙ sym n.twelve) h, λ d. each_passes m.exponents n.exponents (m.twelve ∙ sym n.twelve) d)
 
-both : (a b : Bool) → (a && b) ≡ true → (a ≡ true) × (b ≡ true)
-both true b h = (refl, h)
-both false b h = absurd (true≢false (sym h))
-
 columns_equal : (j k : ℕ) → nat_eq j k ≡ true → j ≡ k
 columns_equal j k h = grind (arith, nat_tests)
 
@@ -54,7 +51,7 @@ equal_columns j k h = grind (arith, nat_tests)
 pub divides_term_true : (t u : Term) → (divides_term t u ≡ true) ↔ ((t.column ≡ u.column) × Divides t.monomial u.monomial)
 unfolding divides_term
 divides_term_true t u = (
-  λ h. let b = both (nat_eq t.column u.column) _ h in (columns_equal t.column u.column b.0, (divides_tested t.monomial u.monomial).0 b.1),
+  λ h. let b = and_parts (nat_eq t.column u.column) _ h in (columns_equal t.column u.column b.0, (divides_tested t.monomial u.monomial).0 b.1),
   λ h. ap (λ b. b && at_most t.monomial.exponents u.monomial.exponents) (equal_columns t.column u.column h.0) ∙ (divides_tested t.monomial u.monomial).1 h.1,
 )
 

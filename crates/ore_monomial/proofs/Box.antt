@@ -2,7 +2,7 @@
 --     box v n              their list, for the first v variables
 --     box_has, box_past, box_small    which they are
 --     apart-box, length-box           each stands there once, and they are (n + 1)^v
---     raised a k           a^k
+--     natural_power a k    a^k
 --     room                 ((2 v + 1) d + 1 + d)^v is less than twice ((2 v + 1) d + 1)^v
 --     In-.., apart-..      members of lists, and lists without a member that stands twice
 use Rattle.std.proofs.Common.{◌≡◌, ◌⊎◌, inl, inr, ⊎_elim, ℕ, zero, suc, ◌+◌, ◌-◌, ◌*◌, ◌<◌, ◌≤◌, List, [], ◌∷◌, ◌++◌, length, map, refl, sym, ap, ◌∙◌, subst, arith}
@@ -14,9 +14,9 @@ use Rattle.ore_monomial.proofs.Monomials.{exponent-same, exponent-other, exponen
 use native.Mathlib.Decide.{dec_lt, ℕ_discrete}
 use Rattle.ore_algebra.proofs.Solve.{In, AreDistinct}
 
-pub raised : ℕ → ℕ → ℕ
-raised a zero = 1
-raised a (suc k) = a * raised a k
+pub natural_power : ℕ → ℕ → ℕ
+natural_power a zero = 1
+natural_power a (suc k) = a * natural_power a k
 
 times_mono : (n x y : ℕ) → x ≤ y → n * x ≤ n * y
 times_mono n x y h = grind arith
@@ -29,18 +29,18 @@ step_bound a d u c F G h l e =
     omega arith
 
 -- (a + d)^k (u - k) is at most u a^k where u d is at most a
-bernoulli : (a d u k : ℕ) → k ≤ u → u * d ≤ a → raised (a + d) k * (u - k) ≤ u * raised a k
-unfolding raised
+bernoulli : (a d u k : ℕ) → k ≤ u → u * d ≤ a → natural_power (a + d) k * (u - k) ≤ u * natural_power a k
+unfolding natural_power
 bernoulli a d u zero h l = omega arith
 bernoulli a d u (suc k) h l =
     let ih = bernoulli a d u k (omega arith) l in
     let e : u - k ≡ suc (u - suc k) = omega arith in
-    step_bound a d u (u - suc k) (raised (a + d) k) (raised a k) (omega arith) l (subst (λ n. raised (a + d) k * n ≤ u * raised a k) e ih)
+    step_bound a d u (u - suc k) (natural_power (a + d) k) (natural_power a k) (omega arith) l (subst (λ n. natural_power (a + d) k * n ≤ u * natural_power a k) e ih)
 
-raised_pos : (a k : ℕ) → 0 < a → 0 < raised a k
-unfolding raised
+raised_pos : (a k : ℕ) → 0 < a → 0 < natural_power a k
+unfolding natural_power
 raised_pos a zero h = omega arith
-raised_pos a (suc k) h = let p = times_mono a 1 (raised a k) (raised_pos a k h) in omega arith
+raised_pos a (suc k) h = let p = times_mono a 1 (natural_power a k) (raised_pos a k h) in omega arith
 
 below_twice : (v X Y : ℕ) → X * (v + 1) ≤ (v + v + 1) * Y → 0 < Y → X < Y + Y
 below_twice v X Y h p = by (dec_lt X (Y + Y))
@@ -49,12 +49,12 @@ below_twice v X Y h p = by (dec_lt X (Y + Y))
     by (yes l) = l
     by (no n) = let q = times_mono (v + 1) (Y + Y) X (omega arith) in absurd (omega arith)
 
-pub room : (d v : ℕ) → raised (((v + v + 1) * d + 1) + d) v < raised ((v + v + 1) * d + 1) v + raised ((v + v + 1) * d + 1) v
+pub room : (d v : ℕ) → natural_power (((v + v + 1) * d + 1) + d) v < natural_power ((v + v + 1) * d + 1) v + natural_power ((v + v + 1) * d + 1) v
 room d v =
     let a = (v + v + 1) * d + 1 in
     let b = bernoulli a d (v + v + 1) v (omega arith) (omega arith) in
     let e : v + v + 1 - v ≡ v + 1 = omega arith in
-    below_twice v (raised (a + d) v) (raised a v) (subst (λ n. raised (a + d) v * n ≤ (v + v + 1) * raised a v) e b) (raised_pos a v (omega arith))
+    below_twice v (natural_power (a + d) v) (natural_power a v) (subst (λ n. natural_power (a + d) v * n ≤ (v + v + 1) * natural_power a v) e b) (raised_pos a v (omega arith))
 
 -- ---- members of lists
 
@@ -135,10 +135,10 @@ pub box : ℕ → ℕ → List Monomial
 box zero n = unit ∷ []
 box (suc v) n = flat_map (λ e. map (with_exponent v e) (box v n)) (numbers_to n)
 
-pub length-box : (v n : ℕ) → length (box v n) ≡ raised (suc n) v
-unfolding box raised
+pub length-box : (v n : ℕ) → length (box v n) ≡ natural_power (suc n) v
+unfolding box natural_power
 length-box zero n = refl
-length-box (suc v) n = length-flat (λ e. map (with_exponent v e) (box v n)) (raised (suc n) v) (numbers_to n) (λ e. length-map (box v n) (with_exponent v e) ∙ length-box v n) ∙ ap (λ k. k * raised (suc n) v) (length-numbers_to n)
+length-box (suc v) n = length-flat (λ e. map (with_exponent v e) (box v n)) (natural_power (suc n) v) (numbers_to n) (λ e. length-map (box v n) (with_exponent v e) ∙ length-box v n) ∙ ap (λ k. k * natural_power (suc n) v) (length-numbers_to n)
 
 -- a member of the next box: an exponent and a member of this one
 In-unbox : (v n : ℕ) (m : Monomial) → In m (box (suc v) n) → (e : ℕ) × (e ≤ n) × (p : Monomial) × In p (box v n) × (m ≡ with_exponent v e p)

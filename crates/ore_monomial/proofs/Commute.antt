@@ -21,11 +21,11 @@ use Rattle.ore_monomial.specs.LetterRule.{Operator, letter, letter_times}
 use Rattle.ore_algebra.proofs.DomainLaws as Numbers
 use Rattle.ore_algebra.proofs.Linear.{IsLinear}
 use Rattle.ore_monomial.proofs.Monomials.{with_own, exponent-raise, exponent-raise_other, with-raise, raise-with, raise-with_other, raise_comm, by_exponent}
-use Rattle.ore_monomial.proofs.Letters.{one_term, passed, collect-passed, passed-linear, passed_same, raised_plain, only_stays, Rule, rule_of, by_rule, passes_none, passes_more, nothing_more}
+use Rattle.ore_monomial.proofs.Letters.{one_term, pass_sum, collect-passed, passed-linear, passed_same, raised_plain, only_stays, CommutationRule, rule_of, by_rule, passes_none, passes_more, nothing_more}
 use Rattle.ore_monomial.proofs.Operators
 
 module _ (K : Domain) where
-  abbrev pub plain_rule : Rule K
+  abbrev pub plain_rule : CommutationRule K
   plain_rule = record { alpha = K.zero; beta = K.zero; gamma = K.zero }
 
   rule_of_plain : (k : VarKind) → is_acting k ≡ false → rule_of K k ≡ plain_rule
@@ -48,22 +48,22 @@ module _ (K : Domain) where
   pub by_plain : (a b c d : Operator K) → by_rule K plain_rule a b c d ≡ a
   by_plain a b c d = sym (nothing_more K a b c d)
 
-  pub by_rule-linear : (r : Rule K) {S T U V : Operator K → Operator K} → IsLinear K plain_cmp S → IsLinear K plain_cmp T → IsLinear K plain_cmp U → IsLinear K plain_cmp V → IsLinear K plain_cmp (λ f. by_rule K r (S f) (T f) (U f) (V f))
+  pub by_rule-linear : (r : CommutationRule K) {S T U V : Operator K → Operator K} → IsLinear K plain_cmp S → IsLinear K plain_cmp T → IsLinear K plain_cmp U → IsLinear K plain_cmp V → IsLinear K plain_cmp (λ f. by_rule K r (S f) (T f) (U f) (V f))
   unfolding by_rule
   by_rule-linear r a b c d = Operators.linear_plus K a (Operators.linear_plus K (Operators.linear_scale K r.alpha b) (Operators.linear_plus K (Operators.linear_scale K r.beta c) (Operators.linear_scale K r.gamma d)))
 
-  pub linear-by_rule : (r : Rule K) {S : Operator K → Operator K} → IsLinear K plain_cmp S → (a b c d : Operator K) → S (by_rule K r a b c d) ≡ by_rule K r (S a) (S b) (S c) (S d)
+  pub linear-by_rule : (r : CommutationRule K) {S : Operator K → Operator K} → IsLinear K plain_cmp S → (a b c d : Operator K) → S (by_rule K r a b c d) ≡ by_rule K r (S a) (S b) (S c) (S d)
   unfolding by_rule
   linear-by_rule r l a b c d = l.plus _ _ ∙ ap (plus K plain_cmp _) (l.plus _ _ ∙ (λ i. plus K plain_cmp (l.scale r.alpha b i) ((l.plus _ _ ∙ (λ j. plus K plain_cmp (l.scale r.beta c j) (l.scale r.gamma d j))) i)))
 
 -- two rules on one coordinate whose letters commute
-pub record Agree (K : Domain) (r q : Rule K) : Type 0 where
+pub record Agree (K : Domain) (r q : CommutationRule K) : Type 0 where
   pub cross : K.times r.gamma q.alpha ≡ K.zero
   pub cross_back : K.times q.gamma r.alpha ≡ K.zero
   pub level : K.times r.gamma q.beta ≡ K.times q.gamma r.beta
 
 module _ (K : Domain) where
-  swap_rules : (r q : Rule K) → Agree K r q → (Z A B f TZ TA TB T : Operator K) → by_rule K q (by_rule K r TZ Z B TB) Z A (by_rule K r TA A f T) ≡ by_rule K r (by_rule K q TZ Z A TA) Z B (by_rule K q TB B f T)
+  swap_rules : (r q : CommutationRule K) → Agree K r q → (Z A B f TZ TA TB T : Operator K) → by_rule K q (by_rule K r TZ Z B TB) Z A (by_rule K r TA A f T) ≡ by_rule K r (by_rule K q TZ Z A TA) Z B (by_rule K q TB B f T)
   unfolding by_rule
   swap_rules r q a Z A B f TZ TA TB T = simp (Operators.scale-plus K, Operators.scale-scale K, Operators.plus_assoc K, a.cross, a.cross_back, a.level, Operators.zero_scale K, Operators.zero-plus K, Operators.plus-left_comm K, K.times_comm)
 
@@ -75,7 +75,7 @@ module _ (K : Domain) where
   no_gamma (Shift on step) = refl
   no_gamma (Delay on step) = refl
 
-  agree : (r q : Rule K) → r.gamma ≡ K.zero → q.gamma ≡ K.zero → Agree K r q
+  agree : (r q : CommutationRule K) → r.gamma ≡ K.zero → q.gamma ≡ K.zero → Agree K r q
   agree r q e f = record {
     cross = ap (λ k. K.times k q.alpha) e ∙ Numbers.zero_times K _;
     cross_back = ap (λ k. K.times k r.alpha) f ∙ Numbers.zero_times K _;
@@ -83,7 +83,7 @@ module _ (K : Domain) where
   }
 
 module _ (K : Domain) (s : Signature) where
-  unfoldable pub rule : ℕ → ℕ → Rule K
+  unfoldable pub rule : ℕ → ℕ → CommutationRule K
   rule x y = elim (ℕ_discrete (coordinate_of (kind_at s x)) y) [ yes e ↦ rule_of K (kind_at s x) | no n ↦ plain_rule K ]
 
   pub rule_acting : (x : ℕ) → rule x (coordinate_of (kind_at s x)) ≡ rule_of K (kind_at s x)
@@ -100,7 +100,7 @@ module _ (K : Domain) (s : Signature) where
 
   pub rule_level : (x t : ℕ) → (rule x t).gamma ≡ K.zero
   unfolding rule
-  rule_level x t = elim (ℕ_discrete (coordinate_of (kind_at s x)) t) as (λ (d : Dec (coordinate_of (kind_at s x) ≡ t)). (◌≡◌ {A = K.Number} (let r : Rule K = elim d [ yes e ↦ rule_of K (kind_at s x) | no n ↦ plain_rule K ] in r.gamma) K.zero)) [ yes e ↦ no_gamma K (kind_at s x) | no n ↦ refl ]
+  rule_level x t = elim (ℕ_discrete (coordinate_of (kind_at s x)) t) as (λ (d : Dec (coordinate_of (kind_at s x) ≡ t)). (◌≡◌ {A = K.Number} (let r : CommutationRule K = elim d [ yes e ↦ rule_of K (kind_at s x) | no n ↦ plain_rule K ] in r.gamma) K.zero)) [ yes e ↦ no_gamma K (kind_at s x) | no n ↦ refl ]
 
   rules_agree : (x y t : ℕ) → Agree K (rule x t) (rule y t)
   unfolding rule
@@ -111,13 +111,13 @@ module _ (K : Domain) (s : Signature) where
 
   pub letter-linear : (x : ℕ) → IsLinear K plain_cmp (letter_times K s x)
   unfolding letter_times
-  letter-linear x = Operators.linear_extend K (letter K s x)
+  letter-linear x = Operators.linear_extension-linear K (letter K s x)
 
   pub letter_one : (x : ℕ) (m : Monomial) → letter_times K s x (one_term K m) ≡ letter K s x m
   unfolding letter_times
-  letter_one x m = Operators.extend_one K (letter K s x) m
+  letter_one x m = Operators.linear_extension_one K (letter K s x) m
 
-  letter-passed : (x : ℕ) (m : Monomial) → letter K s x m ≡ passed K (passings K (kind_at s x) (exponent m (coordinate_of (kind_at s x)))) (exponent m (coordinate_of (kind_at s x))) (λ e. one_term K (raise x (with_exponent (coordinate_of (kind_at s x)) e m))) (λ e. one_term K (with_exponent (coordinate_of (kind_at s x)) e m))
+  letter-passed : (x : ℕ) (m : Monomial) → letter K s x m ≡ pass_sum K (passings K (kind_at s x) (exponent m (coordinate_of (kind_at s x)))) (exponent m (coordinate_of (kind_at s x))) (λ e. one_term K (raise x (with_exponent (coordinate_of (kind_at s x)) e m))) (λ e. one_term K (with_exponent (coordinate_of (kind_at s x)) e m))
   unfolding letter
   letter-passed x m = collect-passed K x (coordinate_of (kind_at s x)) m (passings K (kind_at s x) (exponent m (coordinate_of (kind_at s x))))
 
@@ -127,7 +127,7 @@ module _ (K : Domain) (s : Signature) where
   letter_still x m h =
       let t = coordinate_of (kind_at s x) in
       letter-passed x m
-      ∙ ap (λ ps. passed K ps (exponent m t) (λ e. one_term K (raise x (with_exponent t e m))) (λ e. one_term K (with_exponent t e m))) (passings_plain K (kind_at s x) _ h)
+      ∙ ap (λ ps. pass_sum K ps (exponent m t) (λ e. one_term K (raise x (with_exponent t e m))) (λ e. one_term K (with_exponent t e m))) (passings_plain K (kind_at s x) _ h)
       ∙ raised_plain K (exponent m t) _ _ ∙ ap (λ n. one_term K (raise x n)) (with_own t m)
 
   -- and so is one that has nothing to act on
@@ -135,7 +135,7 @@ module _ (K : Domain) (s : Signature) where
   letter_clear x m h =
       let t = coordinate_of (kind_at s x) in
       letter-passed x m
-      ∙ (λ i. passed K (passings K (kind_at s x) (h i)) (h i) (λ e. one_term K (raise x (with_exponent t e m))) (λ e. one_term K (with_exponent t e m)))
+      ∙ (λ i. pass_sum K (passings K (kind_at s x) (h i)) (h i) (λ e. one_term K (raise x (with_exponent t e m))) (λ e. one_term K (with_exponent t e m)))
       ∙ passes_none K (kind_at s x) _ _ ∙ ap (λ n. one_term K (raise x n)) (ap (λ e. with_exponent t e m) (sym h) ∙ with_own t m)
 
 module _ (K : Domain) (s : Signature) (lawful : IsLawful s) where
@@ -155,7 +155,7 @@ module _ (K : Domain) (s : Signature) (lawful : IsLawful s) where
       let up = λ (e : ℕ). letter_one K s t (raise x (with_exponent t e m)) ∙ letter_still K s t _ still ∙ ap (one_term K) (raise_comm t x _ ∙ ap (raise x) (raise-with t e m tl)) in
       let over = λ (e : ℕ). letter_one K s t (with_exponent t e m) ∙ letter_still K s t _ still ∙ ap (one_term K) (raise-with t e m tl) in
       letter-passed K s x (raise t m)
-      ∙ (λ i. passed K (passings K k (exponent-raise t m tl i)) (exponent-raise t m tl i) (λ e. one_term K (raise x (with-raise t e m i))) (λ e. one_term K (with-raise t e m i)))
+      ∙ (λ i. pass_sum K (passings K k (exponent-raise t m tl i)) (exponent-raise t m tl i) (λ e. one_term K (raise x (with-raise t e m i))) (λ e. one_term K (with-raise t e m i)))
       ∙ passes_more K k a u v
       ∙ (λ i. by_rule K (rule_of K k)
       ((sym (ap (letter_times K s t) (letter-passed K s x m) ∙ passed-linear K (letter-linear K s t) (passings K k a) a u v ∙ passed_same K (passings K k a) a _ _ _ _ up over)) i)
@@ -173,7 +173,7 @@ module _ (K : Domain) (s : Signature) (lawful : IsLawful s) where
       let up = λ (e : ℕ). letter_one K s y (raise x (with_exponent t e m)) ∙ letter_still K s y _ still ∙ ap (one_term K) (raise_comm y x _ ∙ ap (raise x) (raise-with_other t y e m apart)) in
       let over = λ (e : ℕ). letter_one K s y (with_exponent t e m) ∙ letter_still K s y _ still ∙ ap (one_term K) (raise-with_other t y e m apart) in
       letter-passed K s x (raise y m)
-      ∙ (λ i. passed K (passings K k (same i)) (same i) (λ e. one_term K (raise x (with_exponent t e (raise y m)))) (λ e. one_term K (with_exponent t e (raise y m))))
+      ∙ (λ i. pass_sum K (passings K k (same i)) (same i) (λ e. one_term K (raise x (with_exponent t e (raise y m)))) (λ e. one_term K (with_exponent t e (raise y m))))
       ∙ sym (ap (letter_times K s y) (letter-passed K s x m) ∙ passed-linear K (letter-linear K s y) (passings K k a) a _ _ ∙ passed_same K (passings K k a) a _ _ _ _ up over)
 
   -- the relation of any letter x with a letter y that does not act

@@ -1,9 +1,9 @@
 -- What the letters do: each passes over its coordinate by one rule, and the rest commute.
 --     one_term             a monomial as an operator
 --     sum_to n F           F 0 + F 1 + .. + F n
---     passed ps a u v      what passings over t^a give, where u e stands for t^e with the letter and v e for t^e without
+--     pass_sum ps a u v    what passings over t^a give, where u e stands for t^e with the letter and v e for t^e without
 --     collect-passed       a letter times a monomial, so written
---     Rule                 the rule x t = t x + alpha x + beta + gamma t of a letter x over its coordinate t
+--     CommutationRule      the rule x t = t x + alpha x + beta + gamma t of a letter x over its coordinate t
 --     rule_of, by_rule     the rule of a kind; the sum that a rule makes of four operators
 --     passes_none          over t^0 a letter stays as it is
 --     passes_more          passing over one more t follows the rule
@@ -53,9 +53,9 @@ module _ (K : Domain) where
 
   -- ---- what passing over t^a gives, where u e stands for t^e with the letter and v e for t^e without
 
-  unfoldable pub passed : List (Passing K) → ℕ → (ℕ → Operator K) → (ℕ → Operator K) → Operator K
-  passed [] a u v = empty_sum K plain_cmp
-  passed (p ∷ ps) a u v = plus K plain_cmp (scale K plain_cmp p.number (cond p.stays (u (a - p.falls)) (v (a - p.falls)))) (passed ps a u v)
+  unfoldable pub pass_sum : List (Passing K) → ℕ → (ℕ → Operator K) → (ℕ → Operator K) → Operator K
+  pass_sum [] a u v = empty_sum K plain_cmp
+  pass_sum (p ∷ ps) a u v = plus K plain_cmp (scale K plain_cmp p.number (cond p.stays (u (a - p.falls)) (v (a - p.falls)))) (pass_sum ps a u v)
 
   cond-map : {A B : Type 0} (f : A → B) (b : Bool) (x y : A) → f (cond b x y) ≡ cond b (f x) (f y)
   cond-map f true x y = refl
@@ -63,16 +63,16 @@ module _ (K : Domain) where
 
   pub collect-passed : (x t : ℕ) (m : Monomial) (ps : List (Passing K))
       → collect K plain_cmp (map (λ p. (cond p.stays (raise x (lower t p.falls m)) (lower t p.falls m), p.number)) ps)
-      ≡ passed ps (exponent m t) (λ e. one_term (raise x (with_exponent t e m))) (λ e. one_term (with_exponent t e m))
-  unfolding passed empty_sum
+      ≡ pass_sum ps (exponent m t) (λ e. one_term (raise x (with_exponent t e m))) (λ e. one_term (with_exponent t e m))
+  unfolding pass_sum empty_sum
   collect-passed x t m [] = refl
   collect-passed x t m (p ∷ ps) = Operators.collect_more K _ _ _ ∙ (λ i. plus K plain_cmp ((Operators.single_scale K _ p.number ∙ ap (scale K plain_cmp p.number) (cond-map one_term p.stays (raise x (lower t p.falls m)) (lower t p.falls m))) i) (collect-passed x t m ps i))
 
-  pub passed_same : (ps : List (Passing K)) (a : ℕ) (u v w z : ℕ → Operator K) → ((e : ℕ) → u e ≡ w e) → ((e : ℕ) → v e ≡ z e) → passed ps a u v ≡ passed ps a w z
-  passed_same ps a u v w z p q = λ i. passed ps a (λ e. p e i) (λ e. q e i)
+  pub passed_same : (ps : List (Passing K)) (a : ℕ) (u v w z : ℕ → Operator K) → ((e : ℕ) → u e ≡ w e) → ((e : ℕ) → v e ≡ z e) → pass_sum ps a u v ≡ pass_sum ps a w z
+  passed_same ps a u v w z p q = λ i. pass_sum ps a (λ e. p e i) (λ e. q e i)
 
-  pub passed-linear : {S : Operator K → Operator K} → IsLinear K plain_cmp S → (ps : List (Passing K)) (a : ℕ) (u v : ℕ → Operator K) → S (passed ps a u v) ≡ passed ps a (λ e. S (u e)) (λ e. S (v e))
-  unfolding passed
+  pub passed-linear : {S : Operator K → Operator K} → IsLinear K plain_cmp S → (ps : List (Passing K)) (a : ℕ) (u v : ℕ → Operator K) → S (pass_sum ps a u v) ≡ pass_sum ps a (λ e. S (u e)) (λ e. S (v e))
+  unfolding pass_sum
   passed-linear l [] a u v = Operators.linear-empty_sum K l
   passed-linear {S} l (p ∷ ps) a u v =
       let x = u (a - p.falls) in let y = v (a - p.falls) in
@@ -80,29 +80,29 @@ module _ (K : Domain) where
 
   -- ---- the rule of a letter x on t: x t = t x + alpha x + beta + gamma t
 
-  pub record Rule : Type 0 where
+  pub record CommutationRule : Type 0 where
     pub alpha : K.Number
     pub beta : K.Number
     pub gamma : K.Number
 
-  abbrev pub rule_of : VarKind → Rule
+  abbrev pub rule_of : VarKind → CommutationRule
   rule_of (Differential on) = record { alpha = K.zero; beta = K.one; gamma = K.zero }
   rule_of (Shift on step) = record { alpha = of_nat K.ring step; beta = K.zero; gamma = K.zero }
   rule_of (Delay on step) = record { alpha = K.minus (of_nat K.ring step); beta = K.zero; gamma = K.zero }
   rule_of kind = record { alpha = K.zero; beta = K.zero; gamma = K.zero }
 
   -- a, then alpha b, beta c and gamma d
-  unfoldable pub by_rule : Rule → Operator K → Operator K → Operator K → Operator K → Operator K
+  unfoldable pub by_rule : CommutationRule → Operator K → Operator K → Operator K → Operator K → Operator K
   by_rule r a b c d = plus K plain_cmp a (plus K plain_cmp (scale K plain_cmp r.alpha b) (plus K plain_cmp (scale K plain_cmp r.beta c) (scale K plain_cmp r.gamma d)))
 
   abbrev pub PassesMore : VarKind → Type 0
-  PassesMore k = (a : ℕ) (u v : ℕ → Operator K) → passed (passings K k (suc a)) (suc a) u v ≡ by_rule (rule_of k) (passed (passings K k a) a (λ e. u (suc e)) (λ e. v (suc e))) (passed (passings K k a) a u v) (v a) (v (suc a))
+  PassesMore k = (a : ℕ) (u v : ℕ → Operator K) → pass_sum (passings K k (suc a)) (suc a) u v ≡ by_rule (rule_of k) (pass_sum (passings K k a) a (λ e. u (suc e)) (λ e. v (suc e))) (pass_sum (passings K k a) a u v) (v a) (v (suc a))
 
   abbrev pub PassesNone : VarKind → Type 0
-  PassesNone k = (u v : ℕ → Operator K) → passed (passings K k 0) 0 u v ≡ u 0
+  PassesNone k = (u v : ℕ → Operator K) → pass_sum (passings K k 0) 0 u v ≡ u 0
 
-  passed_differential : (on a : ℕ) (u v : ℕ → Operator K) → passed (passings K (Differential on) a) a u v ≡ plus K plain_cmp (u a) (scale K plain_cmp (of_nat K.ring a) (v (pred a)))
-  unfolding passed passings
+  passed_differential : (on a : ℕ) (u v : ℕ → Operator K) → pass_sum (passings K (Differential on) a) a u v ≡ plus K plain_cmp (u a) (scale K plain_cmp (of_nat K.ring a) (v (pred a)))
+  unfolding pass_sum passings
   passed_differential on a u v =
       let p : a - 0 ≡ a = omega arith in
       let q : a - 1 ≡ pred a = omega arith in
@@ -128,15 +128,15 @@ module _ (K : Domain) where
   map_after f g [] = refl
   map_after f g (x ∷ xs) = ap (λ ys. f (g x) ∷ ys) (map_after f g xs)
 
-  passed_numbers : (F : ℕ → Passing K) (n a : ℕ) (u v : ℕ → Operator K) → passed (map F (numbers_to n)) a u v ≡ sum_to n (λ j. scale K plain_cmp (F j).number (cond (F j).stays (u (a - (F j).falls)) (v (a - (F j).falls))))
-  unfolding passed sum_to numbers_to
+  passed_numbers : (F : ℕ → Passing K) (n a : ℕ) (u v : ℕ → Operator K) → pass_sum (map F (numbers_to n)) a u v ≡ sum_to n (λ j. scale K plain_cmp (F j).number (cond (F j).stays (u (a - (F j).falls)) (v (a - (F j).falls))))
+  unfolding pass_sum sum_to numbers_to
   passed_numbers F zero a u v = Operators.plus_zero K _
-  passed_numbers F (suc n) a u v = ap (plus K plain_cmp _) (ap (λ ps. passed ps a u v) (map_after F suc (numbers_to n)) ∙ passed_numbers (λ j. F (suc j)) n a u v)
+  passed_numbers F (suc n) a u v = ap (plus K plain_cmp _) (ap (λ ps. pass_sum ps a u v) (map_after F suc (numbers_to n)) ∙ passed_numbers (λ j. F (suc j)) n a u v)
 
   unfoldable pub shift_term : K.Number → (ℕ → Operator K) → ℕ → ℕ → Operator K
   shift_term h u a j = scale K plain_cmp (K.times (of_nat K.ring (choose a j)) (power K.ring h j)) (u (a - j))
 
-  shift_sum : (h : K.Number) (a : ℕ) (u v : ℕ → Operator K) → passed (shift_passings K h a) a u v ≡ sum_to a (shift_term h u a)
+  shift_sum : (h : K.Number) (a : ℕ) (u v : ℕ → Operator K) → pass_sum (shift_passings K h a) a u v ≡ sum_to a (shift_term h u a)
   unfolding shift_passings shift_term
   shift_sum h a u v = passed_numbers _ a a u v
 
@@ -188,15 +188,15 @@ module _ (K : Domain) where
           ∙ sum_to_last a whole ∙ ap (plus K plain_cmp (sum_to a whole)) last ∙ Operators.plus_zero K _
           ∙ sum_to_same a whole _ up
 
-  shift_more : (h : K.Number) (a : ℕ) (u v : ℕ → Operator K) → passed (shift_passings K h (suc a)) (suc a) u v ≡ plus K plain_cmp (passed (shift_passings K h a) a (λ e. u (suc e)) (λ e. v (suc e))) (scale K plain_cmp h (passed (shift_passings K h a) a u v))
+  shift_more : (h : K.Number) (a : ℕ) (u v : ℕ → Operator K) → pass_sum (shift_passings K h (suc a)) (suc a) u v ≡ plus K plain_cmp (pass_sum (shift_passings K h a) a (λ e. u (suc e)) (λ e. v (suc e))) (scale K plain_cmp h (pass_sum (shift_passings K h a) a u v))
   shift_more h a u v = shift_sum h (suc a) u v ∙ shift_sum_more h u a ∙ sym (λ i. plus K plain_cmp (shift_sum h a (λ e. u (suc e)) (λ e. v (suc e)) i) (scale K plain_cmp h (shift_sum h a u v i)))
 
-  shift_none : (h : K.Number) (u v : ℕ → Operator K) → passed (shift_passings K h 0) 0 u v ≡ u 0
+  shift_none : (h : K.Number) (u v : ℕ → Operator K) → pass_sum (shift_passings K h 0) 0 u v ≡ u 0
   unfolding sum_to shift_term choose
   shift_none h u v = shift_sum h 0 u v ∙ simp (K.times_one, K.plus_zero, Operators.scale_one K)
 
   pub passes_none : (k : VarKind) → PassesNone k
-  unfolding passings passed
+  unfolding passings pass_sum
   passes_none Coordinate u v = Operators.plus_zero K _ ∙ Operators.scale_one K _
   passes_none Constant u v = Operators.plus_zero K _ ∙ Operators.scale_one K _
   passes_none Plain u v = Operators.plus_zero K _ ∙ Operators.scale_one K _
@@ -212,14 +212,14 @@ module _ (K : Domain) where
   unfolding by_rule
   nothing_more a b c d = simp (Operators.zero_scale K, Operators.plus_zero K)
 
-  pub raised_plain : (a : ℕ) (u v : ℕ → Operator K) → passed (record { number = K.one; falls = 0; stays = true } ∷ []) a u v ≡ u a
-  unfolding passed
+  pub raised_plain : (a : ℕ) (u v : ℕ → Operator K) → pass_sum (record { number = K.one; falls = 0; stays = true } ∷ []) a u v ≡ u a
+  unfolding pass_sum
   raised_plain a u v = let e : a - 0 ≡ a = omega arith in Operators.plus_zero K _ ∙ Operators.scale_one K _ ∙ ap u e
 
   unfoldable pub only_stays : List (Passing K)
   only_stays = record { number = K.one; falls = 0; stays = true } ∷ []
 
-  plain_more : (a : ℕ) (u v : ℕ → Operator K) → passed only_stays (suc a) u v ≡ by_rule record { alpha = K.zero; beta = K.zero; gamma = K.zero } (passed only_stays a (λ e. u (suc e)) (λ e. v (suc e))) (passed only_stays a u v) (v a) (v (suc a))
+  plain_more : (a : ℕ) (u v : ℕ → Operator K) → pass_sum only_stays (suc a) u v ≡ by_rule record { alpha = K.zero; beta = K.zero; gamma = K.zero } (pass_sum only_stays a (λ e. u (suc e)) (λ e. v (suc e))) (pass_sum only_stays a u v) (v a) (v (suc a))
   unfolding only_stays
   plain_more a u v = raised_plain (suc a) u v ∙ sym (raised_plain a (λ e. u (suc e)) (λ e. v (suc e))) ∙ nothing_more _ _ _ _
 

@@ -3,7 +3,7 @@ pub mod WellFounded
 pub mod Divisors
 pub mod Orders
 pub mod TermOrder
-mod Seen
+pub mod Seen
 pub mod Signatures
 pub mod Declared
 pub mod Stops

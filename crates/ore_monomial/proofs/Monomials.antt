@@ -6,22 +6,25 @@
 --     by_exponent          induction on one exponent
 --     IsBelow x m          m has no variable before x
 --     order_total, order_apart    both orders are total and tell monomials apart
---     order_sum            and are kept by products
+--     own_key, same_key    a monomial passes the test for itself, and no other does
+--     order_sum            the orders are kept by products
 --     product-..           the laws of products
-use Rattle.std.proofs.Common.{◌≡◌, ◌≢◌, ◌⊎◌, inl, inr, ⊎_elim, ℕ, zero, suc, pred, ◌+◌, ◌-◌, ◌<◌, ◌≤◌, max, List, [], ◌∷◌, length, get_or, replicate, reverse, refl, sym, ap, ◌∙◌, subst, true≢false, arith}
-use Rattle.std.proofs.lemmas.List.{get_or-set_same, get_or-set_other, set-set, set_comm, set-get_or, ext_get_or, get_or-replicate, get_or_past, reverse-reverse, length-reverse}
+--     degree-power, sum-power, power_is   a power of one variable, also as a list of exponents
+--     exponent-degree      no exponent is past the degree
+use Rattle.std.proofs.Common.{◌≡◌, ◌≢◌, ◌⊎◌, inl, inr, ⊎_elim, ℕ, zero, suc, pred, ◌+◌, ◌-◌, ◌<◌, ◌≤◌, max, List, [], ◌∷◌, length, get_or, replicate, reverse, refl, sym, ap, ◌∙◌, subst, true≢false, arith, set, true}
+use Rattle.std.proofs.lemmas.List.{get_or-set_same, get_or-set_other, set-set, set_comm, set-get_or, ext_get_or, get_or-replicate, get_or_past, reverse-reverse, length-reverse, length-set}
 use Rattle.std.proofs.lemmas.List.Sums.{sum_by-set, sum_by-cons, get_or-le-sum_by}
 use Rattle.std.proofs.lemmas.Cmp.{nat_cmp_total, nat_list_cmp_total, on_total, then_total, back_total}
 use Rattle.std.specs.List.{sum, AllZip}
 use Rattle.std.specs.declared.cmp.Ordering.{Ordering}
 use Rattle.std.specs.declared.cmp.Ordering.TheVariants.{Less, Equal, Greater}
-use Rattle.std.specs.Ordering.{nat_cmp, ordering_then, is_eq}
-use Rattle.std.specs.Cmp.{IsTotalOrder}
+use Rattle.std.specs.Ordering.{nat_cmp, ordering_then, is_eq, eq_by_cmp}
+use Rattle.std.specs.Cmp.{IsTotalOrder, tied_itself, Equal-is}
 use Rattle.std.specs.Cmp.Lexicographic.{slice_cmp}
 use Rattle.std.specs.FinMap.{IsAntisymmetric, slice_cmp-IsAntisymmetric, nat_cmp-IsAntisymmetric}
 use mathlib.Core.List.{reverse_aux}
 use Rattle.std.proofs.lemmas.Bool.Decides.{nat_tests}
-use native.Mathlib.Decide.{ℕ_discrete}
+use native.Mathlib.Decide.{dec_lt, ℕ_discrete}
 use Rattle.ore_monomial.specs.Monomial.{Monomial, exponent, degree, unit, with_exponent, raise, zip_with, by_exponents, product, lcm, quotient, monomial_of, plain_cmp, order_cmp}
 pub use Rattle.ore_monomial.specs.MonomialCode.{same_list, twelve_numbers, seen_again, plain_cmp_total}
 use Rattle.ore_monomial.specs.declared.order.Order.{Order}
@@ -131,6 +134,12 @@ by_first P empty more m = go (degree m) m (omega arith)
 pub plain_cmp_apart : IsAntisymmetric plain_cmp
 unfolding plain_cmp
 plain_cmp_apart m n e = same_list m n (slice_cmp-IsAntisymmetric nat_cmp-IsAntisymmetric m.exponents n.exponents e)
+
+pub own_key : (m : Monomial) → eq_by_cmp plain_cmp m m ≡ true
+own_key m = ap is_eq (tied_itself plain_cmp_total m)
+
+pub same_key : (m n : Monomial) → eq_by_cmp plain_cmp m n ≡ true → m ≡ n
+same_key m n e = plain_cmp_apart m n ((Equal-is _).0 e)
 
 pub order_total : (o : Order) → IsTotalOrder (order_cmp o)
 order_total DegLex = then_total (on_total degree nat_cmp_total) plain_cmp_total
@@ -272,3 +281,29 @@ product-raise x m n h = same_exponents _ _ (λ y l. by y (ℕ_discrete y x))
     by : (y : ℕ) → Dec (y ≡ x) → exponent (product (raise x m) n) y ≡ exponent (raise x (product m n)) y
     by y (yes e) = subst (λ y. exponent (product (raise x m) n) y ≡ exponent (raise x (product m n)) y) (sym e) (let a = exponent-product (raise x m) n x in let b = exponent-raise x m h in let c = exponent-raise x (product m n) h in let d = exponent-product m n x in omega arith)
     by y (no n') = let a = exponent-product (raise x m) n y in let b = exponent-raise_other x y m n' in let c = exponent-raise_other x y (product m n) n' in let d = exponent-product m n y in omega arith
+
+-- ---- powers of one variable
+
+degree_unit : degree unit ≡ 0
+unfolding degree unit
+degree_unit = refl
+
+pub degree-power : (x e : ℕ) → x < 12 → degree (with_exponent x e unit) ≡ e
+degree-power x zero h = ap (λ n. degree (with_exponent x n unit)) (sym (exponent-unit x)) ∙ ap degree (with_own x unit) ∙ degree_unit
+degree-power x (suc e) h = ap degree (sym (raise-with x e unit h)) ∙ degree-raise x (with_exponent x e unit) h ∙ ap suc (degree-power x e h)
+
+pub sum-power : (x e : ℕ) → x < 12 → sum (set (replicate 12 0) x e) ≡ e
+unfolding degree with_exponent unit
+sum-power x e h = degree-power x e h
+
+pub power_is : (x e : ℕ) → monomial_of (set (replicate 12 0) x e) ≡ with_exponent x e unit
+unfolding with_exponent unit
+power_is x e = same_list _ (with_exponent x e unit) (twelve_numbers (set (replicate 12 0) x e) (length-set (replicate 12 0) x e))
+
+pub exponent-degree : (m : Monomial) (x : ℕ) → exponent m x ≤ degree m
+unfolding exponent degree
+exponent-degree m x = by (dec_lt x 12)
+  where
+    by : Dec (x < 12) → get_or m.exponents x 0 ≤ sum m.exponents
+    by (yes h) = get_or-le-sum_by (λ e. e) m.exponents x 0 (subst (λ n. x < n) (sym m.twelve) h)
+    by (no n) = let z : get_or m.exponents x 0 ≡ 0 = exponent_past x m (omega arith) in omega arith

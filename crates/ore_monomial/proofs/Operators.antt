@@ -66,38 +66,38 @@ module _ (K : Domain) where
   pub single-plus : (m : Monomial) (j k : K.Number) → single K plain_cmp m (K.plus j k) ≡ plus K plain_cmp (single K plain_cmp m j) (single K plain_cmp m k)
   single-plus = Linear.single-plus K plain_cmp_total plain_cmp_apart
 
-  pub extend-single : (h : Monomial → Operator K) (m : Monomial) (k : K.Number) → linear_extension K plain_cmp h (single K plain_cmp m k) ≡ scale K plain_cmp k (h m)
-  extend-single = Linear.extend-single K plain_cmp_total plain_cmp_apart
+  pub linear_extension-single : (h : Monomial → Operator K) (m : Monomial) (k : K.Number) → linear_extension K plain_cmp h (single K plain_cmp m k) ≡ scale K plain_cmp k (h m)
+  linear_extension-single = Linear.linear_extension-single K plain_cmp_total plain_cmp_apart
 
-  pub extend_one : (h : Monomial → Operator K) (m : Monomial) → linear_extension K plain_cmp h (single K plain_cmp m K.one) ≡ h m
-  extend_one = Linear.extend_one K plain_cmp_total plain_cmp_apart
+  pub linear_extension_one : (h : Monomial → Operator K) (m : Monomial) → linear_extension K plain_cmp h (single K plain_cmp m K.one) ≡ h m
+  linear_extension_one = Linear.linear_extension_one K plain_cmp_total plain_cmp_apart
 
-  pub extend-none : (h : Monomial → Operator K) → linear_extension K plain_cmp h (empty_sum K plain_cmp) ≡ empty_sum K plain_cmp
-  extend-none = Linear.extend-none K plain_cmp_total plain_cmp_apart
+  pub linear_extension-empty_sum : (h : Monomial → Operator K) → linear_extension K plain_cmp h (empty_sum K plain_cmp) ≡ empty_sum K plain_cmp
+  linear_extension-empty_sum = Linear.linear_extension-empty_sum K plain_cmp_total plain_cmp_apart
 
-  pub extend-plus : (h : Monomial → Operator K) (f g : Operator K) → linear_extension K plain_cmp h (plus K plain_cmp f g) ≡ plus K plain_cmp (linear_extension K plain_cmp h f) (linear_extension K plain_cmp h g)
-  extend-plus = Linear.extend-plus K plain_cmp_total plain_cmp_apart
+  pub linear_extension-plus : (h : Monomial → Operator K) (f g : Operator K) → linear_extension K plain_cmp h (plus K plain_cmp f g) ≡ plus K plain_cmp (linear_extension K plain_cmp h f) (linear_extension K plain_cmp h g)
+  linear_extension-plus = Linear.linear_extension-plus K plain_cmp_total plain_cmp_apart
 
-  pub extend-scale : (h : Monomial → Operator K) (k : K.Number) (f : Operator K) → linear_extension K plain_cmp h (scale K plain_cmp k f) ≡ scale K plain_cmp k (linear_extension K plain_cmp h f)
-  extend-scale = Linear.extend-scale K plain_cmp_total plain_cmp_apart
+  pub linear_extension-scale : (h : Monomial → Operator K) (k : K.Number) (f : Operator K) → linear_extension K plain_cmp h (scale K plain_cmp k f) ≡ scale K plain_cmp k (linear_extension K plain_cmp h f)
+  linear_extension-scale = Linear.linear_extension-scale K plain_cmp_total plain_cmp_apart
 
-  pub extend_same : (h g : Monomial → Operator K) (f : Operator K) → ((m : Monomial) → h m ≡ g m) → linear_extension K plain_cmp h f ≡ linear_extension K plain_cmp g f
-  extend_same = Linear.extend_same K plain_cmp_total plain_cmp_apart
+  pub linear_extension_same : (h g : Monomial → Operator K) (f : Operator K) → ((m : Monomial) → h m ≡ g m) → linear_extension K plain_cmp h f ≡ linear_extension K plain_cmp g f
+  linear_extension_same = Linear.linear_extension_same K plain_cmp_total plain_cmp_apart
 
-  pub extend-extend : (g h : Monomial → Operator K) (f : Operator K) → linear_extension K plain_cmp g (linear_extension K plain_cmp h f) ≡ linear_extension K plain_cmp (λ m. linear_extension K plain_cmp g (h m)) f
-  extend-extend = Linear.extend-extend K plain_cmp_total plain_cmp_apart
+  pub linear_extension-linear_extension : (g h : Monomial → Operator K) (f : Operator K) → linear_extension K plain_cmp g (linear_extension K plain_cmp h f) ≡ linear_extension K plain_cmp (λ m. linear_extension K plain_cmp g (h m)) f
+  linear_extension-linear_extension = Linear.linear_extension-linear_extension K plain_cmp_total plain_cmp_apart
 
-  pub extend_plus : (h g : Monomial → Operator K) (f : Operator K) → linear_extension K plain_cmp (λ m. plus K plain_cmp (h m) (g m)) f ≡ plus K plain_cmp (linear_extension K plain_cmp h f) (linear_extension K plain_cmp g f)
-  extend_plus = Linear.extend_plus K plain_cmp_total plain_cmp_apart
+  pub linear_extension_plus : (h g : Monomial → Operator K) (f : Operator K) → linear_extension K plain_cmp (λ m. plus K plain_cmp (h m) (g m)) f ≡ plus K plain_cmp (linear_extension K plain_cmp h f) (linear_extension K plain_cmp g f)
+  linear_extension_plus = Linear.linear_extension_plus K plain_cmp_total plain_cmp_apart
 
-  pub extend_scale : (k : K.Number) (h : Monomial → Operator K) (f : Operator K) → linear_extension K plain_cmp (λ m. scale K plain_cmp k (h m)) f ≡ scale K plain_cmp k (linear_extension K plain_cmp h f)
-  extend_scale = Linear.extend_scale K plain_cmp_total plain_cmp_apart
+  pub linear_extension_scale : (k : K.Number) (h : Monomial → Operator K) (f : Operator K) → linear_extension K plain_cmp (λ m. scale K plain_cmp k (h m)) f ≡ scale K plain_cmp k (linear_extension K plain_cmp h f)
+  linear_extension_scale = Linear.linear_extension_scale K plain_cmp_total plain_cmp_apart
 
-  pub extend_singles : (f : Operator K) → linear_extension K plain_cmp (λ m. single K plain_cmp m K.one) f ≡ f
-  extend_singles = Linear.extend_singles K plain_cmp_total plain_cmp_apart
+  pub linear_extension_singles : (f : Operator K) → linear_extension K plain_cmp (λ m. single K plain_cmp m K.one) f ≡ f
+  linear_extension_singles = Linear.linear_extension_singles K plain_cmp_total plain_cmp_apart
 
-  pub extend_none : (f : Operator K) → linear_extension K plain_cmp (λ m. empty_sum K plain_cmp) f ≡ empty_sum K plain_cmp
-  extend_none = Linear.extend_none K plain_cmp_total plain_cmp_apart
+  pub linear_extension_empty_sum : (f : Operator K) → linear_extension K plain_cmp (λ m. empty_sum K plain_cmp) f ≡ empty_sum K plain_cmp
+  linear_extension_empty_sum = Linear.linear_extension_empty_sum K plain_cmp_total plain_cmp_apart
 
   pub collect_more : (m : Monomial) (k : K.Number) (ts : List (Monomial × K.Number)) → collect K plain_cmp ((m, k) ∷ ts) ≡ plus K plain_cmp (single K plain_cmp m k) (collect K plain_cmp ts)
   collect_more = Linear.collect_more K plain_cmp_total plain_cmp_apart
@@ -126,8 +126,8 @@ module _ (K : Domain) where
   pub linear_itself : IsLinear K plain_cmp (λ f. f)
   linear_itself = Linear.linear_itself K plain_cmp_total plain_cmp_apart
 
-  pub linear_extend : (h : Monomial → Operator K) → IsLinear K plain_cmp (linear_extension K plain_cmp h)
-  linear_extend = Linear.linear_extend K plain_cmp_total plain_cmp_apart
+  pub linear_extension-linear : (h : Monomial → Operator K) → IsLinear K plain_cmp (linear_extension K plain_cmp h)
+  linear_extension-linear = Linear.linear_extension-linear K plain_cmp_total plain_cmp_apart
 
   pub linear_after : {S T : Operator K → Operator K} → IsLinear K plain_cmp S → IsLinear K plain_cmp T → IsLinear K plain_cmp (λ f. S (T f))
   linear_after = Linear.linear_after K plain_cmp_total plain_cmp_apart
@@ -150,8 +150,8 @@ module _ (K : Domain) where
   pub same_sum : (f g : Operator K) → ((q : Monomial) → coefficient K plain_cmp f q ≡ coefficient K plain_cmp g q) → f ≡ g
   same_sum = FreeLaws.same_sum K plain_cmp_total plain_cmp_apart
 
-  pub total-extend : (w : Monomial → K.Number) (h : Monomial → Operator K) (f : Operator K) → total w (linear_extension K plain_cmp h f) ≡ total (λ m. total w (h m)) f
-  total-extend = FreeLaws.total-extend K plain_cmp_total plain_cmp_apart
+  pub total-linear_extension : (w : Monomial → K.Number) (h : Monomial → Operator K) (f : Operator K) → total w (linear_extension K plain_cmp h f) ≡ total (λ m. total w (h m)) f
+  total-linear_extension = FreeLaws.total-linear_extension K plain_cmp_total plain_cmp_apart
 
   pub total_same : (w v : Monomial → K.Number) (f : Operator K) → ((m : Monomial) → w m ≡ v m) → total w f ≡ total v f
   total_same = FreeLaws.total_same K plain_cmp_total plain_cmp_apart
@@ -183,8 +183,8 @@ module _ (K : Domain) where
   pub coefficient-other : (m : Monomial) (k : K.Number) (q : Monomial) → q ≢ m → coefficient K plain_cmp (single K plain_cmp m k) q ≡ K.zero
   coefficient-other = FreeLaws.coefficient-other K plain_cmp_total plain_cmp_apart
 
-  pub coefficient-extend : (h : Monomial → Operator K) (f : Operator K) (q : Monomial) → coefficient K plain_cmp (linear_extension K plain_cmp h f) q ≡ total (λ m. coefficient K plain_cmp (h m) q) f
-  coefficient-extend = FreeLaws.coefficient-extend K plain_cmp_total plain_cmp_apart
+  pub coefficient-linear_extension : (h : Monomial → Operator K) (f : Operator K) (q : Monomial) → coefficient K plain_cmp (linear_extension K plain_cmp h f) q ≡ total (λ m. coefficient K plain_cmp (h m) q) f
+  coefficient-linear_extension = FreeLaws.coefficient-linear_extension K plain_cmp_total plain_cmp_apart
 
   pub named_of_apart : (f : Operator K) (q : Monomial) → coefficient K plain_cmp f q ≢ K.zero → T (FreeLaws.named K plain_cmp_total plain_cmp_apart q (terms K plain_cmp f))
   named_of_apart = FreeLaws.named_of_apart K plain_cmp_total plain_cmp_apart

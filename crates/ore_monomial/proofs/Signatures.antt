@@ -1,4 +1,5 @@
 -- What follows of kinds without a fault.
+--     or_else_none            where two tests find no fault, neither does one of them
 --     HasNoFault              none of the faults of a kind is there
 --     has_no_fault_at         each variable of a signature has no fault
 --     count_at_most_12        there are at most twelve variables
@@ -20,7 +21,7 @@ use Rattle.ore_monomial.specs.declared.signature.VarKind.{VarKind}
 use Rattle.ore_monomial.specs.declared.signature.VarKind.TheVariants.{Coordinate, Constant, Plain, Differential, Shift, Delay}
 use Rattle.ore_monomial.specs.declared.signature.SignatureFault.{SignatureFault}
 
-or_else_none : (a b : Option SignatureFault) → or_else a b ≡ None → (a ≡ None) × (b ≡ None)
+pub or_else_none : (a b : Option SignatureFault) → or_else a b ≡ None → (a ≡ None) × (b ≡ None)
 or_else_none None b e = (refl, e)
 or_else_none (Some f) b e = absurd (cc)
 

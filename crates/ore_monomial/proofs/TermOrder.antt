@@ -7,11 +7,12 @@
 use Rattle.std.proofs.Common.{◌≡◌, ℕ, zero, suc, ◌+◌, ◌<◌, ◌≤◌, false, refl, sym, ap, ◌∙◌, subst, true≢false, arith}
 use Rattle.std.specs.declared.cmp.Ordering.{Ordering}
 use Rattle.std.specs.declared.cmp.Ordering.TheVariants.{Less, Equal, Greater}
-use Rattle.std.specs.Ordering.{is_gt, is_eq, is_lt, nat_cmp, ordering_then}
+use Rattle.std.specs.Ordering.{is_gt, is_lt, nat_cmp, ordering_then}
 use Rattle.std.specs.Cmp.{IsTotalOrder, tied_itself}
 use Rattle.std.specs.FinMap.{IsAntisymmetric, nat_cmp-IsAntisymmetric}
 use Rattle.std.proofs.lemmas.Cmp.{nat_cmp_total, on_total, then_total, back_total}
 use Rattle.std.proofs.lemmas.Bool.Decides.{nat_tests}
+use Rattle.ore_algebra.proofs.Orderings.{then_equal}
 use Rattle.ore_monomial.specs.Monomial.{Monomial, product, order_cmp}
 use Rattle.ore_monomial.specs.Term.{Term, term_cmp, shift}
 use Rattle.ore_monomial.specs.declared.order.Order.{Order}
@@ -24,11 +25,6 @@ term_total o = then_total (on_total (λ t. t.monomial) (order_total o)) (back_to
 
 pub same_term : (t u : Term) → t.monomial ≡ u.monomial → t.column ≡ u.column → t ≡ u
 same_term t u e f = λ i. record { monomial = e i; column = f i }
-
-then_equal : (a b : Ordering) → ordering_then a b ≡ Equal → (a ≡ Equal) × (b ≡ Equal)
-then_equal Less b e = absurd (true≢false (ap is_eq (sym e)))
-then_equal Equal b e = (refl, e)
-then_equal Greater b e = absurd (true≢false (ap is_eq (sym e)))
 
 pub term_apart : (o : Order) → IsAntisymmetric (term_cmp o)
 term_apart o t u e = let h = then_equal _ _ e in same_term t u (order_apart o t.monomial u.monomial h.0) (sym (nat_cmp-IsAntisymmetric u.column t.column h.1))

@@ -9,6 +9,8 @@
 --     plain_cmp                the order in which terms are stored
 --     order_cmp                the order of monomials, which is deg_lex or deg_rev_lex
 --     rank                     numbers that are ordered as the monomials are
+--     zip_with, by_exponents   a function of two lists, place by place; of two monomials, exponent by exponent
+--     length-zip_with          the length of such a list
 use Rattle.std.specs.Prelude.{◌≡◌, ℕ, suc, pred, ◌+◌, ◌-◌, ◌≤◌, max, List, [], ◌∷◌, length, get_or, set, replicate, map, reverse}
 use Rattle.std.specs.declared.cmp.Ordering.{Ordering}
 use Rattle.ore_monomial.specs.declared.order.Order.{Order}

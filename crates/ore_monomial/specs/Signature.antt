@@ -8,6 +8,11 @@
 --     kind_at         the kind of the variable with an index
 --     MonomialOf      a monomial in the variables of a signature
 --     IsLawful        each operator that acts names a coordinate before it
+--     is_differential_on  a kind is a differential operator of this coordinate
+--     last_group      the group of the last of some kinds
+--     lacks_coordinate, is_second, has_bad_step  the faults of one kind
+--     first_true, or_else  the first fault whose test is true; the first of two faults that is there
+--     fault_after     the first fault of kinds that follow others
 use Rattle.std.specs.Prelude.{◌≡◌, ℕ, ◌-◌, ◌<◌, ◌≤◌, Bool, true, false, ◌&&◌, not, nat_lt, nat_le, nat_eq, cond, List, [], ◌∷◌, ◌++◌, length, get_or}
 use Rattle.std.specs.List.{list_any}
 use Rattle.std.specs.declared.option.Option.{Option}

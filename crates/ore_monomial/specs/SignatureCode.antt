@@ -3,6 +3,11 @@
 --     signature_again      a signature is that of its kinds and its order
 --     same_signature       signatures with the same kinds and the same order are the same
 --     signature_code       the code of signatures, from the codes of kinds and of orders
+--     signature_at         the same, where the fault of the kinds is given
+--     signature_accepted   kinds without a fault are those of the signature made of them
+--     kind_numbers, kind_with, kind_again  a kind as three numbers, and back from them
+--     is_deg_lex, order_where, order_again  an order as a truth value, and back from it
+--     kind_code, order_code  the codes of kinds and of orders
 use Rattle.std.specs.Prelude.{◌≡◌, ℕ, zero, suc, Bool, true, false, List, []}
 use Rattle.std.specs.Coded.{Coded, coded_ℕ, coded_bool, coded_list, coded×, code_by}
 use Rattle.std.specs.declared.option.Option.{Option}

@@ -1,4 +1,5 @@
 -- What the program's limits say of a sum's numbers and of a fraction's parts.
+--     Decides-within                           the test against the program's greatest magnitude
 --     sum-left, sum-right, sum-num, sum-den    the four numbers of a sum that fits are in the range
 --     sum_fits_from                            a sum fits where its four numbers are in the range
 --     fits-num, fits-den, fits_from            the same of a fraction's two parts
@@ -11,7 +12,7 @@ use Rattle.ore_rational.specs.Fraction.{Fraction}
 use Rattle.ore_rational.specs.Within.{sum_gcd, sum_num, sum_den, sum_fits, fits}
 use Rattle.ore_rational.specs.Range.{InRange}
 
-Decides-within : (n : ℕ) → Decides (is_within program.magnitude n) (n < 2 ^ 127)
+pub Decides-within : (n : ℕ) → Decides (is_within program.magnitude n) (n < 2 ^ 127)
 Decides-within n = let t = leb_tells n 170141183460469231731687303715884105727 in grind (arith, t)
 
 module _ (p q : Fraction) where

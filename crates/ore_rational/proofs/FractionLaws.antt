@@ -17,8 +17,7 @@ use Rattle.ore_rational.specs.Within.{sum_gcd, sum_num, sum_rest, sum_den}
 use Rattle.ore_rational.specs.Fraction.{Fraction, over, abs-over, abs-neg, add, mul, neg, inverse}
 use Rattle.ore_rational.specs.Reduced.{same_fraction, num-reduce, den-reduce}
 use Rattle.ore_algebra.proofs.Normal.{◌⊕◌, ◌⊖◌, ◌⊗◌, v0, v1, v2, v3, v4, v5}
-pub use Rattle.ore_rational.specs.FractionRing.{in_wholes, cancel, Is, unique, same, change, over-mul, reduce_is, is_self, is_whole, is_add, is_mul, is_neg, zero-num, mul-inverse, fraction_discrete, fraction_ring, whole-add, whole-mul, whole-neg, of_nat-is_whole, of_int-is_whole, whole_injective, one_apart, of_nat-ne-zero, mul_comm, mul_apart}
-pub use Rattle.ore_rational.specs.Field.{rationals, rational_inverses}
+use Rattle.ore_rational.specs.FractionRing.{in_wholes, cancel, Is, unique, same, change, over-mul, reduce_is, is_self, is_whole, is_add, is_mul, is_neg, zero-num, mul-inverse, fraction_discrete, fraction_ring, whole-add, whole-mul, whole-neg, of_nat-is_whole, of_int-is_whole, whole_injective, one_apart, of_nat-ne-zero, mul_comm, mul_apart}
 
 -- ---- what a program computes with
 pub is_made : (r : Fraction) (n : ℤ) (d : ℕ) → r.num ≡ n → r.den ≡ d → Is r n d

@@ -4,7 +4,8 @@
 use Rattle.std.proofs.Common.{◌≡◌, ◌≢◌, zero, suc, ℤ, pos, negsuc, ◌<ℤ◌, ◌≤ℤ◌, neg_ℤ, arith, refl, ap}
 use Rattle.std.proofs.lemmas.Int.{ints}
 use Rattle.ore_rational.specs.Fraction.{Fraction, inverse, whole}
-use Rattle.ore_rational.proofs.FractionLaws.{inverse-above, inverse-below, zero-num}
+use Rattle.ore_rational.specs.FractionRing.{zero-num}
+use Rattle.ore_rational.proofs.FractionLaws.{inverse-above, inverse-below}
 
 pub inverse_negative : (p : Fraction) → p.num <ℤ pos 0 → ((inverse p).num ≡ neg_ℤ (pos p.den)) × (pos (inverse p).den ≡ neg_ℤ p.num)
 inverse_negative p h = by p.num refl h

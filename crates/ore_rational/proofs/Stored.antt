@@ -17,12 +17,12 @@ use Rattle.ore_rational.specs.Range.{InRange, fraction_eq}
 use Rattle.std.specs.Bool.{Decides}
 use Rattle.std.specs.Ordering.{int_eq}
 use Rattle.std.proofs.lemmas.Bool.Decides.{Decides-like, Decides-and, Decides-int_eq}
-use Rattle.ore_rational.specs.Stored.{IsStored, abs_pos, pos-abs}
+use Rattle.ore_rational.specs.Stored.{IsStoredFraction, abs_pos, pos-abs}
 
-pub stored_num : (a : Inside) (p : Fraction) → reduce a.numerator (nat_abs a.denominator) ≡ p → IsStored a → a.numerator ≡ p.num
+pub stored_num : (a : Inside) (p : Fraction) → reduce a.numerator (nat_abs a.denominator) ≡ p → IsStoredFraction a → a.numerator ≡ p.num
 stored_num a p e h = sym (num-reduce a.numerator (nat_abs a.denominator) (abs_pos a.denominator h.above) h.lowest) ∙ ap (λ r. r.num) e
 
-pub stored_den : (a : Inside) (p : Fraction) → reduce a.numerator (nat_abs a.denominator) ≡ p → IsStored a → a.denominator ≡ pos p.den
+pub stored_den : (a : Inside) (p : Fraction) → reduce a.numerator (nat_abs a.denominator) ≡ p → IsStoredFraction a → a.denominator ≡ pos p.den
 stored_den a p e h = sym (pos-abs a.denominator h.above) ∙ ap pos (sym (den-reduce a.numerator (nat_abs a.denominator) (abs_pos a.denominator h.above) h.lowest)) ∙ ap (λ r. pos r.den) e
 
 pub back : (z : ℤ) → FitsSigned w128 z → to_z w128 (of_z w128 z) ≡ z

@@ -17,7 +17,7 @@ use Rattle.ore_rational.specs.Reduced.{same_fraction}
 use Rattle.ore_rational.specs.Range.{InRange}
 use Rattle.ore_rational.specs.Within.{sum_num, sum_den, sum_fits, fits}
 use Rattle.ore_rational.proofs.Bounds.{sum-num, sum_fits_from, fits-num, fits_from}
-use Rattle.ore_rational.proofs.FractionLaws.{in_wholes, whole-add, whole-mul}
+use Rattle.ore_rational.specs.FractionRing.{in_wholes, whole-add, whole-mul}
 
 pub one-gcd : (b : ℕ) → gcd 1 b ≡ 1
 one-gcd b = same_from_IsGcd 1 b (gcd 1 b) 1 (gcd_is 1 b) (dvd_refl 1, one-dvd b, λ d u v. u)

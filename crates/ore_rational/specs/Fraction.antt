@@ -6,6 +6,9 @@
 --     add, mul, neg, sub         sums and products by the rules for n / d, reduced
 --     inverse, div               1 / p and p / q, for p and q that are not 0
 --     quotient                   n / d for whole numbers of either sign
+--     unit_over                  d / n for whole numbers n of either sign
+--     abs-neg, abs-over          absolute values of a negative number, and of a quotient
+--     gcd-pos, den-pos, over-reduced  n and d over their greatest common divisor are in lowest terms
 use Rattle.std.specs.Prelude.{◌≡◌, ℕ, zero, suc, ◌*◌, ◌/◌, ◌<◌, ℤ, pos, negsuc, ◌+ℤ◌, ◌*ℤ◌, neg_ℤ, nat_abs, int_div}
 use Rattle.std.proofs.Common.{refl, subst, zero-lt-suc}
 use Rattle.std.proofs.lemmas.Nat.Gcd.{dvd_refl}

@@ -7,6 +7,12 @@
 --     fraction_ring                    the ring of fractions
 --     whole-add, whole-mul, ..         whole numbers keep their sums and products as fractions
 --     mul-inverse, mul_apart, ..       what makes the ring a field
+--     cancel, change                   a factor above 0 is dropped; the same fraction over another denominator
+--     over-mul, zero-num               a quotient times its divisor; a fraction with numerator 0
+--     reduce_is, is_self, is_whole, is_neg  what reduced pairs, fractions, whole numbers and negatives are
+--     whole-neg, of_nat-is_whole, of_int-is_whole  negatives and sums of ones as fractions
+--     whole_injective, one_apart, of_nat-ne-zero  different whole numbers are different fractions
+--     mul_comm                         products of fractions don't depend on the order
 use Rattle.std.proofs.Common.{◌≡◌, ℕ, zero, suc, ◌+◌, ◌*◌, ◌/◌, ◌<◌, ℤ, pos, negsuc, ◌+ℤ◌, ◌*ℤ◌, neg_ℤ, nat_abs, arith, refl, sym, ap, ap₂, ◌∙◌, subst, zero-lt-suc, mul-pos, ◌≢◌, List, [], ◌∷◌}
 use Rattle.std.proofs.lemmas.Int.{unsigned_abs-mul}
 use native.Mathlib.Nat.{div-mul_cancel, dvd_antisymm, dvd-mul_left}

@@ -3,6 +3,9 @@
 --     gcd_is                  it divides both, and every number that divides both divides it
 --     gauss                   a divisor of a c that shares nothing with a divides c
 --     coprime_over, ..        numbers that share no divisor but 1, and how such numbers arise
+--     gcd-scaled              the greatest common divisor of multiples
+--     coprime-mul, coprime_parts  coprime to a product; divisors of coprime numbers
+--     dvd-over                a quotient divides what was divided
 use Rattle.std.specs.Prelude.{◌≡◌, ℕ, zero, suc, ◌+◌, ◌*◌, ◌/◌, ◌%◌, ◌<◌, ◌≤◌}
 use Rattle.std.proofs.Common.{arith, sym, ap, subst, mul-one, one-mul, zero-mul, mul-zero, mod-lt, div-add-mod', mul-lt-mul_of_pos_right, zero-lt-suc}
 use Rattle.std.proofs.lemmas.Nat.{mod-mul-add}

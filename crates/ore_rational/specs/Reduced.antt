@@ -2,6 +2,7 @@
 --     same_fraction            equal parts make equal fractions
 --     num-reduce, den-reduce   the parts of what `reduce` makes of a reduced pair
 --     fraction_code            a fraction is stored as its two parts
+--     reduce-self              the parts of a fraction, reduced, are that fraction
 use Rattle.std.specs.Prelude.{◌≡◌, ℕ, zero, suc, ◌/◌, ◌<◌, ℤ, pos, negsuc, nat_abs}
 use Rattle.std.proofs.Common.{arith, ap, refl, ◌∙◌}
 use Rattle.std.proofs.lemmas.Nat.Gcd.{same_from_IsGcd}

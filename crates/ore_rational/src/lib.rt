@@ -54,11 +54,11 @@ impl Model for Rational {
 
     ghost coded = { fraction_code };
 
-    ghost use Rattle.ore_rational.specs.Stored.{IsStored, stored_back};
+    ghost use Rattle.ore_rational.specs.Stored.{IsStoredFraction, stored_back};
 
     ghost view = { λ a. reduce a.numerator (nat_abs a.denominator) };
 
-    ghost invariant = { IsStored };
+    ghost invariant = { IsStoredFraction };
 
     ghost inverse = { λ q. record { numerator = q.num; denominator = pos q.den } };
 

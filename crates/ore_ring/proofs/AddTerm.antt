@@ -8,7 +8,7 @@ use Rattle.std.specs.declared.result.Result.TheVariants.{Ok, Err}
 use Rattle.ore_algebra.specs.Free.{empty_sum, single, plus, terms}
 use Rattle.ore_algebra.specs.Limits.{program, guard, Overflow}
 use Rattle.ore_rational.specs.Fraction.{Fraction, whole}
-use Rattle.ore_rational.proofs.FractionLaws.{rationals}
+use Rattle.ore_rational.specs.Field.{rationals}
 use Rattle.ore_monomial.specs.Gives.{Turns}
 use Rattle.ore_monomial.specs.Monomial.{Monomial, plain_cmp}
 use Rattle.ore_monomial.specs.declared.order.Order.{Order}

@@ -8,7 +8,7 @@ use Rattle.ore_algebra.specs.Free.{empty_sum, single}
 use Rattle.ore_algebra.specs.Limits.{Limits, unlimited, ◌>>=◌, fold_within, IsAtMost}
 use Rattle.ore_algebra.proofs.LimitLaws.{most_fold, value_from}
 use Rattle.ore_rational.specs.Fraction.{whole, mul}
-use Rattle.ore_rational.proofs.FractionLaws.{rationals}
+use Rattle.ore_rational.specs.Field.{rationals}
 use Rattle.ore_monomial.specs.Monomial.{plain_cmp}
 use Rattle.ore_monomial.specs.Signature.{Signature}
 use Rattle.ore_monomial.specs.LetterRule.{Operator, monomial_times}

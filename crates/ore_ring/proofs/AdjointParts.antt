@@ -23,9 +23,9 @@ use Rattle.ore_ring.specs.Product.{times}
 use Rattle.ore_ring.specs.Adjoint.{sign, adjoint_letter_times, adjoint_monomial, adjoint}
 use Rattle.ore_ring.specs.AdjointWithin.{kept_exponents, part, coordinate_part, letter_part, sign_of}
 use Rattle.ore_ring.specs.Belongs.{OperatorOf}
-use Rattle.ore_ring.specs.Meets as meets
+use Rattle.ore_ring.specs.Meets.{MeetsNone}
 use Rattle.ore_ring.proofs.Product.{times-linear_left, times-linear_right, times_one_left}
-use Rattle.ore_ring.proofs.Support.{AtMost, own_other, exponent-raise_any, most_scale, most_single, most_extend, times_most}
+use Rattle.ore_ring.proofs.Support.{AtMost, own_other, exponent-raise_any, most_scale, most_single, most_linear_extension, times_most}
 use Rattle.ore_ring.proofs.Adjoints.{A, adjoint-raise, adjoint_unit, adjoint_one, adjoint-times}
 use Rattle.ore_ring.proofs.Belonging.{clear_of, of_clear}
 
@@ -140,10 +140,6 @@ module _ (s : Signature) where
 -- ---- products of monomials in which no letter meets its coordinate
 
 module _ (K : Domain) (s : Signature) where
-  -- no letter of m acts on a coordinate of n
-  abbrev pub MeetsNone : Monomial → Monomial → Type 0
-  MeetsNone = meets.MeetsNone s
-
   still_there : (x y : ℕ) (m : Monomial) → x < 12 → exponent m y ≢ 0 → exponent (raise x m) y ≢ 0
   still_there x y m xl n e = let a = exponent-raise_any x y m xl in n (omega arith)
 
@@ -157,8 +153,8 @@ module _ (K : Domain) (s : Signature) where
       by true e = letter_clear K s x m (h e)
       by false e = letter_still K s x m e
 
-  pub clear_product : (m n : Monomial) → MeetsNone m n → monomial_times K s m (one_term K n) ≡ one_term K (product m n)
-  clear_product m n = by_first (λ m. MeetsNone m n → monomial_times K s m (one_term K n) ≡ one_term K (product m n))
+  pub clear_product : (m n : Monomial) → MeetsNone s m n → monomial_times K s m (one_term K n) ≡ one_term K (product m n)
+  clear_product m n = by_first (λ m. MeetsNone s m n → monomial_times K s m (one_term K n) ≡ one_term K (product m n))
       (λ c. monomial_unit K s (one_term K n) ∙ ap (one_term K) (sym (product-unit n)))
       (λ x xl m b ih c.
       monomial-raise K s x m (one_term K n) xl b
@@ -202,8 +198,8 @@ module _ (K : Domain) (s : Signature) where
   times-scaled : (j k : K.Number) (f g : Operator K) → times K s (scale K plain_cmp j f) (scale K plain_cmp k g) ≡ scale K plain_cmp (K.times j k) (times K s f g)
   times-scaled j k f g = (times-linear_left K s (scale K plain_cmp k g)).scale j f ∙ ap (scale K plain_cmp j) ((times-linear_right K s f).scale k g) ∙ Operators.scale-scale K j k (times K s f g)
 
-  pub adjoint_clear : (m : Monomial) → MeetsNone m m → adjoint_monomial K s m ≡ scale K plain_cmp (sign_of K s m) (one_term K m)
-  adjoint_clear = by_first (λ m. MeetsNone m m → adjoint_monomial K s m ≡ scale K plain_cmp (sign_of K s m) (one_term K m))
+  pub adjoint_clear : (m : Monomial) → MeetsNone s m m → adjoint_monomial K s m ≡ scale K plain_cmp (sign_of K s m) (one_term K m)
+  adjoint_clear = by_first (λ m. MeetsNone s m m → adjoint_monomial K s m ≡ scale K plain_cmp (sign_of K s m) (one_term K m))
       (λ c. adjoint_unit K s ∙ sym (ap (λ k. scale K plain_cmp k (one_term K unit)) sign_unit ∙ Operators.scale_one K (one_term K unit)))
       (λ x xl m b ih c.
       adjoint-raise K s (lawful s) x m xl b
@@ -212,7 +208,7 @@ module _ (K : Domain) (s : Signature) where
       ∙ (λ i. scale K plain_cmp (K.times_comm (sign_of K s m) (sign K (kind_at s x)) i) ((times_one_left K s m (one_term K (raise x unit)) ∙ clear_product m (raise x unit) (λ y h k. meets x y m xl c h k) ∙ ap (one_term K) (turned x m xl)) i))
       ∙ ap (λ k. scale K plain_cmp k (one_term K (raise x m))) (sym (sign-raise x m xl)))
     where
-      meets : (x y : ℕ) (m : Monomial) → x < 12 → MeetsNone (raise x m) (raise x m) → is_acting (kind_at s y) ≡ true → exponent m y ≢ 0 → exponent (raise x unit) (coordinate_of (kind_at s y)) ≡ 0
+      meets : (x y : ℕ) (m : Monomial) → x < 12 → MeetsNone s (raise x m) (raise x m) → is_acting (kind_at s y) ≡ true → exponent m y ≢ 0 → exponent (raise x unit) (coordinate_of (kind_at s y)) ≡ 0
       meets x y m xl c h k =
           let t = coordinate_of (kind_at s y) in
           let z = c y h (still_there x y m xl k) in
@@ -226,10 +222,10 @@ module _ (K : Domain) (s : Signature) where
 
   -- ---- any monomial
 
-  coordinates_meet : (m n : Monomial) → MeetsNone (coordinate_part s m) n
+  coordinates_meet : (m n : Monomial) → MeetsNone s (coordinate_part s m) n
   coordinates_meet m n x h k = absurd (k (part_out (λ x. is_coordinate (kind_at s x)) m x (acting_apart (kind_at s x) h)))
 
-  letters_meet : (m n : Monomial) → MeetsNone n (letter_part s m)
+  letters_meet : (m n : Monomial) → MeetsNone s n (letter_part s m)
   letters_meet m n x h k = part_out (λ x. not (is_coordinate (kind_at s x))) m _ (ap not (coordinate_is s x h))
 
   pub adjoint_split : (m : Monomial) → adjoint_monomial K s m ≡ scale K plain_cmp (sign_of K s m) (monomial_times K s (letter_part s m) (one_term K (coordinate_part s m)))
@@ -262,4 +258,4 @@ module _ (K : Domain) (s : Signature) where
 
   pub of_adjoint : (f : Operator K) → OperatorOf K s f → OperatorOf K s (adjoint K s f)
   unfolding adjoint
-  of_adjoint f a = of_clear K s _ (λ y l. most_extend K y 0 0 (adjoint_monomial K s) f (λ m h. monomial_small m y h) (clear_of K s f a y l))
+  of_adjoint f a = of_clear K s _ (λ y l. most_linear_extension K y 0 0 (adjoint_monomial K s) f (λ m h. monomial_small m y h) (clear_of K s f a y l))

@@ -16,7 +16,7 @@ use Rattle.ore_algebra.specs.Limits.{Cause, program, ◌>>=◌, fold_within}
 use Rattle.ore_algebra.specs.Ring.{power}
 use Rattle.ore_algebra.proofs.DomainLaws as Numbers
 use Rattle.ore_rational.specs.Fraction.{Fraction, whole, mul, neg}
-use Rattle.ore_rational.proofs.FractionLaws.{rationals}
+use Rattle.ore_rational.specs.Field.{rationals}
 use Rattle.ore_monomial.specs.Monomial.{Monomial, monomial_of, exponent, degree, quotient, Divides, plain_cmp}
 use Rattle.ore_monomial.specs.MonomialCode.{twelve_numbers}
 use Rattle.ore_monomial.specs.Signature.{Signature, kind_at, is_coordinate}
@@ -24,7 +24,7 @@ use Rattle.ore_monomial.specs.LetterRule.{Operator}
 use Rattle.ore_monomial.specs.declared.stop.RingStop.{RingStop}
 use Rattle.ore_monomial.specs.Gives.{Gives}
 use Rattle.ore_monomial.proofs.Divisors.{degree-divides}
-use Rattle.ore_monomial.proofs.Monomials.{same_exponents, seen_exponent, exponent-quotient, degree-product}
+use Rattle.ore_monomial.proofs.Monomials.{same_exponents, seen_exponent, exponent-quotient, degree-product, exponent-degree}
 use Rattle.ore_ring.specs.AdjointWithin.{part, coordinate_part, letter_part, adjoint_term_within, adjoint_within}
 use Rattle.ore_ring.specs.Belongs.{Belongs, OperatorOf}
 use Rattle.ore_ring.specs.Contributions.{add_terms_within, push_adjoint}
@@ -34,7 +34,6 @@ use Rattle.ore_ring.proofs.AdjointLaws.{adjoint_value}
 use Rattle.ore_ring.proofs.AdjointParts.{exponent-part, part_in, part_out, split, of_adjoint}
 use Rattle.ore_ring.proofs.Contributed.{adjoint_collected}
 use Rattle.ore_ring.proofs.OpSums.{minus_one_times}
-use Rattle.ore_ring.proofs.Support.{exponent-le-degree}
 
 module _ (s : Signature) (m : Monomial) where
   abbrev pub Before : ℕ → List ℕ → Type 0
@@ -98,7 +97,7 @@ module _ (s : Signature) (m : Monomial) where
     where
       by : (b : Bool) (x : ℕ) → test x ≡ b → exponent m x ≡ exponent (part test m) x
       by true x e = sym (part_in test m x e)
-      by false x e = let a = part_out test m x e in let d = exponent-le-degree rationals m x in omega arith
+      by false x e = let a = part_out test m x e in let d = exponent-degree m x in omega arith
 
 -- ---- powers of -1
 

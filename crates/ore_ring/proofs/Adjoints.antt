@@ -21,7 +21,7 @@ use Rattle.ore_ring.specs.Adjoint.{sign, adjoint_letter_times, adjoint_power_tim
 use Rattle.ore_algebra.proofs.DomainLaws as Numbers
 use Rattle.ore_algebra.proofs.Linear.{IsLinear}
 use Rattle.ore_monomial.proofs.Monomials.{exponent-raise_other, exponent-unit, by_first, IsBelow}
-use Rattle.ore_monomial.proofs.Letters.{one_term, by_rule, Rule, rule_of}
+use Rattle.ore_monomial.proofs.Letters.{one_term, by_rule, CommutationRule, rule_of}
 use Rattle.ore_monomial.proofs.Commute.{plain_rule, by_plain, no_gamma, rule, rule_other, rule_still, rule_acting, linear-by_rule, letter-linear, letter_one, swap}
 use Rattle.ore_monomial.proofs.MonomialProducts.{monomial_unit, monomial-raise, letter_first}
 use Rattle.ore_ring.proofs.Product.{times-linear_left, times-linear_right, times_one_left, letter-times, times_assoc, one-times, times-one}
@@ -51,7 +51,7 @@ module _ (K : Domain) where
   sign_coordinate = refl
 
   -- to turn the sign of the coordinate turns a rule round
-  turned_rule : (r : Rule K) → r.gamma ≡ K.zero → (Z X U Y V : Operator K) → by_rule K r (scale K plain_cmp (K.minus K.one) (by_rule K r Z X U Y)) X U V ≡ scale K plain_cmp (K.minus K.one) Z
+  turned_rule : (r : CommutationRule K) → r.gamma ≡ K.zero → (Z X U Y V : Operator K) → by_rule K r (scale K plain_cmp (K.minus K.one) (by_rule K r Z X U Y)) X U V ≡ scale K plain_cmp (K.minus K.one) Z
   unfolding by_rule
   turned_rule r e Z X U Y V =
       ap (plus K plain_cmp _) (ap (λ f. plus K plain_cmp (scale K plain_cmp r.alpha X) (plus K plain_cmp (scale K plain_cmp r.beta U) f)) (gone V ∙ sym (gone Y)))
@@ -81,11 +81,11 @@ module _ (K : Domain) (s : Signature) where
 
   pub adjoint-linear : IsLinear K plain_cmp (adjoint K s)
   unfolding adjoint
-  adjoint-linear = Operators.linear_extend K (adjoint_monomial K s)
+  adjoint-linear = Operators.linear_extension-linear K (adjoint_monomial K s)
 
   pub adjoint_one : (m : Monomial) → adjoint K s (one_term K m) ≡ adjoint_monomial K s m
   unfolding adjoint
-  adjoint_one m = Operators.extend_one K (adjoint_monomial K s) m
+  adjoint_one m = Operators.linear_extension_one K (adjoint_monomial K s) m
 
   letters_none : (x n : ℕ) (g : Operator K) → adjoint_letters_times K s x (replicate n 0) g ≡ g
   unfolding adjoint_letters_times adjoint_power_times
@@ -155,10 +155,10 @@ module _ (K : Domain) (s : Signature) (lawful : IsLawful s) where
       two : (z w : ℕ) → z < 12 → times K s (A z) (A w) ≡ scale K plain_cmp (K.times (sign K (kind_at s z)) (sign K (kind_at s w))) (letter_times K s z (letter_times K s w one))
       two z w zl = adjoint_letter_pass z zl one (A w) ∙ ap (adjoint_letter_times K s z) (one-times K s lawful (A w)) ∙ twice K s z w one
 
-      goal : Rule K → Type 0
+      goal : CommutationRule K → Type 0
       goal r = times K s (A y) (A x) ≡ by_rule K r (times K s (A x) (A y)) (A x) one (A y)
 
-      ordered : (r : Rule K) → rule K s x y ≡ r → letter_times K s x (letter_times K s y one) ≡ by_rule K r (letter_times K s y (letter_times K s x one)) (letter_times K s x one) one (letter_times K s y one)
+      ordered : (r : CommutationRule K) → rule K s x y ≡ r → letter_times K s x (letter_times K s y one) ≡ by_rule K r (letter_times K s y (letter_times K s x one)) (letter_times K s x one) one (letter_times K s y one)
       ordered r e = swap K s lawful x y xl yx one ∙ ap (λ r. by_rule K r (letter_times K s y (letter_times K s x one)) (letter_times K s x one) one (letter_times K s y one)) e
 
       plain : rule K s x y ≡ plain_rule K → goal (rule K s x y)

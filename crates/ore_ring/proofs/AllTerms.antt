@@ -11,14 +11,14 @@ use Rattle.std.specs.List.{list_all}
 use Rattle.std.specs.FinMap.{IsAntisymmetric, is_sorted, entries, entries_sorted}
 use Rattle.std.specs.FinMap.Entries.{below_all}
 use Rattle.ore_rational.specs.Fraction.{Fraction, whole, add}
-use Rattle.ore_rational.proofs.FractionLaws.{rationals}
+use Rattle.ore_rational.specs.Field.{rationals}
 use Rattle.ore_algebra.specs.Free.{NonZero, Free, terms, collect, coefficient, sum_at}
 use Rattle.ore_algebra.proofs.DomainLaws.{zero_plus}
 use Rattle.ore_algebra.proofs.FreeLaws
 use Rattle.ore_monomial.specs.Monomial.{Monomial, plain_cmp}
 use Rattle.ore_monomial.specs.declared.order.Order.{Order}
 use Rattle.ore_monomial.specs.LetterRule.{Operator}
-use Rattle.ore_monomial.proofs.Monomials.{plain_cmp_total, plain_cmp_apart}
+use Rattle.ore_monomial.proofs.Monomials.{plain_cmp_total, plain_cmp_apart, same_key, own_key}
 use Rattle.ore_monomial.proofs.Operators
 use Rattle.ore_ring.specs.Terms.{Term, Terms, falling, AreApart, IsFalling}
 use Rattle.ore_monomial.specs.Numbers.{back, falling_over}
@@ -89,12 +89,6 @@ falls-falling o f = record { falls = sorted-terms (back o) _; apart = apart-term
 module _ (test : Term → Bool) where
   abbrev pub PassesAt : Terms → Type 0
   PassesAt ts = (q : Monomial) → sum_at rationals plain_cmp q ts ≢ whole (pos 0) → test (q, sum_at rationals plain_cmp q ts) ≡ true
-
-  same_key : (q m : Monomial) → eq_by_cmp plain_cmp q m ≡ true → q ≡ m
-  same_key q m e = FreeLaws.same_key rationals plain_cmp_total plain_cmp_apart q m e
-
-  own_key : (m : Monomial) → eq_by_cmp plain_cmp m m ≡ true
-  own_key m = ap is_eq (Rattle.std.specs.Cmp.tied_itself plain_cmp_total m)
 
   pub passes_of_all : (ts : Terms) → AreDistinct ts → list_all test ts ≡ true → PassesAt ts
   unfolding sum_at

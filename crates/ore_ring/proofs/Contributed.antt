@@ -11,7 +11,7 @@ use Rattle.ore_algebra.proofs.ResultLaws.{bind_assoc}
 use Rattle.ore_algebra.specs.Limits.{Limits, Cause, Overflow, Degree, ◌>>=◌, guard, fold_within}
 use Rattle.ore_rational.specs.Fraction.{Fraction, whole, mul}
 use Rattle.ore_rational.specs.Within.{sum_fits, sum_within, fits, product_within}
-use Rattle.ore_rational.proofs.FractionLaws.{rationals}
+use Rattle.ore_rational.specs.Field.{rationals}
 use Rattle.ore_monomial.specs.Monomial.{Monomial, plain_cmp}
 use Rattle.ore_monomial.specs.Signature.{Signature}
 use Rattle.ore_monomial.specs.LetterRule.{Operator}

@@ -18,6 +18,7 @@ use Rattle.ore_monomial.specs.Monomial.{Monomial, order_cmp, degree, plain_cmp}
 use Rattle.ore_monomial.specs.declared.order.Order.{Order}
 use Rattle.ore_monomial.specs.declared.order.Order.TheVariants.{DegLex, DegRevLex}
 use Rattle.std.specs.Cmp.Lexicographic.{slice_cmp}
+use Rattle.std.proofs.lemmas.Bool.{and_from}
 use Rattle.ore_algebra.specs.Limits.{program}
 use Rattle.ore_ring.specs.Terms.{Term, Terms, IsFalling}
 use Rattle.ore_monomial.specs.Numbers.{back}
@@ -46,17 +47,14 @@ row_fits o d u (v ∷ us) h k =
     let g = graded o v.0 u.0 (less_of _ (first _ _ h)) in
     λ i. small (d + degree v.0) (omega arith) i && row_fits o d u us (second _ _ h) k i
 
-both_true : (a b : Bool) → a ≡ true → b ≡ true → (a && b) ≡ true
-both_true a b p q = λ i. p i && q i
-
 whole_row : (o : Order) (d : ℕ) (u : Term) (us : Terms) → T (below_all (back o) u.0 us) → d + degree u.0 ≤ 32767 → list_all (λ v. nat_le (d + degree v.0) 32767) (u ∷ us) ≡ true
-whole_row o d u us h k = both_true _ _ (small _ k) (row_fits o d u us h k)
+whole_row o d u us h k = and_from _ _ (small _ k) (row_fits o d u us h k)
 
 rows_fit : (o : Order) (t u : Term) (ts us : Terms) → T (below_all (back o) t.0 ts) → T (below_all (back o) u.0 us) → degree t.0 + degree u.0 ≤ 32767 → list_all (λ s. list_all (λ v. nat_le (degree s.0 + degree v.0) 32767) (u ∷ us)) ts ≡ true
 rows_fit o t u [] us h k l = refl
 rows_fit o t u (s ∷ ts) us h k l =
     let g = graded o s.0 t.0 (less_of _ (first _ _ h)) in
-    both_true _ _ (whole_row o (degree s.0) u us k (omega arith)) (rows_fit o t u ts us (second _ _ h) k l)
+    and_from _ _ (whole_row o (degree s.0) u us k (omega arith)) (rows_fit o t u ts us (second _ _ h) k l)
 
 pub first_decides : (o : Order) (t u : Term) (ts us : Terms) → IsFalling o (t ∷ ts) → IsFalling o (u ∷ us) → degrees_fit program (t ∷ ts) (u ∷ us) ≡ nat_le (degree t.0 + degree u.0) 32767
 unfolding degrees_fit
@@ -66,7 +64,7 @@ first_decides o t u ts us h k = by (nat_le (degree t.0 + degree u.0) 32767) refl
         → ((nat_le (degree t.0 + degree u.0) 32767 && list_all (λ v. nat_le (degree t.0 + degree v.0) 32767) us) && list_all (λ s. list_all (λ v. nat_le (degree s.0 + degree v.0) 32767) (u ∷ us)) ts) ≡ b
     by true e =
         let l = small_back _ e in
-        both_true _ _ (both_true _ _ e (row_fits o (degree t.0) u us (first _ _ k.falls) l)) (rows_fit o t u ts us (first _ _ h.falls) (first _ _ k.falls) l)
+        and_from _ _ (and_from _ _ e (row_fits o (degree t.0) u us (first _ _ k.falls) l)) (rows_fit o t u ts us (first _ _ h.falls) (first _ _ k.falls) l)
     by false e = ap (λ b. (b && list_all (λ v. nat_le (degree t.0 + degree v.0) 32767) us) && list_all (λ s. list_all (λ v. nat_le (degree s.0 + degree v.0) 32767) (u ∷ us)) ts) e
 
 pub none_decides : (us : Terms) → degrees_fit program [] us ≡ true

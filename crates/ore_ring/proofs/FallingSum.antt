@@ -18,7 +18,8 @@ use Rattle.ore_rational.specs.Fraction.{Fraction, whole}
 use Rattle.ore_rational.specs.Range.{InRange}
 use Rattle.ore_rational.specs.Within.{sum_num, sum_den, sum_within}
 use Rattle.ore_rational.proofs.Bounds.{sum_fits_from}
-use Rattle.ore_rational.proofs.FractionLaws.{in_wholes, rationals}
+use Rattle.ore_rational.specs.Field.{rationals}
+use Rattle.ore_rational.specs.FractionRing.{in_wholes}
 use Rattle.ore_rational.proofs.Whole.{one-gcd, gcd-one}
 use Rattle.ore_monomial.specs.Monomial.{Monomial, order_cmp, plain_cmp}
 use Rattle.ore_monomial.specs.declared.order.Order.{Order}
@@ -30,8 +31,9 @@ use Rattle.ore_ring.specs.Within.{add_term_within}
 use Rattle.ore_ring.specs.Contributions.{add_terms_within, IsInRange, AreInRange}
 use Rattle.ore_ring.proofs.Falls.{first, second, less_of}
 use Rattle.ore_ring.proofs.FractionSteps.{sum_ok}
-use Rattle.ore_ring.proofs.MergeIs.{at, eq_order, at_skip}
+use Rattle.ore_ring.proofs.MergeIs.{eq_order}
 use Rattle.ore_ring.proofs.StoredOp.{collect_snoc}
+use Rattle.ore_ring.proofs.AllTerms.{at_skip, at}
 
 module _ (c : Fraction) where
   zero_part : pos 0 *ℤ pos (c.den / gcd 1 c.den) ≡ pos 0
@@ -69,7 +71,7 @@ below_in o m (d ∷ ds) t rest h = below_in o m ds t rest (second _ _ h)
 nothing_yet : (o : Order) (ds : Terms) (t : Term) (rest : Terms) → T (is_sorted (back o) (ds ++ t ∷ rest)) → at t.0 ds ≡ whole (pos 0)
 unfolding sum_at
 nothing_yet o [] t rest h = refl
-nothing_yet o (d ∷ ds) t rest h = at_skip program o t.0 d ds (eq_order program o t.0 d.0 Less (below_in o d.0 ds t rest (first _ _ h))) ∙ nothing_yet o ds t rest (second _ _ h)
+nothing_yet o (d ∷ ds) t rest h = at_skip t.0 d ds (eq_order program o t.0 d.0 Less (below_in o d.0 ds t rest (first _ _ h))) ∙ nothing_yet o ds t rest (second _ _ h)
 
 abbrev step : Operator rationals → Term → Rattle.std.specs.declared.result.Result.Result (Operator rationals) Rattle.ore_algebra.specs.Limits.Cause
 step f t = add_term_within program f t.0 t.1

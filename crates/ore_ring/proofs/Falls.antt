@@ -16,7 +16,7 @@ use Rattle.ore_monomial.specs.Monomial.{Monomial, order_cmp, plain_cmp}
 use Rattle.ore_monomial.specs.declared.order.Order.{Order}
 use Rattle.ore_algebra.specs.Free.{empty_sum, single}
 use Rattle.ore_monomial.proofs.Monomials.{order_total}
-use Rattle.ore_rational.proofs.FractionLaws.{rationals}
+use Rattle.ore_rational.specs.Field.{rationals}
 use Rattle.ore_ring.specs.Terms.{Term, Terms, falling, AreApart, IsFalling, IsBelowLast}
 use Rattle.ore_monomial.specs.Numbers.{back}
 use Rattle.ore_ring.proofs.TermLaws.{falling-collect}

@@ -8,7 +8,7 @@ use Rattle.std.specs.declared.result.Result.TheVariants.{Ok, Err}
 use Rattle.ore_algebra.specs.Limits.{program, guard, Overflow}
 use Rattle.ore_algebra.proofs.DomainLaws as Numbers
 use Rattle.ore_rational.specs.Fraction.{Fraction, add, mul, whole}
-use Rattle.ore_rational.proofs.FractionLaws.{rationals}
+use Rattle.ore_rational.specs.Field.{rationals}
 use Rattle.ore_rational.specs.Within.{sum_fits, sum_within, fits, product_within}
 
 not_true : (b : Bool) → ¬ (IsTrue b) → b ≡ false

@@ -20,7 +20,7 @@ use Rattle.ore_monomial.specs.Monomial.{Monomial, order_cmp, plain_cmp}
 use Rattle.ore_monomial.specs.declared.order.Order.{Order}
 use Rattle.ore_monomial.specs.Monomial.{rank}
 use Rattle.ore_monomial.proofs.Operators
-use Rattle.ore_rational.proofs.FractionLaws.{rationals}
+use Rattle.ore_rational.specs.Field.{rationals}
 use Rattle.ore_algebra.specs.Limits.{Limits, Cause, Overflow, program, ◌>>=◌, guard}
 use Rattle.ore_rational.specs.Within.{sum_fits, sum_within}
 use Rattle.ore_ring.specs.Terms.{Term, Terms, IsFalling}

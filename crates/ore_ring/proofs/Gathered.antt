@@ -1,5 +1,4 @@
 -- Terms gathered in a map: looking up, inserting, draining.
---     rank_cmp                  the order of ranks is that of the monomials
 --     lookup_is                 what is found at a rank is the number of that monomial
 --     insert_is                 to insert at a rank is to put at that monomial
 --     put_value, put_sorted     what is put is added, and the terms still rise
@@ -9,48 +8,39 @@ use Rattle.std.specs.declared.option.Option.{Option}
 use Rattle.std.specs.declared.option.Option.TheVariants.{Some}
 use Rattle.std.specs.declared.cmp.Ordering.{Ordering}
 use Rattle.std.specs.declared.cmp.Ordering.TheVariants.{Less, Equal, Greater}
-use Rattle.std.specs.Ordering.{is_eq, match_ordering, ordering_reverse}
+use Rattle.std.specs.Ordering.{is_eq, match_ordering}
 use Rattle.std.specs.Cmp.Lexicographic.{slice_cmp}
-use Rattle.std.specs.Cmp.{tied_itself}
-use Rattle.std.proofs.lemmas.Cmp.{nat_list_cmp_total}
 use Rattle.std.specs.Map.{lookup}
 use Rattle.std.specs.BTreeMap.{insert_entry, is_at}
 use Rattle.std.specs.FinMap.{is_sorted}
 use Rattle.std.specs.FinMap.Entries.{below_all, put, is_sorted-put}
 use Rattle.ore_rational.specs.Fraction.{Fraction, add}
-use Rattle.ore_rational.proofs.FractionLaws.{fraction_discrete, rationals}
+use Rattle.ore_rational.specs.Field.{rationals}
+use Rattle.ore_rational.specs.FractionRing.{fraction_discrete}
 use Rattle.ore_algebra.specs.Free.{collect, empty_sum, single, plus}
 use Rattle.ore_monomial.specs.Monomial.{Monomial, order_cmp, plain_cmp, rank}
 use Rattle.ore_monomial.specs.declared.order.Order.{Order}
 use Rattle.ore_monomial.specs.LetterRule.{Operator}
 use Rattle.ore_algebra.proofs.DomainLaws.{zero_plus}
 use Rattle.ore_monomial.proofs.Monomials.{order_total, order_apart}
-use Rattle.ore_monomial.proofs.WellFounded.{rank_less}
 use Rattle.ore_monomial.proofs.Operators
+use Rattle.ore_monomial.proofs.Seen.{rank_cmp}
 use Rattle.ore_algebra.specs.Limits.{unlimited}
 use Rattle.ore_ring.specs.Terms.{Term, Terms, IsFalling, IsBelowLast}
 use Rattle.ore_ring.specs.Merge.{kept}
 use Rattle.ore_ring.specs.Gathered.{keyed, drained}
 use Rattle.ore_ring.specs.IsGathered.{number_of}
 use Rattle.ore_ring.proofs.Falls.{both, first, second, less_of, of_less, falls_none, falls_snoc}
-use Rattle.ore_ring.proofs.MergeIs.{at, zero, eq_order, at_skip, at_own, kept_value}
+use Rattle.ore_ring.proofs.MergeIs.{zero, eq_order, kept_value}
 use Rattle.ore_ring.proofs.TermLaws.{C, ◌+◌}
-
--- the order of keys is that of the monomials
-pub rank_cmp : (o : Order) (m n : Monomial) → slice_cmp nat_cmp (rank o m) (rank o n) ≡ order_cmp o m n
-rank_cmp o m n = by (order_cmp o m n) refl
-  where
-    by : (r : Ordering) → order_cmp o m n ≡ r → slice_cmp nat_cmp (rank o m) (rank o n) ≡ r
-    by Less e = rank_less o m n e
-    by Equal e = ap (λ p. slice_cmp nat_cmp (rank o m) (rank o p)) (sym (order_apart o m n e)) ∙ tied_itself nat_list_cmp_total (rank o m)
-    by Greater e = nat_list_cmp_total.antisymm (rank o m) (rank o n) ∙ ap ordering_reverse (rank_less o n m ((order_total o).antisymm n m ∙ ap ordering_reverse e))
+use Rattle.ore_ring.proofs.AllTerms.{at_skip, at_own, at}
 
 module _ (o : Order) where
   -- a key below all others names no term
   at_below : (q : Monomial) (us : Terms) → T (below_all (order_cmp o) q us) → at q us ≡ zero
   unfolding Rattle.ore_algebra.specs.Free.sum_at
   at_below q [] h = refl
-  at_below q (u ∷ us) h = at_skip unlimited o q u us (eq_order unlimited o q u.0 Less (less_of _ (first _ _ h))) ∙ at_below q us (second _ _ h)
+  at_below q (u ∷ us) h = at_skip q u us (eq_order unlimited o q u.0 Less (less_of _ (first _ _ h))) ∙ at_below q us (second _ _ h)
 
   found_is : (m : Monomial) (t : Term) (b : Bool) (r : Ordering) → order_cmp o m t.0 ≡ r → is_at (slice_cmp nat_cmp (rank o m)) (rank o t.0) ≡ is_eq r
   found_is m t b r e = ap is_eq (rank_cmp o m t.0 ∙ e)
@@ -64,11 +54,11 @@ module _ (o : Order) where
       rest = lookup (is_at (slice_cmp nat_cmp (rank o m))) (keyed o ts)
 
       by : (r : Ordering) → order_cmp o m t.0 ≡ r → number_of rest ≡ at m ts → number_of (cond (is_at (slice_cmp nat_cmp (rank o m)) (rank o t.0)) (Some t) rest) ≡ at m (t ∷ ts)
-      by Less e ih = ap (λ b. number_of (cond b (Some t) rest)) (found_is m t true Less e) ∙ ih ∙ sym (at_skip unlimited o m t ts (eq_order unlimited o m t.0 Less e))
+      by Less e ih = ap (λ b. number_of (cond b (Some t) rest)) (found_is m t true Less e) ∙ ih ∙ sym (at_skip m t ts (eq_order unlimited o m t.0 Less e))
       by Equal e ih =
           ap (λ b. number_of (cond b (Some t) rest)) (found_is m t true Equal e)
-          ∙ sym (at_own unlimited o m t ts (eq_order unlimited o m t.0 Equal e) (at_below m ts (subst (λ q. T (below_all (order_cmp o) q ts)) (sym (order_apart o m t.0 e)) (first _ _ h))))
-      by Greater e ih = ap (λ b. number_of (cond b (Some t) rest)) (found_is m t true Greater e) ∙ ih ∙ sym (at_skip unlimited o m t ts (eq_order unlimited o m t.0 Greater e))
+          ∙ sym (at_own m t ts (eq_order unlimited o m t.0 Equal e) (at_below m ts (subst (λ q. T (below_all (order_cmp o) q ts)) (sym (order_apart o m t.0 e)) (first _ _ h))))
+      by Greater e ih = ap (λ b. number_of (cond b (Some t) rest)) (found_is m t true Greater e) ∙ ih ∙ sym (at_skip m t ts (eq_order unlimited o m t.0 Greater e))
 
   pub insert_is : (m : Monomial) (s : Fraction) (ts : Terms) → insert_entry (slice_cmp nat_cmp) (keyed o ts) (rank o m) (m, s) ≡ keyed o (put (order_cmp o) m s ts)
   insert_is m s [] = refl
@@ -97,17 +87,17 @@ module _ (o : Order) where
           → C (Rattle.std.specs.FinMap.Entries.by_order r ((m, s) ∷ t ∷ ts) ((t.0, s) ∷ ts) (t ∷ put (order_cmp o) m s ts)) ≡ C (t ∷ ts) + one_of m c
       by Less f ih =
           Operators.collect_more rationals m s (t ∷ ts)
-          ∙ ap (λ x. one_of m x + C (t ∷ ts)) (e ∙ ap (λ x. add x c) (at_skip unlimited o m t ts (eq_order unlimited o m t.0 Less f) ∙ at_below m ts (less_below m t.0 ts f (first _ _ h))) ∙ zero_plus rationals c)
+          ∙ ap (λ x. one_of m x + C (t ∷ ts)) (e ∙ ap (λ x. add x c) (at_skip m t ts (eq_order unlimited o m t.0 Less f) ∙ at_below m ts (less_below m t.0 ts f (first _ _ h))) ∙ zero_plus rationals c)
           ∙ Operators.plus_comm rationals (one_of m c) (C (t ∷ ts))
       by Equal f ih =
           Operators.collect_more rationals t.0 s ts
-          ∙ ap (λ x. one_of t.0 x + C ts) (e ∙ ap (λ x. add x c) (at_own unlimited o m t ts (eq_order unlimited o m t.0 Equal f) (at_below m ts (subst (λ q. T (below_all (order_cmp o) q ts)) (sym (order_apart o m t.0 f)) (first _ _ h)))))
+          ∙ ap (λ x. one_of t.0 x + C ts) (e ∙ ap (λ x. add x c) (at_own m t ts (eq_order unlimited o m t.0 Equal f) (at_below m ts (subst (λ q. T (below_all (order_cmp o) q ts)) (sym (order_apart o m t.0 f)) (first _ _ h)))))
           ∙ ap (λ g. g + C ts) (Operators.single-plus rationals t.0 t.1 c)
           ∙ Operators.plus_assoc rationals _ _ _ ∙ ap (λ g. one_of t.0 t.1 + g) (Operators.plus_comm rationals (one_of t.0 c) (C ts)) ∙ sym (Operators.plus_assoc rationals _ _ _)
           ∙ ap₂ ◌+◌ (sym (Operators.collect_more rationals t.0 t.1 ts)) (ap (λ q. one_of q c) (sym (order_apart o m t.0 f)))
       by Greater f ih =
           Operators.collect_more rationals t.0 t.1 (put (order_cmp o) m s ts)
-          ∙ ap (λ g. one_of t.0 t.1 + g) (ih (at_skip unlimited o m t ts (eq_order unlimited o m t.0 Greater f)))
+          ∙ ap (λ g. one_of t.0 t.1 + g) (ih (at_skip m t ts (eq_order unlimited o m t.0 Greater f)))
           ∙ sym (Operators.plus_assoc rationals _ _ _) ∙ ap (λ g. g + one_of m c) (sym (Operators.collect_more rationals t.0 t.1 ts))
 
   pub put_sorted : (m : Monomial) (s : Fraction) (ts : Terms) → T (is_sorted (order_cmp o) ts) → T (is_sorted (order_cmp o) (put (order_cmp o) m s ts))

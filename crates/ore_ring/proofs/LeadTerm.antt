@@ -10,11 +10,11 @@ use Rattle.std.specs.FinMap.Entries.{below_all}
 use Rattle.ore_algebra.specs.Free.{empty_sum, collect, coefficient}
 use Rattle.ore_algebra.proofs.FreeLaws
 use Rattle.ore_rational.specs.Fraction.{whole}
-use Rattle.ore_rational.proofs.FractionLaws.{rationals}
+use Rattle.ore_rational.specs.Field.{rationals}
 use Rattle.ore_monomial.specs.Monomial.{Monomial, order_cmp, plain_cmp}
 use Rattle.ore_monomial.specs.declared.order.Order.{Order}
 use Rattle.ore_monomial.specs.LetterRule.{Operator}
-use Rattle.ore_monomial.proofs.Monomials.{plain_cmp_total, plain_cmp_apart, order_total}
+use Rattle.ore_monomial.proofs.Monomials.{plain_cmp_total, order_total, same_key}
 use Rattle.ore_monomial.proofs.Operators
 use Rattle.ore_ring.specs.Lead.{IsLead}
 use Rattle.ore_ring.specs.Terms.{Term, Terms, falling, IsFalling}
@@ -23,9 +23,6 @@ use Rattle.ore_ring.proofs.TermLaws.{collect-falling}
 use Rattle.ore_monomial.proofs.FallingTerms.{back_order, back_apart}
 use Rattle.ore_ring.proofs.Falls.{first, second, less_of}
 use Rattle.ore_ring.proofs.AllTerms.{at, at_skip, at_own, sorted_distinct, falls-falling}
-
-same_key : (q m : Monomial) → eq_by_cmp plain_cmp q m ≡ true → q ≡ m
-same_key q m e = FreeLaws.same_key rationals plain_cmp_total plain_cmp_apart q m e
 
 -- what stands among terms below m is below m
 below_at : (o : Order) (m : Monomial) (ts : Terms) → T (below_all (back o) m ts) → (q : Monomial) → at q ts ≢ whole (pos 0) → order_cmp o q m ≡ Less

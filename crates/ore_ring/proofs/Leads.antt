@@ -1,6 +1,6 @@
 -- The lead of a product.
 --     IsUpto         q is not greater than m
---     Within         an operator has no monomial from degree d up
+--     HasDegreeBelow  an operator has no monomial from degree d up
 --     Led            an operator is one monomial of degree d, and others of lesser degree
 --     times-lead     the lead of a product has the product of the lead monomials and that of the lead coefficients
 use Rattle.std.proofs.Common.{◌≡◌, ◌≢◌, ℕ, suc, ◌+◌, ◌<◌, ◌≤◌, Bool, true, false, refl, sym, ap, ◌∙◌, subst, true≢false, arith}
@@ -20,6 +20,7 @@ use Rattle.ore_monomial.specs.LetterRule.{Operator, letter, letter_times, monomi
 use Rattle.ore_ring.specs.Product.{times}
 use Rattle.ore_ring.specs.Lead.{IsLead}
 use Rattle.ore_algebra.proofs.DomainLaws as Numbers
+use Rattle.ore_algebra.proofs.Orderings.{reversed_greater}
 use Rattle.ore_monomial.proofs.Monomials.{degree-raise, degree-product, raise_comm, by_first, by_exponent, IsBelow, product-unit, product_comm, product-cancel, product-raise, order_total, order_apart, order_sum}
 use Rattle.ore_monomial.proofs.Letters.{one_term, rule_of, by_rule}
 use Rattle.ore_monomial.proofs.Commute.{letter-linear, letter_one, letter_still, letter_clear, letter-raise_own}
@@ -62,26 +63,26 @@ product_reached o m' m n' n h k e =
 -- ---- operators of low degree
 
 module _ (K : Domain) where
-  abbrev pub Within : ℕ → Operator K → Type 0
-  Within d f = (q : Monomial) → d ≤ degree q → coefficient K plain_cmp f q ≡ K.zero
+  abbrev pub HasDegreeBelow : ℕ → Operator K → Type 0
+  HasDegreeBelow d f = (q : Monomial) → d ≤ degree q → coefficient K plain_cmp f q ≡ K.zero
 
-  within_none : (d : ℕ) → Within d (empty_sum K plain_cmp)
-  within_none d q h = Operators.coefficient-empty_sum K q
+  degree_below-empty_sum : (d : ℕ) → HasDegreeBelow d (empty_sum K plain_cmp)
+  degree_below-empty_sum d q h = Operators.coefficient-empty_sum K q
 
-  within_plus : (d : ℕ) (f g : Operator K) → Within d f → Within d g → Within d (plus K plain_cmp f g)
-  within_plus d f g a b q h = Operators.coefficient-plus K f g q ∙ (λ i. K.plus (a q h i) (b q h i)) ∙ K.plus_zero _
+  degree_below-plus : (d : ℕ) (f g : Operator K) → HasDegreeBelow d f → HasDegreeBelow d g → HasDegreeBelow d (plus K plain_cmp f g)
+  degree_below-plus d f g a b q h = Operators.coefficient-plus K f g q ∙ (λ i. K.plus (a q h i) (b q h i)) ∙ K.plus_zero _
 
-  within_scale : (d : ℕ) (k : K.Number) (f : Operator K) → Within d f → Within d (scale K plain_cmp k f)
-  within_scale d k f a q h = Operators.coefficient-scale K k f q ∙ ap (K.times k) (a q h) ∙ Numbers.times_zero K k
+  degree_below-scale : (d : ℕ) (k : K.Number) (f : Operator K) → HasDegreeBelow d f → HasDegreeBelow d (scale K plain_cmp k f)
+  degree_below-scale d k f a q h = Operators.coefficient-scale K k f q ∙ ap (K.times k) (a q h) ∙ Numbers.times_zero K k
 
-  within_one : (d : ℕ) (m : Monomial) → degree m < d → Within d (one_term K m)
-  within_one d m l q h = Operators.coefficient-other K m K.one q (λ e. let same : degree q ≡ degree m = ap degree e in absurd (omega arith))
+  degree_below-one_term : (d : ℕ) (m : Monomial) → degree m < d → HasDegreeBelow d (one_term K m)
+  degree_below-one_term d m l q h = Operators.coefficient-other K m K.one q (λ e. let same : degree q ≡ degree m = ap degree e in absurd (omega arith))
 
-  within_more : (d e : ℕ) (f : Operator K) → d ≤ e → Within d f → Within e f
-  within_more d e f l a q h = a q (omega arith)
+  degree_below-more : (d e : ℕ) (f : Operator K) → d ≤ e → HasDegreeBelow d f → HasDegreeBelow e f
+  degree_below-more d e f l a q h = a q (omega arith)
 
-  within_extend : (d e : ℕ) (h : Monomial → Operator K) (f : Operator K) → ((m : Monomial) → degree m < d → Within e (h m)) → Within d f → Within e (linear_extension K plain_cmp h f)
-  within_extend d e h f a b q l = Operators.coefficient-extend K h f q ∙ Operators.total_vanish K _ f (λ m. by m (dec_lt (degree m) d))
+  degree_below-linear_extension : (d e : ℕ) (h : Monomial → Operator K) (f : Operator K) → ((m : Monomial) → degree m < d → HasDegreeBelow e (h m)) → HasDegreeBelow d f → HasDegreeBelow e (linear_extension K plain_cmp h f)
+  degree_below-linear_extension d e h f a b q l = Operators.coefficient-linear_extension K h f q ∙ Operators.total_vanish K _ f (λ m. by m (dec_lt (degree m) d))
     where
       by : (m : Monomial) → Dec (degree m < d) → K.times (coefficient K plain_cmp f m) (coefficient K plain_cmp (h m) q) ≡ K.zero
       by m (yes s) = ap (K.times _) (a m s q l) ∙ Numbers.times_zero K _
@@ -89,7 +90,7 @@ module _ (K : Domain) where
 
   -- f is the monomial m and what has lower degree than d
   abbrev pub Led : ℕ → Monomial → Operator K → Type 0
-  Led d m f = (r : Operator K) × (f ≡ plus K plain_cmp (one_term K m) r) × Within d r
+  Led d m f = (r : Operator K) × (f ≡ plus K plain_cmp (one_term K m) r) × HasDegreeBelow d r
 
 module _ (K : Domain) (s : Signature) (lawful : IsLawful s) where
   letter_led : (x : ℕ) → x < 12 → (m : Monomial) → Led K (suc (degree m)) (raise x m) (letter K s x m)
@@ -97,7 +98,7 @@ module _ (K : Domain) (s : Signature) (lawful : IsLawful s) where
   letter_led x xl = by (is_acting (kind_at s x)) refl
     where
       plain : (m : Monomial) → letter K s x m ≡ one_term K (raise x m) → Led K (suc (degree m)) (raise x m) (letter K s x m)
-      plain m e = (empty_sum K plain_cmp, e ∙ sym (Operators.plus_zero K _), within_none K _)
+      plain m e = (empty_sum K plain_cmp, e ∙ sym (Operators.plus_zero K _), degree_below-empty_sum K _)
 
       more : is_acting (kind_at s x) ≡ true → (m : Monomial) → Led K (suc (degree m)) (raise x m) (letter K s x m) → Led K (suc (degree (raise (coordinate_of (kind_at s x)) m))) (raise x (raise (coordinate_of (kind_at s x)) m)) (letter K s x (raise (coordinate_of (kind_at s x)) m))
       more h m ih = (rest, is, low)
@@ -134,29 +135,29 @@ module _ (K : Domain) (s : Signature) (lawful : IsLawful s) where
           dx : degree (raise x m) ≡ suc (degree m)
           dx = degree-raise x m xl
 
-          raised : Within K d (letter_times K s t ih.0)
-          raised = within_extend K (suc (degree m)) d (letter K s t) ih.0 (λ n l. subst (Within K d) (sym (letter_still K s t n still)) (within_one K d (raise t n) (let e = degree-raise t n tl in omega (arith, dt)))) ih.2
+          raised : HasDegreeBelow K d (letter_times K s t ih.0)
+          raised = degree_below-linear_extension K (suc (degree m)) d (letter K s t) ih.0 (λ n l. subst (HasDegreeBelow K d) (sym (letter_still K s t n still)) (degree_below-one_term K d (raise t n) (let e = degree-raise t n tl in omega (arith, dt)))) ih.2
 
-          itself : Within K d (letter K s x m)
-          itself = subst (Within K d) (sym ih.1) (within_plus K d _ _ (within_one K d (raise x m) (omega (arith, dt, dx))) (within_more K (suc (degree m)) d ih.0 (omega (arith, dt)) ih.2))
+          itself : HasDegreeBelow K d (letter K s x m)
+          itself = subst (HasDegreeBelow K d) (sym ih.1) (degree_below-plus K d _ _ (degree_below-one_term K d (raise x m) (omega (arith, dt, dx))) (degree_below-more K (suc (degree m)) d ih.0 (omega (arith, dt)) ih.2))
 
-          low : Within K d rest
-          low = within_plus K d _ _ raised (within_plus K d _ _ (within_scale K d _ _ itself) (within_plus K d _ _ (within_scale K d _ _ (within_one K d m (omega (arith, dt)))) (within_scale K d _ _ (within_one K d (raise t m) (omega arith)))))
+          low : HasDegreeBelow K d rest
+          low = degree_below-plus K d _ _ raised (degree_below-plus K d _ _ (degree_below-scale K d _ _ itself) (degree_below-plus K d _ _ (degree_below-scale K d _ _ (degree_below-one_term K d m (omega (arith, dt)))) (degree_below-scale K d _ _ (degree_below-one_term K d (raise t m) (omega arith)))))
 
       by : (c : Bool) → is_acting (kind_at s x) ≡ c → (m : Monomial) → Led K (suc (degree m)) (raise x m) (letter K s x m)
       by false h m = plain m (letter_still K s x m h)
       by true h m = by_exponent (coordinate_of (kind_at s x)) (let e = (lawful x h).0 in omega arith) (λ m. Led K (suc (degree m)) (raise x m) (letter K s x m)) (λ m e. plain m (letter_clear K s x m e)) (more h) m
 
-  letter_within : (x : ℕ) → x < 12 → (d : ℕ) (f : Operator K) → Within K d f → Within K (suc d) (letter_times K s x f)
+  letter_within : (x : ℕ) → x < 12 → (d : ℕ) (f : Operator K) → HasDegreeBelow K d f → HasDegreeBelow K (suc d) (letter_times K s x f)
   unfolding letter_times
-  letter_within x xl d f h = within_extend K d (suc d) (letter K s x) f (λ m l. by m l (letter_led x xl m)) h
+  letter_within x xl d f h = degree_below-linear_extension K d (suc d) (letter K s x) f (λ m l. by m l (letter_led x xl m)) h
     where
-      by : (m : Monomial) → degree m < d → Led K (suc (degree m)) (raise x m) (letter K s x m) → Within K (suc d) (letter K s x m)
-      by m l p = subst (Within K (suc d)) (sym p.1) (within_plus K (suc d) _ _ (within_one K (suc d) (raise x m) (let e = degree-raise x m xl in omega arith)) (within_more K (suc (degree m)) (suc d) p.0 (omega arith) p.2))
+      by : (m : Monomial) → degree m < d → Led K (suc (degree m)) (raise x m) (letter K s x m) → HasDegreeBelow K (suc d) (letter K s x m)
+      by m l p = subst (HasDegreeBelow K (suc d)) (sym p.1) (degree_below-plus K (suc d) _ _ (degree_below-one_term K (suc d) (raise x m) (let e = degree-raise x m xl in omega arith)) (degree_below-more K (suc (degree m)) (suc d) p.0 (omega arith) p.2))
 
   product_led : (m n : Monomial) → Led K (degree m + degree n) (product m n) (monomial_times K s m (one_term K n))
   product_led m n = by_first (λ m. Led K (degree m + degree n) (product m n) (monomial_times K s m (one_term K n)))
-      (empty_sum K plain_cmp, monomial_unit K s _ ∙ ap (one_term K) (sym (product-unit n)) ∙ sym (Operators.plus_zero K _), within_none K _)
+      (empty_sum K plain_cmp, monomial_unit K s _ ∙ ap (one_term K) (sym (product-unit n)) ∙ sym (Operators.plus_zero K _), degree_below-empty_sum K _)
       (λ x xl m b ih. more x xl m b ih (letter_led x xl (product m n))) m
     where
       more : (x : ℕ) → x < 12 → (m : Monomial) → IsBelow x m → Led K (degree m + degree n) (product m n) (monomial_times K s m (one_term K n)) → Led K (suc (degree (product m n))) (raise x (product m n)) (letter K s x (product m n)) → Led K (degree (raise x m) + degree n) (product (raise x m) n) (monomial_times K s (raise x m) (one_term K n))
@@ -166,8 +167,8 @@ module _ (K : Domain) (s : Signature) (lawful : IsLawful s) where
             monomial-raise K s x m _ xl b ∙ ap (letter_times K s x) ih.1 ∙ (letter-linear K s x).plus _ _
                 ∙ ap (λ f. plus K plain_cmp f (letter_times K s x ih.0)) (letter_one K s x (product m n) ∙ l.1)
                 ∙ Operators.plus_assoc K _ _ _ ∙ ap (λ q. plus K plain_cmp (one_term K q) (plus K plain_cmp l.0 (letter_times K s x ih.0))) (sym (product-raise x m n xl)),
-            within_plus K (degree (raise x m) + degree n) _ _ (within_more K (suc (degree (product m n))) _ l.0 (omega arith) l.2)
-                (within_more K (suc (degree m + degree n)) _ _ (omega arith) (letter_within x xl (degree m + degree n) ih.0 ih.2)),
+            degree_below-plus K (degree (raise x m) + degree n) _ _ (degree_below-more K (suc (degree (product m n))) _ l.0 (omega arith) l.2)
+                (degree_below-more K (suc (degree m + degree n)) _ _ (omega arith) (letter_within x xl (degree m + degree n) ih.0 ih.2)),
           )
 
   product_at : (m n : Monomial) → coefficient K plain_cmp (monomial_times K s m (one_term K n)) (product m n) ≡ K.one
@@ -181,11 +182,11 @@ module _ (K : Domain) (s : Signature) (lawful : IsLawful s) where
       ap (λ f. coefficient K plain_cmp f q) l.1 ∙ Operators.coefficient-plus K _ _ _ ∙ (λ i. K.plus (Operators.coefficient-other K (product m n) K.one q a i) (l.2 q (omega arith) i)) ∙ K.plus_zero _
 
   coefficient-monomial : (m : Monomial) (g : Operator K) (q : Monomial) → coefficient K plain_cmp (monomial_times K s m g) q ≡ Operators.total K (λ n. coefficient K plain_cmp (monomial_times K s m (one_term K n)) q) g
-  coefficient-monomial m g q = ap (λ f. coefficient K plain_cmp f q) (Operators.linear_is K (monomial-linear K s m) g) ∙ Operators.coefficient-extend K _ g q
+  coefficient-monomial m g q = ap (λ f. coefficient K plain_cmp f q) (Operators.linear_is K (monomial-linear K s m) g) ∙ Operators.coefficient-linear_extension K _ g q
 
   pub coefficient-times : (f g : Operator K) (q : Monomial) → coefficient K plain_cmp (times K s f g) q ≡ Operators.total K (λ m. coefficient K plain_cmp (monomial_times K s m g) q) f
   unfolding times
-  coefficient-times f g q = Operators.coefficient-extend K _ f q
+  coefficient-times f g q = Operators.coefficient-linear_extension K _ f q
 
   module _ (o : Order) {f g : Operator K} {m n : Monomial} {j k : K.Number} (a : IsLead K o f m j) (b : IsLead K o g n k) where
     -- a part of the product at q, which is not below the product of the leads, is none where q is not its own product
@@ -202,13 +203,8 @@ module _ (K : Domain) (s : Signature) (lawful : IsLawful s) where
     above : (q : Monomial) → is_gt (order_cmp o q (product m n)) ≡ true → coefficient K plain_cmp (times K s f g) q ≡ K.zero
     above q h = coefficient-times f g q ∙ Operators.total_vanish K _ f (λ m'. off _ _ (λ u. coefficient-monomial m' g q ∙ Operators.total_vanish K _ g (λ n'. off _ _ (λ v. part m' n' q beyond u v (λ e. true≢false (sym h ∙ ap (λ p. is_gt (order_cmp o p (product m n))) e ∙ product_upto o m' m n' n (a.greatest m' u) (b.greatest n' v)))))))
       where
-        turned : (r : Ordering) → is_gt r ≡ true → is_gt (ordering_reverse r) ≡ false
-        turned Less e = absurd (true≢false (sym e))
-        turned Equal e = absurd (true≢false (sym e))
-        turned Greater e = refl
-
         beyond : IsUpto o (product m n) q
-        beyond = ap is_gt ((order_total o).antisymm (product m n) q) ∙ turned _ h
+        beyond = ap is_gt ((order_total o).antisymm (product m n) q) ∙ reversed_greater _ h
 
     itself : IsUpto o (product m n) (product m n)
     itself = ap is_gt (tied_itself (order_total o) (product m n))

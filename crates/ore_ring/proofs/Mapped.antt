@@ -10,7 +10,8 @@ use Rattle.ore_algebra.specs.Free.{empty_sum, single, plus, scale, linear_extens
 use Rattle.ore_algebra.proofs.Integers.{integers}
 use Rattle.ore_algebra.proofs.RingMaps.{IsRingMap, sent-of_nat, sent-power, sum_at-sent}
 use Rattle.ore_rational.specs.Fraction.{whole}
-use Rattle.ore_rational.proofs.FractionLaws.{rationals, whole-add, whole-mul, whole-neg}
+use Rattle.ore_rational.specs.Field.{rationals}
+use Rattle.ore_rational.specs.FractionRing.{whole-add, whole-mul, whole-neg}
 use Rattle.ore_monomial.specs.Monomial.{Monomial, exponent, raise, lower, plain_cmp}
 use Rattle.ore_monomial.specs.Signature.{Signature, kind_at, coordinate_of}
 use Rattle.ore_monomial.specs.declared.signature.VarKind.{VarKind}
@@ -56,11 +57,11 @@ module _ (K L : Domain) (f : K.Number → L.Number) (r : IsRingMap K L f) where
 
   sent-extend : (h : Monomial → Operator K) (h' : Monomial → Operator L) → ((m : Monomial) → sent (h m) ≡ h' m) → (g : Operator K) → sent (linear_extension K plain_cmp h g) ≡ linear_extension L plain_cmp h' (sent g)
   sent-extend h h' e = Operators.by_terms K (λ g. sent (linear_extension K plain_cmp h g) ≡ linear_extension L plain_cmp h' (sent g))
-      (ap sent (Operators.extend-none K h) ∙ sent-empty_sum ∙ sym (ap (linear_extension L plain_cmp h') sent-empty_sum ∙ Operators.extend-none L h'))
+      (ap sent (Operators.linear_extension-empty_sum K h) ∙ sent-empty_sum ∙ sym (ap (linear_extension L plain_cmp h') sent-empty_sum ∙ Operators.linear_extension-empty_sum L h'))
       (λ m k g ih.
-      ap sent (Operators.extend-plus K h (single K plain_cmp m k) g) ∙ sent-plus _ _
-      ∙ (λ i. plus L plain_cmp ((ap sent (Operators.extend-single K h m k) ∙ sent-scale k (h m) ∙ ap (scale L plain_cmp (f k)) (e m) ∙ sym (ap (linear_extension L plain_cmp h') (sent-single m k) ∙ Operators.extend-single L h' m (f k))) i) (ih i))
-      ∙ sym (Operators.extend-plus L h' (sent (single K plain_cmp m k)) (sent g))
+      ap sent (Operators.linear_extension-plus K h (single K plain_cmp m k) g) ∙ sent-plus _ _
+      ∙ (λ i. plus L plain_cmp ((ap sent (Operators.linear_extension-single K h m k) ∙ sent-scale k (h m) ∙ ap (scale L plain_cmp (f k)) (e m) ∙ sym (ap (linear_extension L plain_cmp h') (sent-single m k) ∙ Operators.linear_extension-single L h' m (f k))) i) (ih i))
+      ∙ sym (Operators.linear_extension-plus L h' (sent (single K plain_cmp m k)) (sent g))
       ∙ sym (ap (linear_extension L plain_cmp h') (sent-plus (single K plain_cmp m k) g)))
 
   -- ---- the letter rule

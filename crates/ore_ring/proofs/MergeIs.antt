@@ -1,11 +1,10 @@
 -- The walk over two lists of falling terms gives the sum of operators within limits.
---     C, at          the operator of terms; the number of a monomial among terms
 --     fits           each term of the first list whose monomial the second has fits
 --     Sums           what a list is that the walk gives: falling, the sum, and no greater than both
 --     Meets          what the walk gives or why it stops is right
 --     merge_meets    so it is
 --     merge_ok, merge_stops    the same against the definition of a sum
-use Rattle.std.proofs.Common.{◌≡◌, ◌≢◌, Bool, true, false, cond, ◌&&◌, T, [], ◌∷◌, pos, refl, sym, ap, ap₂, ◌∙◌, subst}
+use Rattle.std.proofs.Common.{◌≡◌, ◌≢◌, Bool, true, false, ◌&&◌, T, [], ◌∷◌, pos, refl, sym, ap, ap₂, ◌∙◌, subst}
 use Rattle.std.specs.declared.cmp.Ordering.{Ordering}
 use Rattle.std.specs.declared.cmp.Ordering.TheVariants.{Less, Equal, Greater}
 use Rattle.std.specs.declared.result.Result.{Result}
@@ -14,12 +13,12 @@ use Rattle.std.specs.Ordering.{eq_by_cmp, is_eq, is_lt, ordering_reverse}
 use Rattle.std.specs.List.{list_all}
 use Rattle.std.specs.FinMap.Entries.{below_all}
 use Rattle.ore_rational.specs.Fraction.{Fraction, whole, add}
-use Rattle.ore_rational.proofs.FractionLaws.{fraction_discrete, rationals}
+use Rattle.ore_rational.specs.Field.{rationals}
+use Rattle.ore_rational.specs.FractionRing.{fraction_discrete}
 use Rattle.ore_algebra.specs.Free.{sum_at, coefficient, empty_sum, single}
 use Rattle.ore_monomial.specs.Monomial.{Monomial, order_cmp, plain_cmp}
 use Rattle.ore_monomial.specs.declared.order.Order.{Order}
 use Rattle.ore_monomial.specs.LetterRule.{Operator}
-use Rattle.ore_algebra.proofs.DomainLaws.{zero_plus}
 use Rattle.ore_monomial.proofs.Monomials.{plain_cmp_total, plain_cmp_apart, order_total, order_apart}
 use Rattle.ore_monomial.proofs.Operators
 use Rattle.ore_algebra.specs.Limits.{Limits, Cause, Overflow, ◌>>=◌, guard}
@@ -29,12 +28,9 @@ use Rattle.ore_monomial.specs.Numbers.{back}
 use Rattle.ore_ring.specs.Within.{shared_fits, all_shared_fit, plus_within}
 use Rattle.ore_ring.specs.Merge.{kept, step_within, into_within, merge_within}
 use Rattle.ore_monomial.proofs.FallingTerms.{eq_either}
-use Rattle.ore_ring.proofs.AllTerms.{all_terms}
+use Rattle.ore_ring.proofs.AllTerms.{all_terms, at_skip, at_own, at}
 use Rattle.ore_ring.proofs.TermLaws.{C, ◌+◌}
 use Rattle.ore_ring.proofs.Falls.{both, first, second, less_of, of_less, falls_tail, below_more}
-
-abbrev pub at : Monomial → Terms → Fraction
-at q ts = sum_at rationals plain_cmp q ts
 
 abbrev pub zero : Fraction
 zero = whole (pos 0)
@@ -47,14 +43,6 @@ module _ (l : Limits) (o : Order) where
 
   pub eq_order : (q m : Monomial) (r : Ordering) → order_cmp o q m ≡ r → eq_by_cmp plain_cmp q m ≡ is_eq r
   eq_order q m r e = eq_either rationals {R = plain_cmp} {S = order_cmp o} plain_cmp_total plain_cmp_apart (order_total o) (order_apart o) q m ∙ ap is_eq e
-
-  pub at_skip : (q : Monomial) (u : Term) (us : Terms) → eq_by_cmp plain_cmp q u.0 ≡ false → at q (u ∷ us) ≡ at q us
-  unfolding sum_at
-  at_skip q u us e = ap (λ b. add (cond b u.1 zero) (at q us)) e ∙ zero_plus rationals _
-
-  pub at_own : (q : Monomial) (u : Term) (us : Terms) → eq_by_cmp plain_cmp q u.0 ≡ true → at q us ≡ zero → at q (u ∷ us) ≡ u.1
-  unfolding sum_at
-  at_own q u us e z = ap (λ b. add (cond b u.1 zero) (at q us)) e ∙ ap (add u.1) z ∙ rationals.plus_zero u.1
 
   pub turn : (q m : Monomial) (r : Ordering) → order_cmp o m q ≡ r → order_cmp o q m ≡ ordering_reverse r
   turn q m r e = (order_total o).antisymm q m ∙ ap ordering_reverse e

@@ -3,20 +3,20 @@
 --     at_less, at_equal, at_greater, at_stop     a step by how the next two terms compare
 --     at_end_left, at_end_right, both_ends       one list is used up
 --     opposite_at, less_ends                     of a list with each fraction negated, the term at a place and the end
-use Rattle.std.proofs.Common.{◌≡◌, ◌≢◌, ℕ, ◌+◌, ◌<◌, ◌≤◌, List, [], ◌∷◌, ◌++◌, drop, length, get_or, pos, refl, subst, sym, ap, ap₂, ◌∙◌, append_assoc, append-nil, arith, add-one, take, ◌-◌}
+use Rattle.std.proofs.Common.{◌≡◌, ◌≢◌, ℕ, ◌+◌, ◌<◌, ◌≤◌, List, [], ◌∷◌, ◌++◌, drop, length, get_or, pos, refl, subst, sym, ap, ap₂, ◌∙◌, append_assoc, append-nil, arith, take, ◌-◌}
 use Rattle.std.proofs.lemmas.List.{take_all, drop-map, get_or-map, length-drop, length-map}
 use Rattle.std.specs.declared.cmp.Ordering.{Ordering}
 use Rattle.std.specs.declared.cmp.Ordering.TheVariants.{Less, Equal, Greater}
 use Rattle.std.specs.declared.result.Result.{Result}
 use Rattle.std.specs.declared.result.Result.TheVariants.{Ok, Err}
-use Rattle.std.proofs.Math.Seq.{drop-cons}
 use Rattle.ore_rational.specs.Fraction.{Fraction, whole, neg}
-use Rattle.ore_rational.proofs.FractionLaws.{fraction_discrete}
+use Rattle.ore_rational.specs.FractionRing.{fraction_discrete}
 use Rattle.ore_monomial.specs.Monomial.{Monomial, order_cmp}
 use Rattle.ore_monomial.specs.declared.order.Order.{Order}
 use Rattle.ore_algebra.specs.Limits.{Limits, Cause}
 use Rattle.ore_algebra.specs.Results.{◌>>=◌, fronted}
 use Rattle.ore_algebra.proofs.ResultLaws.{front_more}
+use Rattle.ore_algebra.proofs.ListLaws.{drop_item}
 use Rattle.ore_rational.specs.Within.{sum_within}
 use Rattle.ore_ring.specs.Terms.{Term, Terms}
 use Rattle.ore_ring.specs.Merge.{kept, step_within, into_within, merge_within, opposite_terms}
@@ -46,9 +46,6 @@ front_kept : (front : Terms) (m : Monomial) (x : Fraction) (r : Result Terms Cau
 front_kept front m x (Ok ts) = ap Ok (ap (λ us. front ++ us) (sym (kept-append m x ts)) ∙ sym (append_assoc front (kept m x []) ts))
 front_kept front m x (Err e) = refl
 
-pub next : {A : Type 0} (xs : List A) (i : ℕ) (x : A) → i < length xs → x ≡ get_or xs i x → drop i xs ≡ x ∷ drop (i + 1) xs
-next xs i x h e = drop-cons xs i x h ∙ (λ k. sym e k ∷ drop (sym (add-one i) k) xs)
-
 module _ (l : Limits) (o : Order) where
   -- the step at the heads of two lists
   pub heads : (t u : Term) (ts us : Terms) → merge_within l o (t ∷ ts) (u ∷ us) ≡ step_within l (order_cmp o t.0 u.0) t u (merge_within l o ts (u ∷ us)) (merge_within l o ts us) (merge_within l o (t ∷ ts) us)
@@ -70,9 +67,9 @@ module _ (l : Limits) (o : Order) where
 
     at_heads : (r : Ordering) → r ≡ order_cmp o t.0 u.0 → W ≡ fronted front (step_within l r t u (merge_within l o (drop (i + 1) a) (drop j b)) (merge_within l o (drop (i + 1) a) (drop (j + 1) b)) (merge_within l o (drop i a) (drop (j + 1) b)))
     at_heads r e =
-        ap₂ (λ x y. fronted front (merge_within l o x y)) (next a i t il ti) (next b j u jl uj)
+        ap₂ (λ x y. fronted front (merge_within l o x y)) (drop_item a i t il ti) (drop_item b j u jl uj)
         ∙ ap (fronted front) (heads t u (drop (i + 1) a) (drop (j + 1) b))
-        ∙ (λ k. fronted front (step_within l (sym e k) t u (merge_within l o (drop (i + 1) a) (sym (next b j u jl uj) k)) (merge_within l o (drop (i + 1) a) (drop (j + 1) b)) (merge_within l o (sym (next a i t il ti) k) (drop (j + 1) b))))
+        ∙ (λ k. fronted front (step_within l (sym e k) t u (merge_within l o (drop (i + 1) a) (sym (drop_item b j u jl uj) k)) (merge_within l o (drop (i + 1) a) (drop (j + 1) b)) (merge_within l o (sym (drop_item a i t il ti) k) (drop (j + 1) b))))
 
     pub at_less : Less ≡ order_cmp o t.0 u.0 → W ≡ fronted (front ++ u ∷ []) (merge_within l o (drop i a) (drop (j + 1) b))
     at_less e = at_heads Less e ∙ front_more front u _

@@ -3,10 +3,8 @@
 --     one_lead          it has no second lead
 --     lead_apart        an operator with a lead isn't none
 --     no_zero_divisor   a product that is none has a factor that is none
-use Rattle.std.proofs.Common.{◌≡◌, ◌≢◌, ◌⊎◌, inl, inr, ⊎_elim, Bool, true, false, cond, T, List, [], ◌∷◌, refl, sym, ap, ◌∙◌, subst, true≢false}
-use Rattle.std.specs.Ordering.{is_gt, eq_by_cmp, ordering_reverse}
-use Rattle.std.specs.declared.cmp.Ordering.{Ordering}
-use Rattle.std.specs.declared.cmp.Ordering.TheVariants.{Less, Equal, Greater}
+use Rattle.std.proofs.Common.{◌≡◌, ◌≢◌, ◌⊎◌, inl, inr, ⊎_elim, Bool, true, false, cond, T, List, [], ◌∷◌, refl, sym, ap, ◌∙◌, subst}
+use Rattle.std.specs.Ordering.{is_gt, eq_by_cmp}
 use Rattle.std.specs.Cmp.{upto, tied_itself}
 use Rattle.ore_algebra.specs.Domain.{Domain}
 use Rattle.ore_algebra.specs.Free.{empty_sum, coefficient, terms}
@@ -17,6 +15,7 @@ use Rattle.ore_monomial.specs.LetterRule.{Operator}
 use Rattle.ore_ring.specs.Product.{times}
 use Rattle.ore_ring.specs.Lead.{IsLead}
 use Rattle.ore_algebra.proofs.FreeLaws.{named, same_key}
+use Rattle.ore_algebra.proofs.Orderings.{reversed_greater}
 use Rattle.ore_monomial.proofs.Monomials.{plain_cmp_total, plain_cmp_apart, order_total, order_apart}
 use Rattle.ore_ring.proofs.Leads.{IsUpto, times-lead, both_upto}
 use Rattle.ore_monomial.proofs.Operators
@@ -47,12 +46,7 @@ module _ (K : Domain) (o : Order) (f : Operator K) where
       by false e h = there q h
 
   pub not_greater : (p m : Monomial) → is_gt (order_cmp o p m) ≡ true → IsUpto o m p
-  not_greater p m h = ap is_gt ((order_total o).antisymm m p) ∙ turned (order_cmp o p m) h
-    where
-      turned : (r : Ordering) → is_gt r ≡ true → is_gt (ordering_reverse r) ≡ false
-      turned Less e = absurd (true≢false (sym e))
-      turned Equal e = absurd (true≢false (sym e))
-      turned Greater e = refl
+  not_greater p m h = ap is_gt ((order_total o).antisymm m p) ∙ reversed_greater (order_cmp o p m) h
 
   next : (t : Monomial × K.Number) (ts : List (Monomial × K.Number)) → Dec (at t.0 ≡ K.zero) → Found ts → Found (t ∷ ts)
   next t ts (yes e) (inl b) = inl (by_name (λ q. at q ≡ K.zero) t ts e b)

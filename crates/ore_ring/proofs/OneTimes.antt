@@ -4,7 +4,6 @@
 use Rattle.std.proofs.Common.{◌≡◌, true, pos, [], ◌∷◌, ◌++◌, refl, sym, ap, ◌∙◌, append_assoc, append-nil}
 use Rattle.std.specs.declared.result.Result.TheVariants.{Ok}
 use Rattle.ore_algebra.specs.Limits.{program, ◌>>=◌, fold_within}
-use Rattle.ore_algebra.proofs.Integers.{integers}
 use Rattle.ore_rational.specs.Fraction.{whole}
 use Rattle.ore_rational.proofs.Bounds.{fits_from}
 use Rattle.ore_monomial.specs.Monomial.{unit, product}
@@ -15,7 +14,7 @@ use Rattle.ore_ring.specs.Ordered.{Ordered}
 use Rattle.ore_ring.specs.Terms.{Term, Terms, IsFalling, falling}
 use Rattle.ore_ring.specs.Within.{times_within, degrees_fit}
 use Rattle.ore_ring.specs.Contributions.{IsInRange, AreInRange, push_number, push_product, push_pair, push_row}
-use Rattle.ore_ring.proofs.AdjointParts.{MeetsNone}
+use Rattle.ore_ring.specs.Meets.{MeetsNone}
 use Rattle.ore_ring.proofs.FallingSum.{falling_sum}
 use Rattle.ore_ring.proofs.FractionSteps.{one_product, product_one}
 use Rattle.ore_ring.proofs.PlainNumbers.{plain_push}
@@ -27,7 +26,7 @@ abbrev pub one_term : Term
 one_term = (unit, whole (pos 1))
 
 module _ (s : Signature) where
-  one_meets_none : (u : Term) → MeetsNone integers s unit u.0
+  one_meets_none : (u : Term) → MeetsNone s unit u.0
   one_meets_none u x a n = absurd (n (exponent-unit _))
 
   one_number : (out : Terms) (u : Term) → IsInRange u → push_number program u.1 out (product unit u.0, pos 1) ≡ Ok (out ++ u ∷ [])

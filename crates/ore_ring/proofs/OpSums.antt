@@ -11,7 +11,8 @@ use Rattle.std.specs.FinMap.Entries.{below_all}
 use Rattle.ore_algebra.specs.Limits.{Cause, program}
 use Rattle.ore_algebra.proofs.DomainLaws as Numbers
 use Rattle.ore_rational.specs.Fraction.{Fraction, whole, neg, mul}
-use Rattle.ore_rational.proofs.FractionLaws.{rationals, whole-neg}
+use Rattle.ore_rational.specs.Field.{rationals}
+use Rattle.ore_rational.specs.FractionRing.{whole-neg}
 use Rattle.ore_monomial.specs.Monomial.{Monomial}
 use Rattle.ore_monomial.specs.declared.order.Order.{Order}
 use Rattle.ore_monomial.specs.Signature.{Signature}

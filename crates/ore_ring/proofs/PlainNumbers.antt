@@ -15,23 +15,24 @@ use Rattle.ore_monomial.specs.Numbers.{falling_over}
 use Rattle.ore_rational.specs.Fraction.{Fraction}
 use Rattle.ore_ring.specs.Terms.{Terms}
 use Rattle.ore_ring.specs.Contributions.{push_number, push_product}
-use Rattle.ore_ring.proofs.AdjointParts.{MeetsNone, clear_product}
+use Rattle.ore_ring.specs.Meets.{MeetsNone}
+use Rattle.ore_ring.proofs.AdjointParts.{clear_product}
 use Rattle.ore_monomial.proofs.FallingTerms.{falling_over-collect}
 
-pub plain_numbers : (s : Signature) (m n : Monomial) → MeetsNone integers s m n → numbers s m n ≡ (product m n, pos 1) ∷ []
+pub plain_numbers : (s : Signature) (m n : Monomial) → MeetsNone s m n → numbers s m n ≡ (product m n, pos 1) ∷ []
 unfolding numbers single
 plain_numbers s m n h =
     ap (falling_over integers s.order) (clear_product integers s m n h)
     ∙ falling_over-collect integers s.order ((product m n, pos 1) ∷ []) tt (integers.one_apart, tt)
 
-pub still_meets : (s : Signature) → ((x : Rattle.std.proofs.Common.ℕ) → is_acting (kind_at s x) ≡ false) → (m n : Monomial) → MeetsNone integers s m n
+pub still_meets : (s : Signature) → ((x : Rattle.std.proofs.Common.ℕ) → is_acting (kind_at s x) ≡ false) → (m n : Monomial) → MeetsNone s m n
 still_meets s h m n x a k = absurd (true≢false (sym a ∙ h x))
 
-one_number : (m : Monomial) → numbers_within program ((m, pos 1) ∷ []) ≡ Ok ((m, pos 1) ∷ [])
+pub one_number : (m : Monomial) → numbers_within program ((m, pos 1) ∷ []) ≡ Ok ((m, pos 1) ∷ [])
 unfolding numbers_within
 one_number m = refl
 
-pub plain_push : (s : Signature) (uv : Fraction) (out : Terms) (m n : Monomial) → MeetsNone integers s m n → push_product program s uv out m n ≡ push_number program uv out (product m n, pos 1)
+pub plain_push : (s : Signature) (uv : Fraction) (out : Terms) (m n : Monomial) → MeetsNone s m n → push_product program s uv out m n ≡ push_number program uv out (product m n, pos 1)
 unfolding push_product
 plain_push s uv out m n h =
     ap (λ ks. numbers_within program ks >>= λ ks. fold_within (push_number program uv) out ks) (plain_numbers s m n h)

@@ -24,7 +24,7 @@ module _ (K : Domain) (s : Signature) where
   -- a product is linear in each factor
   pub times-linear_left : (g : Operator K) → IsLinear K plain_cmp (λ f. times K s f g)
   unfolding times
-  times-linear_left g = Operators.linear_extend K (λ m. monomial_times K s m g)
+  times-linear_left g = Operators.linear_extension-linear K (λ m. monomial_times K s m g)
 
   pub times-linear_right : (f : Operator K) → IsLinear K plain_cmp (λ g. times K s f g)
   unfolding times
@@ -32,7 +32,7 @@ module _ (K : Domain) (s : Signature) where
 
   pub times_one_left : (m : Monomial) (g : Operator K) → times K s (one_term K m) g ≡ monomial_times K s m g
   unfolding times
-  times_one_left m g = Operators.extend_one K (λ m. monomial_times K s m g) m
+  times_one_left m g = Operators.linear_extension_one K (λ m. monomial_times K s m g) m
 
 module _ (K : Domain) (s : Signature) (lawful : IsLawful s) where
   Passes : ℕ → Type 0

@@ -7,7 +7,7 @@ use Rattle.std.specs.declared.result.Result.{Result}
 use Rattle.std.specs.declared.result.Result.TheVariants.{Ok, Err}
 use Rattle.ore_algebra.specs.Free.{empty_sum}
 use Rattle.ore_algebra.specs.Limits.{Cause, Degree, program, ◌>>=◌, fold_within}
-use Rattle.ore_rational.proofs.FractionLaws.{rationals}
+use Rattle.ore_rational.specs.Field.{rationals}
 use Rattle.ore_monomial.specs.declared.stop.RingStop.{RingStop}
 use Rattle.ore_monomial.specs.Gives.{Gives}
 use Rattle.ore_monomial.specs.Monomial.{plain_cmp}

@@ -1,7 +1,7 @@
 -- One term added to falling terms, at its place.
 --     splice_end, splice_before    it is inserted, at the end or before a lesser term
 --     splice_at, splice_stops      its monomial is there: the sum, or the sum stops
---     later_less, any_default      a later term is less; an element, whatever the default
+--     later_less                   a later term is less
 --     over_to, not_over_from       what one comparison says of the terms before and after
 use Rattle.std.proofs.Common.{◌≡◌, ◌≢◌, ℕ, zero, suc, ◌+◌, ◌<◌, ◌≤◌, List, [], ◌∷◌, ◌++◌, take, drop, set, length, get_or, refl, sym, ap, ◌∙◌, arith, add-one, T, ◌⊎◌, ⊎_elim}
 use Rattle.std.specs.declared.cmp.Ordering.{Ordering}
@@ -15,15 +15,17 @@ use Rattle.ore_monomial.specs.declared.order.Order.{Order}
 use Rattle.ore_monomial.proofs.Monomials.{order_total}
 use Rattle.ore_algebra.specs.Limits.{Limits, Cause}
 use Rattle.ore_algebra.specs.Results.{◌>>=◌, fronted}
+use Rattle.ore_algebra.proofs.ListLaws.{drop_item}
 use Rattle.ore_rational.specs.Within.{sum_within}
 use Rattle.std.specs.FinMap.{is_sorted}
 use Rattle.std.specs.FinMap.Entries.{below_all}
+use Rattle.std.proofs.lemmas.List.{get_or_default}
 use Rattle.ore_ring.specs.Terms.{Term, Terms}
 use Rattle.ore_monomial.specs.Numbers.{back}
 use Rattle.ore_ring.proofs.Falls.{first, second, less_of}
 use Rattle.ore_ring.specs.Place.{IsOver}
 use Rattle.ore_ring.specs.Merge.{kept, step_within, merge_within}
-use Rattle.ore_ring.proofs.MergeSteps.{next, heads, merge_nil, nil_merge}
+use Rattle.ore_ring.proofs.MergeSteps.{heads, merge_nil, nil_merge}
 
 set_split : {A : Type 0} (xs : List A) (i : ℕ) (y : A) → i < length xs → set xs i y ≡ take i xs ++ y ∷ drop (suc i) xs
 set_split [] i y h = absurd (omega arith)
@@ -64,7 +66,7 @@ module _ (l : Limits) (o : Order) (u : Term) where
     at_term : (t : Term) (r : Ordering) → k < length ts → t ≡ get_or ts k t → r ≡ order_cmp o u.0 t.0
         → merge_within l o ts (u ∷ []) ≡ fronted (take k ts) (step_within l (ordering_reverse r) t u (merge_within l o (drop (k + 1) ts) (u ∷ [])) (merge_within l o (drop (k + 1) ts) []) (merge_within l o (t ∷ drop (k + 1) ts) []))
     at_term t r h e f =
-        merge_past ts k over ∙ ap (λ ys. fronted (take k ts) (merge_within l o ys (u ∷ []))) (next ts k t h e)
+        merge_past ts k over ∙ ap (λ ys. fronted (take k ts) (merge_within l o ys (u ∷ []))) (drop_item ts k t h e)
         ∙ ap (fronted (take k ts)) (heads l o t u (drop (k + 1) ts) [] ∙ ap (λ q. step_within l q t u (merge_within l o (drop (k + 1) ts) (u ∷ [])) (merge_within l o (drop (k + 1) ts) []) (merge_within l o (t ∷ drop (k + 1) ts) [])) ((order_total o).antisymm t.0 u.0 ∙ ap ordering_reverse (sym f)))
 
     -- before a smaller term
@@ -72,7 +74,7 @@ module _ (l : Limits) (o : Order) (u : Term) where
     splice_before t h e f =
         at_term t Greater h e f
         ∙ ap (λ r. fronted (take k ts) (r >>= λ ys. Ok (u ∷ ys))) (merge_nil l o (t ∷ drop (k + 1) ts))
-        ∙ ap (λ ys. Ok (take k ts ++ u ∷ ys)) (sym (next ts k t h e))
+        ∙ ap (λ ys. Ok (take k ts ++ u ∷ ys)) (sym (drop_item ts k t h e))
 
     -- at an equal one
     pub splice_at : (t : Term) (s : Fraction) → k < length ts → t ≡ get_or ts k t → Equal ≡ order_cmp o u.0 t.0 → sum_within l t.1 u.1 ≡ Ok s → merge_within l o ts (u ∷ []) ≡ Ok (take k ts ++ kept t.0 s (drop (k + 1) ts))
@@ -97,11 +99,6 @@ later_less o (t ∷ ts) h i zero d e k l = absurd (omega arith)
 later_less o (t ∷ ts) h zero (suc j) d e k l = below_at o t.0 ts j e (first _ _ h) (omega arith)
 later_less o (t ∷ ts) h (suc i) (suc j) d e k l = later_less o ts (second _ _ h) i j d e (omega arith) (omega arith)
 
-pub any_default : {A : Type 0} (xs : List A) (i : ℕ) (d e : A) → i < length xs → get_or xs i d ≡ get_or xs i e
-any_default [] i d e h = absurd (omega arith)
-any_default (x ∷ xs) zero d e h = refl
-any_default (x ∷ xs) (suc i) d e h = any_default xs i d e (omega arith)
-
 at_or_before : (i n : ℕ) → i < n + 1 → (i < n) ⊎ (i ≡ n)
 at_or_before i n h = grind arith
 
@@ -112,7 +109,7 @@ pub over_to : (o : Order) (m : Monomial) (ts : Terms) (n : ℕ) (t : Term) → T
 over_to o m ts n t h l e f i d a b =
     ⊎_elim
     (λ k. (order_total o).trans m t.0 (get_or ts i d).0 (sym f) (ap (λ u. order_cmp o u.0 (get_or ts i d).0) e ∙ later_less o ts h i n d t k l))
-    (λ k. ap (λ u. order_cmp o m u.0) (any_default ts i d t b ∙ ap (λ j. get_or ts j t) k ∙ sym e) ∙ sym f)
+    (λ k. ap (λ u. order_cmp o m u.0) (get_or_default ts i d t b ∙ ap (λ j. get_or ts j t) k ∙ sym e) ∙ sym f)
     (at_or_before i n a)
 
 pub not_over_from : (o : Order) (m : Monomial) (ts : Terms) (n : ℕ) (t : Term) → T (is_sorted (back o) ts) → n < length ts → t ≡ get_or ts n t → order_cmp o m t.0 ≢ Less
@@ -120,5 +117,5 @@ pub not_over_from : (o : Order) (m : Monomial) (ts : Terms) (n : ℕ) (t : Term)
 not_over_from o m ts n t h l e f i d a b g =
     ⊎_elim
     (λ k. f ((order_total o).trans m (get_or ts i d).0 t.0 g (ap (λ u. order_cmp o (get_or ts i d).0 u.0) e ∙ later_less o ts h n i t d k b)))
-    (λ k. f (ap (λ u. order_cmp o m u.0) (e ∙ ap (λ j. get_or ts j t) k ∙ any_default ts i t d b) ∙ g))
+    (λ k. f (ap (λ u. order_cmp o m u.0) (e ∙ ap (λ j. get_or ts j t) k ∙ get_or_default ts i t d b) ∙ g))
     (at_or_after i n a)

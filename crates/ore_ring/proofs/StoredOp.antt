@@ -8,7 +8,7 @@ use Rattle.ore_algebra.specs.Free.{empty_sum, single, plus, collect}
 use Rattle.ore_monomial.specs.Monomial.{plain_cmp}
 use Rattle.ore_monomial.specs.declared.order.Order.{Order}
 use Rattle.ore_monomial.proofs.Operators
-use Rattle.ore_rational.proofs.FractionLaws.{rationals}
+use Rattle.ore_rational.specs.Field.{rationals}
 use Rattle.ore_ring.specs.Terms.{Terms, Term, falling, IsFalling}
 use Rattle.ore_ring.proofs.TermLaws.{falling-collect}
 use Rattle.ore_ring.specs.Ordered.{Ordered}

@@ -1,12 +1,11 @@
 -- No exponent of a product is above the sum of the factors' exponents.
 --     own          1 at its own variable, and 0 at others
 --     AtMost       an operator has no exponent of y above d
---     most_none, most_plus, most_scale, most_single, most_extend    zero, sums, multiples, one term, linear maps
+--     most_none, most_plus, most_scale, most_single, most_linear_extension    zero, sums, multiples, one term, linear maps
 --     times_most   products
 --     bound_of     each operator has a bound on all its exponents
 use Rattle.std.proofs.Common.{◌≡◌, ◌≢◌, ℕ, ◌+◌, ◌<◌, ◌≤◌, Bool, true, false, refl, sym, ap, ◌∙◌, subst, arith}
 use native.Mathlib.Decide.{dec_lt, ℕ_discrete}
-use Rattle.std.proofs.lemmas.List.Sums.{get_or-le-sum_by}
 use Rattle.ore_algebra.specs.Domain.{Domain}
 use Rattle.ore_algebra.specs.Free.{empty_sum, single, plus, scale, linear_extension, coefficient}
 use Rattle.ore_monomial.specs.Monomial.{Monomial, exponent, degree, raise, unit, plain_cmp}
@@ -14,7 +13,7 @@ use Rattle.ore_monomial.specs.Signature.{Signature, kind_at, coordinate_of, is_a
 use Rattle.ore_monomial.specs.LetterRule.{Operator, letter, letter_times, monomial_times}
 use Rattle.ore_ring.specs.Product.{times}
 use Rattle.ore_algebra.proofs.DomainLaws as Numbers
-use Rattle.ore_monomial.proofs.Monomials.{exponent-raise, exponent-raise_other, exponent_past, by_first, by_exponent}
+use Rattle.ore_monomial.proofs.Monomials.{exponent-raise, exponent-raise_other, by_first, by_exponent, exponent-degree}
 use Rattle.ore_monomial.proofs.Letters.{one_term, by_rule}
 use Rattle.ore_monomial.proofs.Commute.{letter_still, letter_clear, letter-raise_own}
 use Rattle.ore_monomial.proofs.MonomialProducts.{monomial_unit, monomial-raise}
@@ -60,8 +59,8 @@ module _ (K : Domain) (y : ℕ) where
   pub most_more : (d e : ℕ) (f : Operator K) → d ≤ e → AtMost d f → AtMost e f
   most_more d e f l a q h = a q (omega arith)
 
-  pub most_extend : (d e : ℕ) (h : Monomial → Operator K) (f : Operator K) → ((m : Monomial) → exponent m y ≤ d → AtMost e (h m)) → AtMost d f → AtMost e (linear_extension K plain_cmp h f)
-  most_extend d e h f a b q l = Operators.coefficient-extend K h f q ∙ Operators.total_vanish K _ f (λ m. by m (dec_lt d (exponent m y)))
+  pub most_linear_extension : (d e : ℕ) (h : Monomial → Operator K) (f : Operator K) → ((m : Monomial) → exponent m y ≤ d → AtMost e (h m)) → AtMost d f → AtMost e (linear_extension K plain_cmp h f)
+  most_linear_extension d e h f a b q l = Operators.coefficient-linear_extension K h f q ∙ Operators.total_vanish K _ f (λ m. by m (dec_lt d (exponent m y)))
     where
       by : (m : Monomial) → Dec (d < exponent m y) → K.times (coefficient K plain_cmp f m) (coefficient K plain_cmp (h m) q) ≡ K.zero
       by m (yes s) = ap (λ k. K.times k (coefficient K plain_cmp (h m) q)) (b m s) ∙ Numbers.zero_times K _
@@ -88,7 +87,7 @@ module _ (K : Domain) (s : Signature) (lawful : IsLawful s) (y : ℕ) where
           let low : AtMost K y d (letter K s x m) = most_more K y (exponent m y + own x y) d (letter K s x m) (omega arith) ih in
           subst (AtMost K y d) (sym (letter-raise_own K s lawful x m xl h))
           (most_plus K y d _ _
-          (most_extend K y (exponent m y + own x y) d (letter K s t) (letter K s x m)
+          (most_linear_extension K y (exponent m y + own x y) d (letter K s t) (letter K s x m)
           (λ n l. subst (AtMost K y d) (sym (letter_still K s t n still)) (most_single K y d (raise t n) K.one (let p = exponent-raise_any t y n tl in omega arith))) ih)
           (most_plus K y d _ _ (most_scale K y d _ _ low)
           (most_plus K y d _ _ (most_scale K y d _ _ (most_single K y d m K.one (omega arith))) (most_scale K y d _ _ (most_single K y d (raise t m) K.one (omega arith))))))
@@ -99,7 +98,7 @@ module _ (K : Domain) (s : Signature) (lawful : IsLawful s) (y : ℕ) where
 
   pub letter_times_most : (x : ℕ) → x < 12 → (d : ℕ) (f : Operator K) → AtMost K y d f → AtMost K y (d + own x y) (letter_times K s x f)
   unfolding letter_times
-  letter_times_most x xl d f h = most_extend K y d (d + own x y) (letter K s x) f (λ m l. most_more K y (exponent m y + own x y) (d + own x y) _ (omega arith) (letter_most x xl m)) h
+  letter_times_most x xl d f h = most_linear_extension K y d (d + own x y) (letter K s x) f (λ m l. most_more K y (exponent m y + own x y) (d + own x y) _ (omega arith) (letter_most x xl m)) h
 
   monomial_most : (m : Monomial) (d : ℕ) (f : Operator K) → AtMost K y d f → AtMost K y (exponent m y + d) (monomial_times K s m f)
   monomial_most m d f h = by_first (λ m. AtMost K y (exponent m y + d) (monomial_times K s m f))
@@ -109,18 +108,10 @@ module _ (K : Domain) (s : Signature) (lawful : IsLawful s) (y : ℕ) where
 
   pub times_most : (d e : ℕ) (f g : Operator K) → AtMost K y d f → AtMost K y e g → AtMost K y (d + e) (times K s f g)
   unfolding times
-  times_most d e f g a b = most_extend K y d (d + e) (λ m. monomial_times K s m g) f (λ m l. most_more K y (exponent m y + e) (d + e) _ (omega arith) (monomial_most m e g b)) a
+  times_most d e f g a b = most_linear_extension K y d (d + e) (λ m. monomial_times K s m g) f (λ m l. most_more K y (exponent m y + e) (d + e) _ (omega arith) (monomial_most m e g b)) a
 
 -- each operator has a bound on all its exponents
 module _ (K : Domain) where
-  pub exponent-le-degree : (m : Monomial) (y : ℕ) → exponent m y ≤ degree m
-  unfolding exponent degree
-  exponent-le-degree m y = by (dec_lt y 12)
-    where
-      by : Dec (y < 12) → exponent m y ≤ degree m
-      by (yes h) = get_or-le-sum_by (λ a. a) m.exponents y 0 (subst (λ n. y < n) (sym m.twelve) h)
-      by (no n) = let p = exponent_past y m (omega arith) in omega arith
-
   pub bound_of : (f : Operator K) → (d : ℕ) × ((y : ℕ) → AtMost K y d f)
   bound_of = Operators.by_terms K (λ f. (d : ℕ) × ((y : ℕ) → AtMost K y d f)) (0, λ y. most_none K y 0)
-      (λ m k f r. (degree m + r.0, λ y. most_plus K y (degree m + r.0) _ _ (most_single K y (degree m + r.0) m k (let p = exponent-le-degree m y in omega arith)) (most_more K y r.0 (degree m + r.0) f (omega arith) (r.1 y))))
+      (λ m k f r. (degree m + r.0, λ y. most_plus K y (degree m + r.0) _ _ (most_single K y (degree m + r.0) m k (let p = exponent-degree m y in omega arith)) (most_more K y r.0 (degree m + r.0) f (omega arith) (r.1 y))))

@@ -7,32 +7,34 @@
 use Rattle.std.proofs.Common.{◌≡◌, ◌≢◌, true≢false, ℕ, zero, suc, ◌<◌, ◌≤◌, Bool, true, false, cond, not, ◌&&◌, T, ◌⊎◌, ⊎_elim, [], ◌∷◌, length, get_or, pos, refl, sym, ap, ◌∙◌, arith}
 use Rattle.std.specs.declared.cmp.Ordering.{Ordering}
 use Rattle.std.specs.declared.cmp.Ordering.TheVariants.{Less, Equal, Greater}
-use Rattle.std.specs.Ordering.{eq_by_cmp, is_eq, is_lt, ordering_reverse}
+use Rattle.std.specs.Ordering.{eq_by_cmp, is_lt, ordering_reverse}
 use Rattle.std.specs.Cmp.{tied_itself}
 use Rattle.std.specs.FinMap.{is_sorted}
 use Rattle.std.specs.List.Sorted.{IsStableBy}
 use Rattle.std.specs.declared.result.Result.TheVariants.{Ok, Err}
+use Rattle.std.proofs.lemmas.List.{get_or_default}
 use Rattle.ore_algebra.specs.Free.{coefficient, collect, empty_sum, plus, single, sum_at, terms}
 use Rattle.ore_algebra.specs.Limits.{Limits, Cause, Overflow, program, ◌>>=◌, guard}
 use Rattle.ore_algebra.proofs.FreeLaws
 use Rattle.ore_rational.specs.Fraction.{Fraction, whole, add}
 use Rattle.ore_rational.specs.Within.{sum_fits, sum_within}
-use Rattle.ore_rational.proofs.FractionLaws.{rationals, fraction_discrete}
+use Rattle.ore_rational.specs.Field.{rationals}
+use Rattle.ore_rational.specs.FractionRing.{fraction_discrete}
 use Rattle.ore_monomial.specs.Monomial.{Monomial, order_cmp, plain_cmp}
 use Rattle.ore_monomial.specs.declared.order.Order.{Order}
 use Rattle.ore_monomial.specs.declared.order.Order.TheVariants.{DegLex}
 use Rattle.ore_monomial.specs.LetterRule.{Operator}
 use Rattle.ore_monomial.specs.Numbers.{back}
-use Rattle.ore_monomial.proofs.Monomials.{order_total, order_apart, plain_cmp_total, plain_cmp_apart}
+use Rattle.ore_monomial.proofs.Monomials.{order_total, order_apart, plain_cmp_total, plain_cmp_apart, own_key}
 use Rattle.ore_monomial.proofs.Operators
 use Rattle.ore_ring.specs.Terms.{Term, Terms}
 use Rattle.ore_ring.specs.Place.{IsOver}
 use Rattle.ore_ring.specs.Within.{add_term_within, plus_within, all_shared_fit, shared_fits}
 use Rattle.ore_ring.specs.Contributions.{add_terms_within, falls_before}
-use Rattle.ore_ring.proofs.AllTerms.{all_of_passes, distinct-terms, apart-terms}
-use Rattle.ore_ring.proofs.MergeIs.{at, eq_order, at_skip, at_own, shared_none, shared_some}
+use Rattle.ore_ring.proofs.AllTerms.{all_of_passes, distinct-terms, apart-terms, at_skip, at_own, at}
+use Rattle.ore_ring.proofs.MergeIs.{eq_order, shared_none, shared_some}
 use Rattle.ore_ring.proofs.Rearranged.{rearranged}
-use Rattle.ore_ring.proofs.Splice.{later_less, any_default}
+use Rattle.ore_ring.proofs.Splice.{later_less}
 
 -- ---- the coefficient of a sum with one term
 
@@ -45,9 +47,6 @@ with_term f m c = plus rationals plain_cmp f (single rationals plain_cmp m c)
 alone_at : (q m : Monomial) (c : Fraction) (b : Bool) → eq_by_cmp plain_cmp q m ≡ b → at_monomial (single rationals plain_cmp m c) q ≡ cond b c (whole (pos 0))
 unfolding single sum_at
 alone_at q m c b e = Operators.coefficient-collect rationals ((m, c) ∷ []) q ∙ ap (λ b. add (cond b c (whole (pos 0))) (whole (pos 0))) e ∙ rationals.plus_zero (cond b c (whole (pos 0)))
-
-own_key : (m : Monomial) → eq_by_cmp plain_cmp m m ≡ true
-own_key m = ap is_eq (tied_itself plain_cmp_total m)
 
 own_value : (f : Operator rationals) (m : Monomial) (c : Fraction) → at_monomial (with_term f m c) m ≡ add (at_monomial f m) c
 own_value f m c = Operators.coefficient-plus rationals f (single rationals plain_cmp m c) m ∙ ap (add (at_monomial f m)) (alone_at m m c true (own_key m))
@@ -170,15 +169,15 @@ module _ (o : Order) (m : Monomial) where
   unfolding sum_at
   number_absent [] h = refl
   number_absent (t ∷ ts) h =
-      at_skip program o m t ts (not_eq t.0 (h 0 t (omega arith))) ∙ number_absent ts (λ i d k. h (suc i) d (omega arith))
+      at_skip m t ts (not_eq t.0 (h 0 t (omega arith))) ∙ number_absent ts (λ i d k. h (suc i) d (omega arith))
 
   pub number_there : (ts : Terms) (k : ℕ) (t : Term) → k < length ts → t ≡ get_or ts k t → Equal ≡ order_cmp o m t.0 → ((i : ℕ) (d : Term) → i < length ts → i ≢ k → IsElse (get_or ts i d).0) → at m ts ≡ t.1
   number_there [] k t h e f n = absurd (omega arith)
   number_there (u ∷ us) zero t h e f n =
       let g : order_cmp o m u.0 ≡ Equal = ap (λ v. order_cmp o m v.0) (sym e) ∙ sym f in
-      at_own program o m u us (eq_order program o m u.0 Equal g) (number_absent us (λ i d k. n (suc i) d (omega arith) (omega arith))) ∙ ap (λ v. v.1) (sym e)
+      at_own m u us (eq_order program o m u.0 Equal g) (number_absent us (λ i d k. n (suc i) d (omega arith) (omega arith))) ∙ ap (λ v. v.1) (sym e)
   number_there (u ∷ us) (suc k) t h e f n =
-      at_skip program o m u us (not_eq u.0 (n 0 u (omega arith) (omega arith)))
+      at_skip m u us (not_eq u.0 (n 0 u (omega arith) (omega arith)))
       ∙ number_there us k t (omega arith) e f (λ i d l w. n (suc i) d (omega arith) (λ z. w (omega arith)))
 
 two_sides : (i k : ℕ) → i ≢ k → (i < k) ⊎ (k < i)
@@ -212,7 +211,7 @@ module _ (o : Order) (m : Monomial) (ts : Terms) (k : ℕ) (falls : T (is_sorted
     where
       same_place : (i : ℕ) (d : Term) → i < length ts → k ≡ i → IsElse o m (get_or ts i d).0
       same_place i d l b g =
-          let w : ◌≡◌ {A = Ordering} Greater Equal = f ∙ ap (λ u. order_cmp o m u.0) (e ∙ ap (λ j. get_or ts j t) b ∙ any_default ts i t d l) ∙ g in
+          let w : ◌≡◌ {A = Ordering} Greater Equal = f ∙ ap (λ u. order_cmp o m u.0) (e ∙ ap (λ j. get_or ts j t) b ∙ get_or_default ts i t d l) ∙ g in
           let no : ⊥ = cc in no
 
   pub term_past : length ts ≤ k → at m ts ≡ whole (pos 0)

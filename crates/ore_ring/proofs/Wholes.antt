@@ -1,21 +1,16 @@
 -- Whole numbers that pass the test are in the range.
---     Decides-within    the test against the program's greatest magnitude
 --     whole_of          numbers that are within the limits
-use Rattle.std.proofs.Common.{◌≡◌, ℕ, ◌<◌, ◌^◌, arith, Bool, true, false, List, [], ◌∷◌, refl, subst, ℤ, nat_abs}
+use Rattle.std.proofs.Common.{◌≡◌, Bool, true, false, List, [], ◌∷◌, refl, subst, ℤ, nat_abs}
 use Rattle.std.specs.declared.result.Result.TheVariants.{Ok}
-use Rattle.std.specs.Bool.{Decides}
 use Rattle.std.specs.List.{list_all}
-use Rattle.std.proofs.lemmas.Bool.Decides.{leb_tells}
 use Rattle.std.proofs.lemmas.List.Elements.{All-nil, All-cons}
 use Rattle.ore_monomial.specs.Monomial.{Monomial}
 use Rattle.ore_rational.specs.Range.{InRange}
+use Rattle.ore_rational.proofs.Bounds.{Decides-within}
 use Rattle.ore_algebra.specs.Limits.{Overflow, program, is_within, guard}
 use Rattle.ore_monomial.specs.Numbers.{numbers_within}
 use Rattle.ore_ring.proofs.Falls.{left_true, right_true}
 use Rattle.ore_ring.specs.Products.{AreWhole}
-
-Decides-within : (n : ℕ) → Decides (is_within program.magnitude n) (n < 2 ^ 127)
-Decides-within n = let t = leb_tells n 170141183460469231731687303715884105727 in grind (arith, t)
 
 tested : (ks : List (Monomial × ℤ)) → list_all (λ k. is_within program.magnitude (nat_abs k.1)) ks ≡ true → AreWhole ks
 tested [] e = All-nil (λ (k : Monomial × ℤ). InRange k.1)

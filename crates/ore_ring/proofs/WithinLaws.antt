@@ -1,5 +1,5 @@
 -- What sums and products within limits give.
---     sum_unlimited, plus_unlimited, times_unlimited ..    with no limits they are the sums and products
+--     plus_unlimited, times_unlimited ..    with no limits they are the sums and products
 --     product_contributed      the contributions of a product of two monomials
 --     plus_at_most, times_at_most ..                       Ok within limits is the same value
 --     plus_value, times_value  so an Ok is the sum, the product
@@ -8,7 +8,8 @@ use Rattle.std.specs.declared.result.Result.{Result}
 use Rattle.std.specs.declared.result.Result.TheVariants.{Ok, Err}
 use Rattle.std.specs.List.{list_all}
 use Rattle.ore_rational.specs.Fraction.{Fraction, whole, add, mul}
-use Rattle.ore_rational.proofs.FractionLaws.{fraction_discrete, rationals}
+use Rattle.ore_rational.specs.Field.{rationals}
+use Rattle.ore_rational.specs.FractionRing.{fraction_discrete}
 use Rattle.ore_algebra.specs.Free.{terms, empty_sum, single}
 use Rattle.ore_monomial.specs.Monomial.{Monomial, plain_cmp}
 use Rattle.ore_monomial.specs.Signature.{Signature}
@@ -20,6 +21,7 @@ use Rattle.ore_ring.proofs.Product.{times-linear_left, times_one_left}
 use Rattle.ore_algebra.specs.Limits.{Limits, Cause, Overflow, Degree, unlimited, is_within, ◌>>=◌, guard, fold_within, IsAtMost}
 use Rattle.ore_algebra.proofs.LimitLaws.{most_test, most_bind, most_fold, value_from}
 use Rattle.ore_rational.specs.Within.{sum_fits, sum_within, fits, product_within}
+use Rattle.ore_rational.proofs.WithinLaws.{sum_unlimited, product_unlimited}
 use Rattle.ore_ring.specs.Terms.{Term, Terms, falling}
 use Rattle.ore_ring.specs.Within.{add_term_within, shared_fits, all_shared_fit, plus_within, degrees_fit, contribute, pair_within, row_within, times_within}
 use Rattle.ore_monomial.specs.Numbers.{numbers, numbers_within}
@@ -30,14 +32,6 @@ abbrev one_of : Monomial → Fraction → Operator rationals
 one_of = single rationals plain_cmp
 
 -- ---- no limits
-
-pub sum_unlimited : (p q : Fraction) → sum_within unlimited p q ≡ Ok (add p q)
-unfolding sum_within sum_fits
-sum_unlimited p q = refl
-
-pub product_unlimited : (p q : Fraction) → product_within unlimited p q ≡ Ok (mul p q)
-unfolding product_within fits
-product_unlimited p q = refl
 
 pub add_term_unlimited : (f : Operator rationals) (m : Monomial) (c : Fraction) → add_term_within unlimited f m c ≡ Ok (f + one_of m c)
 unfolding add_term_within sum_within sum_fits

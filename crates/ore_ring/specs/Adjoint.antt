@@ -4,6 +4,7 @@
 --     adjoint_letter_times     the adjoint of a letter, times an operator
 --     adjoint_monomial         the product of the adjoints of a monomial's letters, in reverse order
 --     adjoint                  the same for each term of an operator
+--     adjoint_power_times, adjoint_letters_times  the same for a power of a letter; for the letters from one on
 use Rattle.std.specs.Prelude.{ℕ, zero, suc, List, [], ◌∷◌}
 use Rattle.ore_algebra.specs.Domain.{Domain}
 use Rattle.ore_algebra.specs.Free.{single, scale, linear_extension}

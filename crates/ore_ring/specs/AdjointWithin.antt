@@ -13,7 +13,7 @@ use Rattle.ore_algebra.specs.Free.{empty_sum}
 use Rattle.ore_algebra.specs.Limits.{Limits, Cause, ◌>>=◌, fold_within}
 use Rattle.ore_algebra.specs.Ring.{power}
 use Rattle.ore_rational.specs.Fraction.{mul}
-use Rattle.ore_rational.proofs.FractionLaws.{rationals}
+use Rattle.ore_rational.specs.Field.{rationals}
 use Rattle.ore_monomial.specs.Monomial.{Monomial, monomial_of, degree, plain_cmp}
 use Rattle.ore_monomial.specs.Signature.{Signature, kind_at, is_coordinate}
 use Rattle.ore_monomial.specs.LetterRule.{Operator}

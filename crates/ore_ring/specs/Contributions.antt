@@ -14,7 +14,7 @@ use Rattle.ore_algebra.specs.Limits.{Limits, Cause, ◌>>=◌, fold_within}
 use Rattle.ore_rational.specs.Fraction.{Fraction, whole, mul}
 use Rattle.ore_rational.specs.Range.{InRange}
 use Rattle.ore_rational.specs.Within.{product_within}
-use Rattle.ore_rational.proofs.FractionLaws.{rationals}
+use Rattle.ore_rational.specs.Field.{rationals}
 use Rattle.ore_monomial.specs.Monomial.{Monomial, order_cmp}
 use Rattle.ore_monomial.specs.declared.order.Order.{Order}
 use Rattle.ore_monomial.specs.Signature.{Signature}

@@ -2,13 +2,15 @@
 --     kept             a term, unless its number is none
 --     merge_within     the sum, where the fraction of each shared monomial fits
 --     opposite_terms   the terms with each fraction negated
+--     step_within      one step: a term of the left list, of the right one, or the sum of both
+--     into_within      a term and a list that follows it, merged with another list
 use Rattle.std.specs.Prelude.{[], ◌∷◌, map, pos}
 use Rattle.std.specs.declared.cmp.Ordering.{Ordering}
 use Rattle.std.specs.Ordering.{match_ordering}
 use Rattle.std.specs.declared.result.Result.{Result}
 use Rattle.std.specs.declared.result.Result.TheVariants.{Ok}
 use Rattle.ore_rational.specs.Fraction.{Fraction, whole, neg}
-use Rattle.ore_rational.proofs.FractionLaws.{fraction_discrete}
+use Rattle.ore_rational.specs.FractionRing.{fraction_discrete}
 use Rattle.ore_monomial.specs.Monomial.{Monomial, order_cmp}
 use Rattle.ore_monomial.specs.declared.order.Order.{Order}
 use Rattle.ore_algebra.specs.Limits.{Limits, Cause, ◌>>=◌}

@@ -1,6 +1,7 @@
 -- What contracts see of a stored operator: the operator beside the order of its terms.
 --     Ordered                        an order, and an operator over the fractions
 --     operator_code, ordered_code    codes of these values as lists of numbers
+--     coefficient_code               the code of coefficients
 use Rattle.std.specs.Prelude.{refl}
 use Rattle.std.specs.Coded.{Coded, coded×, code_by}
 use Rattle.std.specs.FinMap as finite_map
@@ -8,7 +9,7 @@ use Rattle.ore_algebra.specs.Free.{NonZero, non_zero_of}
 use Rattle.ore_algebra.proofs.FreeLaws.{non_zero_again}
 use Rattle.ore_rational.specs.Fraction.{Fraction}
 use Rattle.ore_rational.specs.Reduced.{fraction_code}
-use Rattle.ore_rational.proofs.FractionLaws.{rationals}
+use Rattle.ore_rational.specs.Field.{rationals}
 use Rattle.ore_monomial.specs.declared.order.Order.{Order}
 use Rattle.ore_monomial.specs.LetterRule.{Operator}
 use Rattle.ore_monomial.specs.MonomialCode.{monomial_code}

@@ -14,7 +14,8 @@ use Rattle.ore_algebra.specs.Free.{coefficient, terms, empty_sum, single, plus, 
 use Rattle.ore_algebra.specs.Limits.{Limits, Cause, Overflow, Degree, is_within, ◌>>=◌, guard, fold_within}
 use Rattle.ore_rational.specs.Fraction.{Fraction, whole}
 use Rattle.ore_rational.specs.Within.{sum_fits, sum_within, product_within}
-use Rattle.ore_rational.proofs.FractionLaws.{fraction_discrete, rationals}
+use Rattle.ore_rational.specs.Field.{rationals}
+use Rattle.ore_rational.specs.FractionRing.{fraction_discrete}
 use Rattle.ore_monomial.specs.Monomial.{Monomial, degree, plain_cmp}
 use Rattle.ore_monomial.specs.Signature.{Signature}
 use Rattle.ore_monomial.specs.LetterRule.{Operator}

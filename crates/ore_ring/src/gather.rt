@@ -7,7 +7,7 @@ ghost use Rattle.std.specs.Map.{lookup};
 ghost use Rattle.std.specs.Ordering.{nat_cmp};
 ghost use Rattle.ore_algebra.specs.Free.{empty_sum};
 ghost use Rattle.ore_algebra.specs.Limits.{program};
-ghost use Rattle.ore_rational.proofs.FractionLaws.{rationals};
+ghost use Rattle.ore_rational.specs.Field.{rationals};
 ghost use Rattle.ore_monomial.specs.Gives.{Turns};
 ghost use Rattle.ore_monomial.specs.Monomial.{plain_cmp};
 ghost use Rattle.ore_ring.specs.IsGathered.{number_of};
@@ -40,7 +40,7 @@ impl Model for Gather {
 
     ghost use Rattle.ore_algebra.specs.Free.{collect};
     ghost use Rattle.ore_monomial.specs.Monomial.{plain_cmp};
-    ghost use Rattle.ore_rational.proofs.FractionLaws.{rationals};
+    ghost use Rattle.ore_rational.specs.Field.{rationals};
     ghost use Rattle.ore_ring.specs.IsGathered.{IsGathered, terms_of};
 
     ghost view = { λ a. record { by = a.order; sum = collect rationals plain_cmp (terms_of a.map.entries) } };

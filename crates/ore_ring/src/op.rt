@@ -4,7 +4,7 @@ ghost use Rattle.std.specs.Prelude.{◌≡◌, ◌≢◌, length, slice_get, OnO
 ghost use Rattle.ore_algebra.specs.Free.{empty_sum, single, plus, collect};
 ghost use Rattle.ore_algebra.specs.Limits.{program};
 ghost use Rattle.ore_rational.specs.Fraction.{whole};
-ghost use Rattle.ore_rational.proofs.FractionLaws.{rationals};
+ghost use Rattle.ore_rational.specs.Field.{rationals};
 ghost use Rattle.ore_monomial.specs.Gives.{Turns};
 ghost use Rattle.ore_monomial.specs.Monomial.{plain_cmp};
 ghost use Rattle.ore_ring.specs.Lead.{IsLead};
@@ -36,7 +36,7 @@ impl Model for Op {
 
     ghost use Rattle.ore_algebra.specs.Free.{collect};
     ghost use Rattle.ore_monomial.specs.Monomial.{plain_cmp};
-    ghost use Rattle.ore_rational.proofs.FractionLaws.{rationals};
+    ghost use Rattle.ore_rational.specs.Field.{rationals};
     ghost use Rattle.ore_ring.specs.Terms.{IsFalling};
 
     ghost view = { λ a. record { by = a.order; sum = collect rationals plain_cmp a.terms.items } };

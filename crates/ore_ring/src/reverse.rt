@@ -4,7 +4,7 @@ ghost use Rattle.std.specs.Prelude.{◌≡◌, ◌+◌, ◌≤◌, IfOk};
 ghost use Rattle.ore_algebra.specs.Limits.{program, fold_within};
 ghost use Rattle.ore_algebra.specs.Ring.{power};
 ghost use Rattle.ore_rational.specs.Fraction.{mul};
-ghost use Rattle.ore_rational.proofs.FractionLaws.{rationals};
+ghost use Rattle.ore_rational.specs.Field.{rationals};
 ghost use Rattle.ore_monomial.specs.Gives.{Gives, Turns};
 ghost use Rattle.ore_monomial.specs.Monomial.{degree};
 ghost use Rattle.ore_monomial.specs.Signature.{kind_at, is_coordinate as is_coordinate_kind};

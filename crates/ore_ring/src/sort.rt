@@ -5,7 +5,7 @@ ghost use Rattle.std.specs.List.Sorted.{IsStableBy};
 ghost use Rattle.ore_algebra.specs.Free.{empty_sum};
 ghost use Rattle.ore_algebra.specs.Limits.{program};
 ghost use Rattle.ore_rational.specs.Fraction.{whole};
-ghost use Rattle.ore_rational.proofs.FractionLaws.{rationals};
+ghost use Rattle.ore_rational.specs.Field.{rationals};
 ghost use Rattle.ore_monomial.specs.Gives.{Gives, Turns};
 ghost use Rattle.ore_monomial.specs.Monomial.{plain_cmp};
 ghost use Rattle.ore_ring.specs.Contributions.{add_terms_within, falls_before, IsInRange, AreInRange};

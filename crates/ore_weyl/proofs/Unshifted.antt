@@ -24,8 +24,8 @@ use Rattle.ore_monomial.specs.Passing.{choose, numbers_to}
 use Rattle.ore_monomial.specs.Signature.{Signature, kind_at, is_acting, is_coordinate, coordinate_of, is_differential_on}
 use Rattle.ore_monomial.proofs.Monomials.{with_own}
 use Rattle.ore_monomial.proofs.Signatures.{lawful}
-use Rattle.ore_commute.specs.ClosedForm.{falling, fallen, divisor, number, lowered, shifted_terms, axis_terms, passed, step_on, step_sum, total_step, axes_below, differential_of}
-use Rattle.ore_commute.specs.Product.{Terms, divided, checked, IsStarted}
+use Rattle.ore_commute.specs.ClosedForm.{falling_factorial, fallen, divisor, number, lowered, shifted_terms, axis_terms, passed, step_on, step_sum, total_step, axes_below, differential_of}
+use Rattle.ore_commute.specs.Product.{IntegerTerms, divided, checked, IsStarted}
 use Rattle.ore_commute.proofs.Axes.{found, coordinate_is}
 use Rattle.ore_commute.proofs.Divisors.{quotient-divisor}
 use Rattle.ore_commute.proofs.Kept.{lowered_none, lowered_some}
@@ -83,21 +83,21 @@ module _ (s : Signature) (unshifted : HasNoShift s) where
 still_number : (c a k j : ℕ) → number integers (pos 0) c a k (suc j) ≡ pos 0
 unfolding number
 still_number c a k j =
-    ap (λ z. integers.times (of_nat integers.ring (choose c k * falling a k)) (integers.times (of_nat integers.ring (choose (a - k) (suc j))) z)) (Numbers.zero_times integers (power integers.ring (pos 0) j))
-    ∙ ap (integers.times (of_nat integers.ring (choose c k * falling a k))) (Numbers.times_zero integers (of_nat integers.ring (choose (a - k) (suc j))))
-    ∙ Numbers.times_zero integers (of_nat integers.ring (choose c k * falling a k))
+    ap (λ z. integers.times (of_nat integers.ring (choose c k * falling_factorial a k)) (integers.times (of_nat integers.ring (choose (a - k) (suc j))) z)) (Numbers.zero_times integers (power integers.ring (pos 0) j))
+    ∙ ap (integers.times (of_nat integers.ring (choose c k * falling_factorial a k))) (Numbers.times_zero integers (of_nat integers.ring (choose (a - k) (suc j))))
+    ∙ Numbers.times_zero integers (of_nat integers.ring (choose c k * falling_factorial a k))
 
-number_here : (c a k : ℕ) → number integers (pos 0) c a k 0 ≡ pos (choose c k * falling a k)
+number_here : (c a k : ℕ) → number integers (pos 0) c a k 0 ≡ pos (choose c k * falling_factorial a k)
 number_here c a k =
     number_is (pos 0) c a k 0
-    ∙ ap (λ n. pos (choose c k * falling a k) *ℤ (pos n *ℤ pos 1)) (choose_none (a - k))
-    ∙ integers.times_one (pos (choose c k * falling a k))
+    ∙ ap (λ n. pos (choose c k * falling_factorial a k) *ℤ (pos n *ℤ pos 1)) (choose_none (a - k))
+    ∙ integers.times_one (pos (choose c k * falling_factorial a k))
 
 nothing : (x : ℕ) (m : Monomial) → lower x 0 m ≡ m
 nothing x m = let q : exponent m x - 0 ≡ exponent m x = omega arith in ap (λ e. with_exponent x e m) q ∙ with_own x m
 
-module _ (p : ℕ × ℕ) (c a : ℕ) (us : Terms) where
-  abbrev lowered_by : ℕ → ℕ → Terms
+module _ (p : ℕ × ℕ) (c a : ℕ) (us : IntegerTerms) where
+  abbrev lowered_by : ℕ → ℕ → IntegerTerms
   lowered_by k j = lowered integers (number integers (pos 0) c a k j) p k j us
 
   no_more : (k m : ℕ) → flat_map (lowered_by k) (drop 1 (numbers_to m)) ≡ []
@@ -123,19 +123,19 @@ module _ (p : ℕ × ℕ) (c a : ℕ) (us : Terms) where
       ∙ (λ i. map (λ (u : Monomial × ℤ). (fallen p.0 p.1 0 0 u.0, number_first (pos 0) c a i *ℤ u.1)) us)
       ∙ each us
     where
-      each : (us : Terms) → map (λ (u : Monomial × ℤ). (fallen p.0 p.1 0 0 u.0, pos 1 *ℤ u.1)) us ≡ us
+      each : (us : IntegerTerms) → map (λ (u : Monomial × ℤ). (fallen p.0 p.1 0 0 u.0, pos 1 *ℤ u.1)) us ≡ us
       each [] = refl
       each (u ∷ us) = λ i. ((nothing p.0 (lower p.1 0 u.0) ∙ nothing p.1 u.0) i, integer_one-times u.1 i) ∷ each us i
 
-module _ (t d c a : ℕ) (us : Terms) (k : ℕ) (tl : t < 12) (n : t ≢ d) (kc : k ≤ c) (ka : k ≤ a) where
-  pub shifted_divided : shifted_terms integers (pos 0) (t, d) c a us k ≡ map (divided (divisor t d k 0) (pos (choose c k * falling a k))) us
+module _ (t d c a : ℕ) (us : IntegerTerms) (k : ℕ) (tl : t < 12) (n : t ≢ d) (kc : k ≤ c) (ka : k ≤ a) where
+  pub shifted_divided : shifted_terms integers (pos 0) (t, d) c a us k ≡ map (divided (divisor t d k 0) (pos (choose c k * falling_factorial a k))) us
   unfolding divided
   shifted_divided =
       shifted_lowered (t, d) c a us k
       ∙ lowered_some integers (number integers (pos 0) c a k 0) (t, d) k 0 us (number_apart (pos 0) c a k 0 kc (omega arith) (λ p. absurd (omega arith)))
       ∙ (λ i. map (λ (u : Monomial × ℤ). (sym (quotient-divisor t d k 0 u.0 tl n) i, number_here c a k i *ℤ u.1)) us)
 
-  pub shifted_over : (front : Terms) → IsStarted us → (choose c k * falling a k < 2 ^ 127 → ⊥) → checked front (shifted_terms integers (pos 0) (t, d) c a us k) ≡ Err Overflow
+  pub shifted_over : (front : IntegerTerms) → IsStarted us → (choose c k * falling_factorial a k < 2 ^ 127 → ⊥) → checked front (shifted_terms integers (pos 0) (t, d) c a us k) ≡ Err Overflow
   shifted_over front started big =
       ap (checked front) (shifted.shifted_all (pos 0) t d c a us k)
       ∙ shifted.shifted_over (pos 0) t d c a us k 0 tl n kc (omega arith) (λ p. absurd (omega arith)) front started (λ l. big (subst (λ z. nat_abs z < 2 ^ 127) (number_here c a k) l))

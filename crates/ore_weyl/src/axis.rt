@@ -7,7 +7,7 @@ ghost use Rattle.ore_algebra.proofs.Integers.{integers};
 ghost use Rattle.ore_monomial.specs.Gives.{Gives};
 ghost use Rattle.ore_monomial.specs.Monomial.{exponent, degree};
 ghost use Rattle.ore_monomial.specs.Passing.{choose};
-ghost use Rattle.ore_commute.specs.ClosedForm.{divisor as divisor_of, falling as falling_of, axis_terms};
+ghost use Rattle.ore_commute.specs.ClosedForm.{divisor as divisor_of, falling_factorial as falling_of, axis_terms};
 ghost use Rattle.ore_commute.specs.Product.{checked, IsStarted, HasRoom};
 
 use crate::number::number;

@@ -2,7 +2,7 @@
 
 ghost use Rattle.std.specs.Prelude.{◌*◌, ◌^◌, ◌<◌, ◌≤◌, pos, SomeIff};
 ghost use Rattle.ore_monomial.specs.Passing.{choose};
-ghost use Rattle.ore_commute.specs.ClosedForm.{falling as falling_of};
+ghost use Rattle.ore_commute.specs.ClosedForm.{falling_factorial as falling_of};
 
 use ore_commute::number::{binomial, falling, times, whole};
 

@@ -1,5 +1,5 @@
 use Rattle.std.proofs.Common.{suc, ◌≡◌, add-one, refl, subst, arith}
-use Rattle.ore_commute.specs.ClosedForm.{falling as falling_of}
+use Rattle.ore_commute.specs.ClosedForm.{falling_factorial as falling_of}
 use Rattle.ore_commute.proofs.Numbers.{falling_from, falling_rises}
 use Rattle.ore_commute.proofs.number.falling.Goals as goal
 

@@ -3,7 +3,7 @@ use mir.Syntax.{w128}
 use Rattle.ore_algebra.specs.Ring.{power as power_of}
 use Rattle.ore_algebra.proofs.Integers.{integers}
 use Rattle.ore_monomial.specs.Passing.{choose}
-use Rattle.ore_commute.specs.ClosedForm.{falling as falling_of, number as number_of}
+use Rattle.ore_commute.specs.ClosedForm.{falling_factorial as falling_of, number as number_of}
 use Rattle.ore_commute.proofs.Numbers.{factors, number_is}
 use Rattle.ore_commute.proofs.number.number.Goals as goal
 

@@ -3,7 +3,7 @@ use Rattle.std.proofs.Common.{◌≡◌, ℤ, pos, ap, ◌∙◌, sym, eqb→eq,
 use Rattle.std.specs.Int.{w128}
 use lib.Signed.{mag}
 use Rattle.std.proofs.lemmas.Int.{ints}
-use Rattle.ore_rational.proofs.FractionLaws.{zero-num}
+use Rattle.ore_rational.specs.FractionRing.{zero-num}
 use Rattle.ore_rational.proofs.Rational.is_zero.Goals as goal
 
 zero_bits : (z : ℤ) → mag z < 2 ^ 127 → of_z w128 z ≡ 0 → z ≡ pos 0

@@ -1,4 +1,4 @@
-use Rattle.ore_rational.proofs.FractionLaws.{whole-add, whole-neg, whole-mul, whole_injective}
+use Rattle.ore_rational.specs.FractionRing.{whole-add, whole-neg, whole-mul, whole_injective}
 use Rattle.ore_rational.proofs.laws.whole_numbers_are_fractions.Goals as goal
 
 pub returns-clause-sums : goal.returns-clause-sums

@@ -1,7 +1,7 @@
 use Rattle.std.proofs.Common.{◌≡◌, sym, subst}
 use Rattle.std.specs.Prelude.{MatchOption}
 use Rattle.ore_algebra.specs.Free.{empty_sum}
-use Rattle.ore_rational.proofs.FractionLaws.{rationals}
+use Rattle.ore_rational.specs.Field.{rationals}
 use Rattle.ore_monomial.specs.Monomial.{plain_cmp}
 use Rattle.ore_ring.specs.Lead.{IsLead}
 use Rattle.ore_ring.proofs.LeadTerm.{lead_is}

@@ -1,6 +1,6 @@
 use Rattle.std.proofs.Common.{arith}
 use Rattle.ore_monomial.specs.Passing.{choose}
-use Rattle.ore_commute.specs.ClosedForm.{falling as falling_of}
+use Rattle.ore_commute.specs.ClosedForm.{falling_factorial as falling_of}
 use Rattle.ore_commute.proofs.Numbers.{le-times, choose_apart, falling_apart}
 use Rattle.ore_weyl.proofs.number.number.Goals as goal
 

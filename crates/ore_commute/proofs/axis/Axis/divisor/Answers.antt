@@ -1,6 +1,7 @@
 use Rattle.std.proofs.Common.{◌+◌, sym, ap, ◌∙◌, arith}
 use Rattle.ore_monomial.specs.Monomial.{degree, product}
-use Rattle.ore_commute.proofs.Divisors.{divisor-product, divisor_alone, degree-power, ok_where}
+use Rattle.ore_monomial.proofs.Monomials.{degree-power}
+use Rattle.ore_commute.proofs.Divisors.{divisor-product, divisor_alone, ok_where}
 use Rattle.ore_commute.proofs.axis.Axis.divisor.Goals as goal
 
 pub variable_power-requires-in-Some : goal.variable_power-requires-in-Some

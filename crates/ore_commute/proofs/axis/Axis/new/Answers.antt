@@ -2,9 +2,8 @@ use Rattle.std.proofs.Common.{unwrap_or, lit≤, ap, ◌∙◌, arith}
 use Rattle.ore_algebra.proofs.Integers.{integers}
 use Rattle.ore_monomial.specs.Monomial.{exponent}
 use Rattle.ore_monomial.specs.Signature.{is_coordinate}
-use Rattle.ore_monomial.proofs.Monomials.{exponent_past}
+use Rattle.ore_monomial.proofs.Monomials.{exponent_past, exponent-degree}
 use Rattle.ore_commute.proofs.Axes.{not_both}
-use Rattle.ore_commute.proofs.Divisors.{exponent-degree}
 use Rattle.ore_commute.proofs.axis.Axis.new.Goals as goal
 
 pub invariant_of-result : goal.invariant_of-result

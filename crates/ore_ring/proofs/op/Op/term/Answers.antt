@@ -3,7 +3,7 @@ use Rattle.ore_algebra.specs.Free.{single, plus}
 use Rattle.ore_monomial.specs.Monomial.{plain_cmp}
 use Rattle.ore_monomial.specs.LetterRule.{Operator}
 use Rattle.ore_monomial.proofs.Operators
-use Rattle.ore_rational.proofs.FractionLaws.{rationals}
+use Rattle.ore_rational.specs.Field.{rationals}
 use Rattle.ore_ring.specs.Terms.{IsBelowLast, falling}
 use Rattle.ore_ring.proofs.Falls.{falling-none}
 use Rattle.ore_ring.specs.Ordered.{Ordered}

@@ -1,7 +1,8 @@
 use Rattle.std.proofs.Common.{◌≡◌, ◌+◌, subst, ap, ◌∙◌, arith}
 use Rattle.ore_monomial.specs.Monomial.{degree, product, with_exponent, unit}
+use Rattle.ore_monomial.proofs.Monomials.{degree-power}
 use Rattle.ore_commute.specs.ClosedForm.{divisor as divisor_of}
-use Rattle.ore_commute.proofs.Divisors.{divisor-product, degree-power, ok_where}
+use Rattle.ore_commute.proofs.Divisors.{divisor-product, ok_where}
 use Rattle.ore_weyl.proofs.axis.Axis.divisor.Goals as goal
 
 pub returns : goal.returns

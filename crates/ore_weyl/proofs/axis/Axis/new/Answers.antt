@@ -1,5 +1,5 @@
 use Rattle.std.proofs.Common.{arith}
-use Rattle.ore_commute.proofs.Divisors.{exponent-degree}
+use Rattle.ore_monomial.proofs.Monomials.{exponent-degree}
 use Rattle.ore_weyl.proofs.axis.Axis.new.Goals as goal
 
 pub invariant_of-result : goal.invariant_of-result

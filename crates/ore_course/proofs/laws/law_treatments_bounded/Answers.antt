@@ -1,5 +1,5 @@
 use Rattle.ore_course.proofs.Budget.{budget_exists, fewer, no_budget}
-use Rattle.ore_course.proofs.laws.law_budget_exists.Goals as goal
+use Rattle.ore_course.proofs.laws.law_treatments_bounded.Goals as goal
 
 pub returns-clause-exists : goal.returns-clause-exists
 returns-clause-exists g c = λ R few course. budget_exists R few course
