@@ -13,7 +13,7 @@ use Rattle.ore_algebra.specs.Free.{empty_sum}
 use Rattle.ore_algebra.specs.Limits.{Cause, map_within}
 use Rattle.ore_algebra.specs.Results.{◌>>=◌, fronted}
 use Rattle.ore_algebra.proofs.ResultLaws.{front_more}
-use Rattle.ore_rational.proofs.FractionLaws.{rationals}
+use Rattle.ore_rational.specs.Field.{rationals}
 use Rattle.ore_monomial.specs.Monomial.{plain_cmp}
 use Rattle.ore_monomial.specs.Signature.{Signature}
 use Rattle.ore_ring.specs.Ordered.{Ordered}

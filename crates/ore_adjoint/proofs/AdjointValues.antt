@@ -9,7 +9,7 @@ use Rattle.std.specs.List.{range_with_len}
 use Rattle.std.specs.declared.result.Result.TheVariants.{Ok}
 use Rattle.ore_algebra.specs.Limits.{Limits, unlimited, IsAtMost}
 use Rattle.ore_algebra.proofs.LimitLaws.{most_map, value_from}
-use Rattle.ore_rational.proofs.FractionLaws.{rationals}
+use Rattle.ore_rational.specs.Field.{rationals}
 use Rattle.ore_monomial.specs.Signature.{Signature}
 use Rattle.ore_ring.specs.Adjoint.{adjoint}
 use Rattle.ore_ring.specs.AdjointWithin.{adjoint_within}

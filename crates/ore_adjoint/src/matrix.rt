@@ -6,7 +6,7 @@ ghost use Rattle.ore_adjoint.specs.AdjointMatrix.{adjoint_column_within, transpo
 ghost use Rattle.ore_algebra.specs.Limits.{program};
 ghost use Rattle.ore_monomial.specs.Gives.{Gives};
 ghost use Rattle.ore_ring.specs.AdjointWithin.{adjoint_within};
-ghost use Rattle.ore_ring.specs.Belongs.{Belongs};
+ghost use Rattle.ore_ring.specs.Belongs.{AllBelong, Belongs};
 ghost use Rattle.ore_rows.specs.Stored.{rows_of, sums_of};
 
 use ore_monomial::RingStop;
@@ -24,11 +24,11 @@ pub fn transpose_adjoint<R: OreRing>(
     alloc: Global,
     m: &Matrix,
 ) -> Result<Matrix, RingStop>
-    requires of { All (All (Belongs (R.sig ring.now))) m.now.rows }
+    requires of { All (AllBelong (R.sig ring.now)) m.now.rows }
     ensures gives { Gives rows_of result (transpose_adjoint_within program (R.sig ring.now) m.now.cols (rows_of m.now)) }
     ensures cols { IfOk result (λ t. t.cols ≡ length m.now.rows) }
     ensures count { IfOk result (λ t. length t.rows ≡ m.now.cols) }
-    ensures of { IfOk result (λ t. All (All (Belongs (R.sig ring.now))) t.rows) }
+    ensures of { IfOk result (λ t. All (AllBelong (R.sig ring.now)) t.rows) }
 {
     let mut out = Vec::new(alloc);
     for j in 0..m.cols() {
@@ -44,10 +44,10 @@ fn adjoint_column<R: OreRing>(
     m: &Matrix,
     j: usize,
 ) -> Result<Row, RingStop>
-    requires of { All (All (Belongs (R.sig ring.now))) m.now.rows }
+    requires of { All (AllBelong (R.sig ring.now)) m.now.rows }
     requires place { j < m.now.cols }
     ensures gives { Gives sums_of result (adjoint_column_within program (R.sig ring.now) j (rows_of m.now)) }
-    ensures of { IfOk result (All (Belongs (R.sig ring.now))) }
+    ensures of { IfOk result (AllBelong (R.sig ring.now)) }
     ensures width { IfOk result (λ r. length r ≡ length m.now.rows) }
 {
     let mut out = Vec::new(alloc);

@@ -1,6 +1,5 @@
 -- The step that a row calls for, over any domain: it takes the lead away, and all that it brings is below the lead.
---     none_is_some, same_some  None is no Some; two values that are equal under Some are equal
---     IsStep                   what the step that a row calls for is
+--     IsReductionStep                   what the step that a row calls for is
 --     next_step-Some           the step that is found is that
 --     next_step-None           where none is found no lead divides the lead of the row
 --     no_step                  a row without a lead calls for no step
@@ -18,6 +17,7 @@ use Rattle.std.specs.declared.option.Option.{Option}
 use Rattle.std.specs.declared.option.Option.TheVariants.{None, Some}
 use Rattle.std.specs.Option.{option_map}
 use Rattle.std.proofs.lemmas.List.{length-map, get_or-map}
+use Rattle.std.proofs.lemmas.Option.{same_Some, none-some}
 use Rattle.ore_algebra.specs.Domain.{Domain}
 use Rattle.ore_monomial.specs.Monomial.{degree, quotient, Divides}
 use Rattle.ore_monomial.specs.Signature.{Signature, IsLawful}
@@ -29,49 +29,43 @@ use Rattle.ore_leads.specs.FirstDivisor.{first_divisor}
 use Rattle.ore_leads.proofs.Dividing.{divides_term_true, first_divisor-Some}
 use Rattle.ore_rows.specs.Rows.{Row, row_minus, row_scale}
 use Rattle.ore_rows.specs.RowLead.{coefficient_at, IsRowLead, IsRowBelow, row_lead}
-use Rattle.ore_rows.specs.Reduction.{Monic, AreMonic, Step, basis_rows, leads_of, row_at, basis_lead, origin, step_operator, step_by, next_step, room}
+use Rattle.ore_rows.specs.Reduction.{BasisRow, AreMonic, Step, basis_rows, leads_of, row_at, basis_lead, origin, step_operator, step_by, next_step, room}
 use Rattle.ore_rows.proofs.LeadAppend.{within_row}
 use Rattle.ore_rows.proofs.RowLeads.{lead-row_scale_term, below-row_minus}
 use Rattle.ore_rows.proofs.GreatestTerms.{row_lead-Some}
 use Rattle.ore_division.proofs.Heights
 
-pub none_is_some : {A : Type 0} {x : A} → ◌≡◌ {A = Option A} None (Some x) → ⊥
-none_is_some e = cc
-
-pub same_some : {A : Type 0} (x y : A) → ◌≡◌ {A = Option A} (Some x) (Some y) → x ≡ y
-same_some x y e = cc
-
 module _ (K : Domain) (o : Order) where
   -- the lead, the first place whose lead divides it, and what takes it away
-  pub record IsStep (basis : List (Monic (Row K))) (r : Row K) (t : Step K) : Type 0 where
+  pub record IsReductionStep (basis : List (BasisRow (Row K))) (r : Row K) (t : Step K) : Type 0 where
     pub lead : Term
     pub leads : row_lead K o r ≡ Some lead
     pub first : first_divisor (leads_of basis) lead ≡ Some t.index
     pub monomial : t.monomial ≡ quotient lead.monomial (basis_lead basis t.index).monomial
     pub number : t.number ≡ coefficient_at K r lead
 
-  pub next_step-Some : (basis : List (Monic (Row K))) (r : Row K) (t : Step K) → next_step K o basis r ≡ Some t → IsStep basis r t
+  pub next_step-Some : (basis : List (BasisRow (Row K))) (r : Row K) (t : Step K) → next_step K o basis r ≡ Some t → IsReductionStep basis r t
   unfolding next_step
   next_step-Some basis r t e = by (row_lead K o r) refl e
     where
-      found : (u : Term) → row_lead K o r ≡ Some u → (d : Option ℕ) → first_divisor (leads_of basis) u ≡ d → option_map (step_by K o basis r u) d ≡ Some t → IsStep basis r t
-      found u l None h e = absurd (none_is_some e)
-      found u l (Some i) h e = subst (IsStep basis r) (same_some _ _ e) (record { lead = u; leads = l; first = h; monomial = refl; number = refl })
+      found : (u : Term) → row_lead K o r ≡ Some u → (d : Option ℕ) → first_divisor (leads_of basis) u ≡ d → option_map (step_by K o basis r u) d ≡ Some t → IsReductionStep basis r t
+      found u l None h e = absurd (none-some _ e)
+      found u l (Some i) h e = subst (IsReductionStep basis r) (same_Some _ _ e) (record { lead = u; leads = l; first = h; monomial = refl; number = refl })
 
-      by : (u : Option Term) → row_lead K o r ≡ u → ◌≡◌ {A = Option (Step K)} (elim u [ None ↦ None | Some x ↦ option_map (step_by K o basis r x) (first_divisor (leads_of basis) x) ]) (Some t) → IsStep basis r t
-      by None l e = absurd (none_is_some e)
+      by : (u : Option Term) → row_lead K o r ≡ u → ◌≡◌ {A = Option (Step K)} (elim u [ None ↦ None | Some x ↦ option_map (step_by K o basis r x) (first_divisor (leads_of basis) x) ]) (Some t) → IsReductionStep basis r t
+      by None l e = absurd (none-some _ e)
       by (Some u) l e = found u l (first_divisor (leads_of basis) u) refl e
 
-  pub next_step-None : (basis : List (Monic (Row K))) (r : Row K) → next_step K o basis r ≡ None → (u : Term) → row_lead K o r ≡ Some u → first_divisor (leads_of basis) u ≡ None
+  pub next_step-None : (basis : List (BasisRow (Row K))) (r : Row K) → next_step K o basis r ≡ None → (u : Term) → row_lead K o r ≡ Some u → first_divisor (leads_of basis) u ≡ None
   unfolding next_step
   next_step-None basis r e u l = by (first_divisor (leads_of basis) u) (sym (ap (λ (x : Option Term). elim x [ None ↦ None | Some y ↦ option_map (step_by K o basis r y) (first_divisor (leads_of basis) y) ]) l) ∙ e)
     where
       by : (d : Option ℕ) → option_map (step_by K o basis r u) d ≡ None → d ≡ None
       by None h = refl
-      by (Some i) h = absurd (none_is_some (sym h))
+      by (Some i) h = absurd (none-some _ (sym h))
 
   -- a row without a lead calls for no step
-  pub no_step : (basis : List (Monic (Row K))) (r : Row K) → row_lead K o r ≡ None → next_step K o basis r ≡ None
+  pub no_step : (basis : List (BasisRow (Row K))) (r : Row K) → row_lead K o r ≡ None → next_step K o basis r ≡ None
   unfolding next_step
   no_step basis r l = ap (λ (x : Option Term). elim x [ None ↦ None | Some y ↦ option_map (step_by K o basis r y) (first_divisor (leads_of basis) y) ]) l
 
@@ -102,8 +96,8 @@ module _ (K : Domain) (o : Order) where
 
 -- ---- what a step does
 
-module _ (K : Domain) (s : Signature) (lawful : IsLawful s) (o : Order) (basis : List (Monic (Row K))) (monic : AreMonic K o basis) where
-  blank : Monic (Row K)
+module _ (K : Domain) (s : Signature) (lawful : IsLawful s) (o : Order) (basis : List (BasisRow (Row K))) (monic : AreMonic K o basis) where
+  blank : BasisRow (Row K)
   blank = record { row = []; cofactor = []; lead = origin }
 
   monic_at : (i : ℕ) → i < length basis → IsRowLead K o (row_at (basis_rows basis) i) (basis_lead basis i) K.one
@@ -111,7 +105,7 @@ module _ (K : Domain) (s : Signature) (lawful : IsLawful s) (o : Order) (basis :
       subst (λ r. IsRowLead K o r (basis_lead basis i) K.one) (sym (get_or-map (λ b. b.row) basis i blank [] h))
       (subst (λ u. IsRowLead K o (get_or basis i blank).row u K.one) (sym (get_or-map (λ b. b.lead) basis i blank origin h)) (monic i blank h))
 
-  module _ (r : Row K) (t : Step K) (a : IsStep K o basis r t) where
+  module _ (r : Row K) (t : Step K) (a : IsReductionStep K o basis r t) where
     pub step_inside : t.index < length basis
     step_inside = let h = (first_divisor-Some (leads_of basis) a.lead t.index origin a.first).0 in let e = length-map basis (λ b. b.lead) in omega arith
 

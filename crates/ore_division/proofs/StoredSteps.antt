@@ -11,7 +11,7 @@ use Rattle.std.specs.declared.result.Result.TheVariants.{Ok}
 use Rattle.std.proofs.lemmas.Option.{get_or_from_slice_get}
 use Rattle.ore_algebra.specs.Limits.{program}
 use Rattle.ore_rational.specs.Fraction.{Fraction}
-use Rattle.ore_rational.proofs.FractionLaws.{rationals}
+use Rattle.ore_rational.specs.Field.{rationals}
 use Rattle.ore_monomial.specs.Gives.{Fails}
 use Rattle.ore_monomial.specs.Monomial.{quotient, Divides}
 use Rattle.ore_monomial.specs.Signature.{Signature}
@@ -24,7 +24,7 @@ use Rattle.ore_ring.specs.Ordered.{Ordered}
 use Rattle.ore_leads.specs.FirstDivisor.{first_divisor}
 use Rattle.ore_leads.proofs.Dividing.{divides_term_true, first_divisor-Some}
 use Rattle.ore_rows.specs.Arithmetic.{within}
-use Rattle.ore_rows.specs.Reduction.{Step, Work, basis_rows, cofactors_of, leads_of, row_at, basis_lead, origin, step_operator, step_by, next_step, less_multiple, subtract}
+use Rattle.ore_rows.specs.Reduction.{Step, ReductionState, basis_rows, cofactors_of, leads_of, row_at, basis_lead, origin, step_operator, step_by, next_step, less_multiple, subtract}
 use Rattle.ore_rows.specs.RowLead.{IsRowLead, row_lead}
 use Rattle.ore_rows.specs.Stored.{IsZeroRow, sums_of}
 use Rattle.ore_rows.specs.StoredBasis.{StoredBasis, monics}
@@ -69,7 +69,7 @@ module _ (o : Order) (b : StoredBasis) (r : List Ordered) where
 
 -- ---- the step that is taken
 
-module _ (s : Signature) (b : StoredBasis) (t : Step rationals) (w : Work rationals) (term : Operator rationals) (k : ℕ) (same : term ≡ step_operator rationals t) (place : k ≡ t.index) (row : List Ordered) (at_row : slice_get (basis_rows b.items) k ≡ Some row) where
+module _ (s : Signature) (b : StoredBasis) (t : Step rationals) (w : ReductionState rationals) (term : Operator rationals) (k : ℕ) (same : term ≡ step_operator rationals t) (place : k ≡ t.index) (row : List Ordered) (at_row : slice_get (basis_rows b.items) k ≡ Some row) where
   as_row : less_multiple rationals (within program s) term (sums_of row) w.row ≡ less_multiple rationals (within program s) (step_operator rationals t) (row_at (basis_rows (monics b)) t.index) w.row
   as_row = λ i. less_multiple rationals (within program s) (same i) ((sym (row_value b k row at_row) ∙ ap (row_at (basis_rows (monics b))) place) i) w.row
 

@@ -3,16 +3,16 @@
 ghost use Rattle.std.specs.Prelude.{◌≡◌, ◌<◌, [], length, IfOk, IfErr, IfSome};
 ghost use Rattle.std.specs.List.{All};
 ghost use Rattle.ore_algebra.specs.Limits.{program};
-ghost use Rattle.ore_rational.proofs.FractionLaws.{rationals};
+ghost use Rattle.ore_rational.specs.Field.{rationals};
 ghost use Rattle.ore_monomial.specs.Gives.{Gives};
 ghost use Rattle.ore_monomial.specs.Signature.{MonomialOf};
 ghost use Rattle.ore_monomial.specs.declared.stop.RingStop.TheVariants.{Memory};
-ghost use Rattle.ore_ring.specs.Belongs.{Belongs};
+ghost use Rattle.ore_ring.specs.Belongs.{AllBelong, Belongs};
 ghost use Rattle.ore_rows.specs.Arithmetic.{within};
 ghost use Rattle.ore_rows.specs.Reduction.{step_operator};
 ghost use Rattle.ore_rows.specs.Reduction as reduction;
 ghost use Rattle.ore_rows.specs.Stored.{sums_of};
-ghost use Rattle.ore_rows.specs.StoredBasis.{AllBelong, monics};
+ghost use Rattle.ore_rows.specs.StoredBasis.{BasisBelongs, monics};
 ghost use Rattle.ore_division.specs.StoredWork.{work_of};
 
 use ore_monomial::{RingStop, Signature};
@@ -49,12 +49,12 @@ pub fn reduce<R: OreRing>(
 ) -> Result<Reduced, RingStop>
     requires row_width { length row ≡ basis.now.cols }
     requires cofactor_width { length cofactor ≡ basis.now.width }
-    requires row_of { All (Belongs (R.sig ring.now)) row }
-    requires cofactor_of { All (Belongs (R.sig ring.now)) cofactor }
-    requires basis_of { AllBelong (R.sig ring.now) basis.now.items }
+    requires row_of { AllBelong (R.sig ring.now) row }
+    requires cofactor_of { AllBelong (R.sig ring.now) cofactor }
+    requires basis_of { BasisBelongs (R.sig ring.now) basis.now.items }
     ensures gives { Gives work_of result (reduction.reduce rationals (R.sig ring.now).order (within program (R.sig ring.now)) (monics basis.now) (record { row = sums_of row; cofactor = sums_of cofactor; steps = [] })) }
-    ensures row_of { IfOk result (λ r. All (Belongs (R.sig ring.now)) r.row) }
-    ensures cofactor_of { IfOk result (λ r. All (Belongs (R.sig ring.now)) r.cofactor) }
+    ensures row_of { IfOk result (λ r. AllBelong (R.sig ring.now) r.row) }
+    ensures cofactor_of { IfOk result (λ r. AllBelong (R.sig ring.now) r.cofactor) }
     ensures row_width { IfOk result (λ r. length r.row ≡ basis.now.cols) }
     ensures cofactor_width { IfOk result (λ r. length r.cofactor ≡ basis.now.width) }
 {
@@ -73,7 +73,7 @@ pub fn reduce<R: OreRing>(
 
 // The step that takes the lead of the row away, by the first basis row whose lead divides it.
 fn next_step(sig: &Signature, basis: &Basis, row: &Row) -> Option<Step>
-    requires { All (Belongs sig.now) row.now }
+    requires { AllBelong sig.now row.now }
     ensures value { result ≡ reduction.next_step rationals sig.now.order (monics basis.now) (sums_of row.now) }
     ensures inside { IfSome result (λ t. t.index < length basis.now.items) }
     ensures of { IfSome result (λ t. MonomialOf sig.now t.monomial) }
@@ -100,12 +100,12 @@ fn subtract<R: OreRing>(
     requires step_of { MonomialOf (R.sig ring.now) step.monomial }
     requires row_width { length work.row ≡ basis.now.cols }
     requires cofactor_width { length work.cofactor ≡ basis.now.width }
-    requires row_of { All (Belongs (R.sig ring.now)) work.row }
-    requires cofactor_of { All (Belongs (R.sig ring.now)) work.cofactor }
-    requires basis_of { AllBelong (R.sig ring.now) basis.now.items }
+    requires row_of { AllBelong (R.sig ring.now) work.row }
+    requires cofactor_of { AllBelong (R.sig ring.now) work.cofactor }
+    requires basis_of { BasisBelongs (R.sig ring.now) basis.now.items }
     ensures gives { Gives work_of result (reduction.subtract rationals (within program (R.sig ring.now)) (monics basis.now) step (work_of work)) }
-    ensures row_of { IfOk result (λ r. All (Belongs (R.sig ring.now)) r.row) }
-    ensures cofactor_of { IfOk result (λ r. All (Belongs (R.sig ring.now)) r.cofactor) }
+    ensures row_of { IfOk result (λ r. AllBelong (R.sig ring.now) r.row) }
+    ensures cofactor_of { IfOk result (λ r. AllBelong (R.sig ring.now) r.cofactor) }
     ensures row_width { IfOk result (λ r. length r.row ≡ basis.now.cols) }
     ensures cofactor_width { IfOk result (λ r. length r.cofactor ≡ basis.now.width) }
 {

@@ -3,7 +3,7 @@
 --     column_scale                   each entry of a column times an operator
 --     zero-times, times-zero         products with zero
 --     times-opposite, opposite-times, plus-opposite     products and a sum with opposites
---     dot-zero_row, dot-zero_column  zeros
+--     dot-zero_row                   zeros
 --     dot-row_plus, dot-sum          a sum of rows; a sum of columns
 --     dot-row_scale, dot-column_scale     a multiple of a row, from the left; of a column, from the right
 --     dot-combine                    a combination of rows that take the column to zero
@@ -52,12 +52,6 @@ module _ (K : Domain) (s : Signature) where
   dot-zero_row zero v = refl
   dot-zero_row (suc n) [] = refl
   dot-zero_row (suc n) (f ∷ v) = (λ i. plus K plain_cmp (zero-times f i) (dot-zero_row n v i)) ∙ Operators.plus_zero K _
-
-  pub dot-zero_column : (r : Row K) (n : ℕ) → dot K s r (zero_row K n) ≡ empty_sum K plain_cmp
-  unfolding dot zero_row
-  dot-zero_column [] n = refl
-  dot-zero_column (f ∷ r) zero = refl
-  dot-zero_column (f ∷ r) (suc n) = (λ i. plus K plain_cmp (times-zero f i) (dot-zero_column r n i)) ∙ Operators.plus_zero K _
 
   -- (r + q) v = r v + q v
   pub dot-row_plus : (r q v : Row K) → length r ≡ length q → dot K s (row_plus K r q) v ≡ plus K plain_cmp (dot K s r v) (dot K s q v)

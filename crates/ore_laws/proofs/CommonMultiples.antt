@@ -19,10 +19,10 @@ use Rattle.ore_algebra.proofs.FreeLaws.{total, total_sum, total_multiple, total_
 use Rattle.ore_algebra.proofs.Solve.{In, AreDistinct, Solution, solve}
 use Rattle.ore_monomial.specs.Monomial.{Monomial, exponent, plain_cmp}
 use Rattle.ore_monomial.specs.declared.order.Order.TheVariants.{DegLex}
-use Rattle.ore_monomial.specs.Signature.{Signature}
+use Rattle.ore_monomial.specs.Signature.{Signature, IsLawful}
 use Rattle.ore_monomial.specs.LetterRule.{Operator, monomial_times}
 use Rattle.ore_monomial.proofs.Signatures.{lawful, count_at_most_12}
-use Rattle.ore_monomial.proofs.Box.{raised, room, box, length-box, box_small, box_past, box_has, apart-box, In-split, In-unmap, apart-append, apart-map}
+use Rattle.ore_monomial.proofs.Box.{natural_power, room, box, length-box, box_small, box_past, box_has, apart-box, In-split, In-unmap, apart-append, apart-map}
 use Rattle.ore_monomial.proofs.Operators
 use Rattle.ore_ring.specs.Product.{times}
 use Rattle.ore_ring.specs.Adjoint.{adjoint}
@@ -35,6 +35,10 @@ use Rattle.ore_ring.proofs.Belonging.{of_times}
 use Rattle.ore_ring.proofs.Adjoints.{adjoint-linear, adjoint-times, adjoint-adjoint}
 use Rattle.ore_ring.proofs.AdjointParts.{of_adjoint}
 use Rattle.ore_laws.proofs.Unknowns.{Unknown, of_first, of_second, unknown_cmp, unknown_total, unknown_apart, is_on, part, total-part, coefficient-part}
+
+module _ (K : Domain) (s : Signature) (law : IsLawful s) where
+  pub adjoint_apart : (f : Operator K) → f ≢ empty_sum K plain_cmp → adjoint K s f ≢ empty_sum K plain_cmp
+  adjoint_apart f n e = n (sym (adjoint-adjoint K s law f) ∙ ap (adjoint K s) e ∙ Operators.linear-empty_sum K (adjoint-linear K s))
 
 module _ (K : Domain) where
   balance : (a b : K.Number) → K.plus a (K.times (K.minus K.one) b) ≡ K.zero → a ≡ b
@@ -85,24 +89,24 @@ module _ (K : Domain) where
           (apart-map of_second (box count size) distinct (λ x y h k e. ap (λ (i : Unknown). i.1) e))
           (λ z h k. let a = In-unmap of_first z (box count size) h in let b = In-unmap of_second z (box count size) k in absurd (true≢false (ap (λ (i : Unknown). i.0) (sym a.2 ∙ b.2))))
 
-      length-unknowns : length unknowns ≡ raised (suc size) count + raised (suc size) count
+      length-unknowns : length unknowns ≡ natural_power (suc size) count + natural_power (suc size) count
       unfolding unknowns
       length-unknowns =
           length-append (map of_first (box count size)) (map of_second (box count size))
           ∙ (λ i. (length-map (box count size) of_first ∙ length-box count size) i + (length-map (box count size) of_second ∙ length-box count size) i)
 
-      room_for : raised (suc (size + exponent_bound)) count < raised (suc size) count + raised (suc size) count
+      room_for : natural_power (suc (size + exponent_bound)) count < natural_power (suc size) count + natural_power (suc size) count
       unfolding size
       room_for =
           let p : size + 1 ≡ suc size = omega arith in
           let q : size + 1 + exponent_bound ≡ suc (size + exponent_bound) = omega arith in
-          subst (λ k. raised k count < raised (suc size) count + raised (suc size) count) q (subst (λ k. raised (size + 1 + exponent_bound) count < raised k count + raised k count) p (room exponent_bound count))
+          subst (λ k. natural_power k count < natural_power (suc size) count + natural_power (suc size) count) q (subst (λ k. natural_power (size + 1 + exponent_bound) count < natural_power k count + natural_power k count) p (room exponent_bound count))
 
       fewer_equations : length equations < length unknowns
       unfolding equations
       fewer_equations =
-          let e : length (box count (size + exponent_bound)) ≡ raised (suc (size + exponent_bound)) count = length-box count (size + exponent_bound) in
-          subst (λ k. k < length unknowns) (sym e) (subst (λ k. raised (suc (size + exponent_bound)) count < k) (sym length-unknowns) room_for)
+          let e : length (box count (size + exponent_bound)) ≡ natural_power (suc (size + exponent_bound)) count = length-box count (size + exponent_bound) in
+          subst (λ k. k < length unknowns) (sym e) (subst (λ k. natural_power (suc (size + exponent_bound)) count < k) (sym length-unknowns) room_for)
 
       solution : Solution K inverses unknown_total unknown_apart unknowns equations vector
       solution = solve K inverses unknown_total unknown_apart equations unknowns unknowns_distinct fewer_equations vector
@@ -186,21 +190,18 @@ module _ (K : Domain) where
 
     -- ---- on the right, by adjoints
 
-    adjoint_apart : (f : Operator K) → f ≢ empty_sum K plain_cmp → adjoint K s f ≢ empty_sum K plain_cmp
-    adjoint_apart f n e = n (sym (adjoint-adjoint K s (lawful s) f) ∙ ap (adjoint K s) e ∙ Operators.linear-empty_sum K (adjoint-linear K s))
-
     times-adjoint : (h p : Operator K) → times K s h (adjoint K s p) ≡ adjoint K s (times K s p (adjoint K s h))
     times-adjoint h p = sym (adjoint-times K s (lawful s) p (adjoint K s h) ∙ ap (λ k. times K s k (adjoint K s p)) (adjoint-adjoint K s (lawful s) h))
 
     pub common_right_multiple : HasInverses K → (f g : Operator K) → OperatorOf K s f → OperatorOf K s g → f ≢ empty_sum K plain_cmp → g ≢ empty_sum K plain_cmp
         → (l : Operator K) × (m : Operator K) × OperatorOf K s l × OperatorOf K s m × (l ≢ empty_sum K plain_cmp) × (m ≢ empty_sum K plain_cmp) × (times K s f l ≡ times K s g m)
     common_right_multiple inverses f g of_f of_g apart_f apart_g =
-        let c = common_left_multiple inverses (adjoint K s f) (adjoint K s g) (of_adjoint K s f of_f) (of_adjoint K s g of_g) (adjoint_apart f apart_f) (adjoint_apart g apart_g) in (
+        let c = common_left_multiple inverses (adjoint K s f) (adjoint K s g) (of_adjoint K s f of_f) (of_adjoint K s g of_g) (adjoint_apart K s (lawful s) f apart_f) (adjoint_apart K s (lawful s) g apart_g) in (
           adjoint K s c.0,
           adjoint K s c.1,
           of_adjoint K s c.0 c.2,
           of_adjoint K s c.1 c.3,
-          adjoint_apart c.0 c.4,
-          adjoint_apart c.1 c.5,
+          adjoint_apart K s (lawful s) c.0 c.4,
+          adjoint_apart K s (lawful s) c.1 c.5,
           times-adjoint f c.0 ∙ ap (adjoint K s) c.6 ∙ sym (times-adjoint g c.1),
         )

@@ -8,24 +8,24 @@
 --     stacked, zeros_of_stacked      the operator and the cofactors of a torsion row z, as a row that takes z above r to zeros
 --     first-combine             the first entry of a combination of rows whose first entries are zero
 --     nonzero_first             of rows that generate all such rows, one has a first entry that isn't zero
-use Rattle.std.proofs.Common.{◌≡◌, ◌≢◌, ◌⊎◌, inl, inr, ⊎_elim, ℕ, zero, suc, ◌<◌, List, [], ◌∷◌, length, map, get_or, refl, sym, ap, ◌∙◌, subst, arith}
+use Rattle.std.proofs.Common.{◌≡◌, ◌⊎◌, inl, inr, ⊎_elim, ℕ, zero, suc, ◌<◌, List, [], ◌∷◌, length, map, get_or, refl, sym, ap, ◌∙◌, subst, arith}
 use Rattle.std.specs.List.{AllByRecursion}
 use Rattle.std.proofs.lemmas.List.{length-map, ext_get_or}
 use Rattle.ore_algebra.specs.Domain.{Domain, HasInverses}
 use Rattle.ore_algebra.specs.Free.{empty_sum, plus}
 use Rattle.ore_monomial.specs.Monomial.{plain_cmp}
 use Rattle.ore_monomial.specs.Signature.{Signature, IsLawful}
-use Rattle.ore_monomial.specs.LetterRule.{Operator}
 use Rattle.ore_monomial.proofs.Operators
 use Rattle.ore_ring.specs.Product.{times}
 use Rattle.ore_ring.specs.Adjoint.{adjoint}
-use Rattle.ore_ring.proofs.Adjoints.{adjoint-linear, adjoint-adjoint}
+use Rattle.ore_ring.proofs.Adjoints.{adjoint-linear}
 use Rattle.ore_ring.proofs.AdjointParts.{of_adjoint}
 use Rattle.ore_rows.specs.Rows.{Row, RowOf, AreLong, zero_row, row_plus, row_scale, combine, dot, column, adjoint_columns, transpose_adjoint, InRowModule, IsExact, IsTorsion}
 use Rattle.ore_rows.proofs.RowLaws as Rows
 use Rattle.ore_laws.specs.Columns.{IsTakenToZeros, HasNonzeroFirst}
 use Rattle.ore_laws.proofs.ColumnProducts.{opposite, times-zero, of_opposite, dot-combine}
 use Rattle.ore_laws.proofs.TorsionOrColumn.{is_zero, one, of_one, plus-opposite_row, Torsion, torsion_is, torsion_or_column}
+use Rattle.ore_laws.proofs.CommonMultiples.{adjoint_apart}
 
 module _ (K : Domain) (s : Signature) where
   taken_at : (rows : List (Row K)) (v : Row K) (j : ℕ) → j < length rows → IsTakenToZeros K s rows v → dot K s (get_or rows j []) v ≡ empty_sum K plain_cmp
@@ -44,9 +44,6 @@ module _ (K : Domain) (s : Signature) where
   of_adjoints (f ∷ v) h = (of_adjoint K s f h.0, of_adjoints v h.1)
 
 module _ (K : Domain) (s : Signature) (lawful : IsLawful s) where
-  adjoint_apart : (f : Operator K) → f ≢ empty_sum K plain_cmp → adjoint K s f ≢ empty_sum K plain_cmp
-  adjoint_apart f n e = n (sym (adjoint-adjoint K s lawful f) ∙ ap (adjoint K s) e ∙ adjoint_zero K s)
-
   columns_taken : (m : ℕ) (q : List (Row K)) (z : Row K) → AreLong K m q → combine K s m z q ≡ zero_row K m → (j n : ℕ) → IsTakenToZeros K s (adjoint_columns K s j n q) (adjoints K s z)
   unfolding adjoint_columns
   columns_taken m q z long e j zero = tt
@@ -88,7 +85,7 @@ module _ (K : Domain) (s : Signature) (lawful : IsLawful s) where
       where
         by : Dec (dot K s z v ≡ empty_sum K plain_cmp) → InRowModule K s p (transpose_adjoint K s m q) (adjoints K s v) → dot K s z v ≡ empty_sum K plain_cmp
         by (yes d) i = d
-        by (no d) (c, lc, oc, f) = absurd (adjoint_apart (dot K s z v) d
+        by (no d) (c, lc, oc, f) = absurd (adjoint_apart K s lawful (dot K s z v) d
             (Rows.adjoint-dot K s lawful z v ∙ ap (λ x. dot K s x (adjoints K s z)) (sym f) ∙ dot-combine K s lawful p c (adjoint_columns K s 0 m q) (adjoints K s z) (Rows.long_columns K s lawful 0 m q p tall) (columns_taken m q z lq e 0 m)))
 
     pub torsion_of_kernel : HasInverses K → AllByRecursion (RowOf K s) r → (z : Row K) → length z ≡ p → RowOf K s z → combine K s m z q ≡ zero_row K m → IsTorsion K s p r z

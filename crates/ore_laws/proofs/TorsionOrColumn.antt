@@ -1,7 +1,7 @@
 -- Each row is torsion modulo some rows, or a column separates it from them: which of the two is found out, by common
 -- multiples of operators.
 --     is_zero                  an operator is zero or not
---     row_comm, plus-zero_row, row_cancel     sums of rows
+--     row_cancel                              sums of rows
 --     one, one_apart, one_scale, plus-opposite_row     the operator 1, and rows times it
 --     CommonLeft, CommonRight  a common multiple of any operator and one that isn't zero
 --     Torsion                  a row is torsion, with the operator and the cofactors
@@ -24,10 +24,10 @@ use Rattle.ore_ring.proofs.Belonging.{of_none, of_single, of_times}
 use Rattle.ore_ring.proofs.Product.{times-linear_left, times-linear_right, times_assoc, times-one, one-times}
 use Rattle.ore_ring.proofs.NoZeroDivisor.{no_zero_divisor, lead_of, lead_apart}
 use Rattle.ore_rows.specs.Rows.{Row, RowOf, AreLong, zero_row, row_plus, row_scale, combine, dot, InRowModule, IsTorsion}
-use Rattle.ore_rows.proofs.RowLaws.{length-row_scale, length-row_plus, length-zero_row, length-combine, of_zero_row, of_row_plus, of_row_scale, scale-row_plus, scale-scale, scale_sum, zero_scale_row, zero_row_plus, row_swap}
+use Rattle.ore_rows.proofs.RowLaws.{length-row_scale, length-row_plus, length-zero_row, length-combine, of_zero_row, of_row_plus, of_row_scale, scale-row_plus, scale-scale, scale_sum, zero_scale_row, zero_row_plus, row_swap, plus-zero_row, dot-zero_column}
 use Rattle.ore_laws.specs.Columns.{IsTakenToZeros, Separates}
 use Rattle.ore_laws.proofs.CommonMultiples.{common_left_multiple, common_right_multiple}
-use Rattle.ore_laws.proofs.ColumnProducts.{opposite, plus-opposite, column_scale, zero-times, times-zero, times-opposite, opposite-times, dot-zero_column, dot-row_plus, dot-sum, length-column_scale, of_opposite, of_column_scale, of_dot, dot-row_scale, dot-column_scale, dot-combine}
+use Rattle.ore_laws.proofs.ColumnProducts.{opposite, plus-opposite, column_scale, zero-times, times-zero, times-opposite, opposite-times, dot-row_plus, dot-sum, length-column_scale, of_opposite, of_column_scale, of_dot, dot-row_scale, dot-column_scale, dot-combine}
 
 -- ---- rows
 
@@ -35,23 +35,13 @@ module _ (K : Domain) where
   pub is_zero : (f : Operator K) → Dec (f ≡ empty_sum K plain_cmp)
   is_zero f = ⊎_elim (λ e. yes e) (λ l. no (lead_apart K DegLex l.1)) (lead_of K DegLex f)
 
-  pub row_comm : (r q : Row K) → row_plus K r q ≡ row_plus K q r
-  unfolding row_plus
-  row_comm [] [] = refl
-  row_comm [] (b ∷ q) = refl
-  row_comm (a ∷ r) [] = refl
-  row_comm (a ∷ r) (b ∷ q) = λ i. Operators.plus_comm K a b i ∷ row_comm r q i
-
-  pub plus-zero_row : (n : ℕ) (r : Row K) → length r ≡ n → row_plus K r (zero_row K n) ≡ r
-  plus-zero_row n r e = row_comm r (zero_row K n) ∙ zero_row_plus K n r e
-
   -- x + (z + y) = z where x + y = 0
   pub row_cancel : (n : ℕ) (x y z : Row K) → length x ≡ n → length z ≡ n → row_plus K x y ≡ zero_row K n → row_plus K x (row_plus K z y) ≡ z
   row_cancel n x y z lx lz e =
       ap (λ r. row_plus K r (row_plus K z y)) (sym (zero_row_plus K n x lx))
       ∙ row_swap K (zero_row K n) x z y
       ∙ (λ i. row_plus K (zero_row_plus K n z lz i) (e i))
-      ∙ plus-zero_row n z lz
+      ∙ plus-zero_row K n z lz
 
   abbrev pub one : Operator K
   one = single K plain_cmp unit K.one

@@ -7,8 +7,8 @@
 --     total-part, coefficient-part    its totals and its coefficients
 use Rattle.std.proofs.Common.{◌≡◌, ◌≢◌, Bool, true, false, cond, not, List, [], ◌∷◌, refl, sym, ap, ◌∙◌, true≢false}
 use Rattle.std.specs.declared.cmp.Ordering.{Ordering}
-use Rattle.std.specs.declared.cmp.Ordering.TheVariants.{Less, Equal, Greater}
-use Rattle.std.specs.Ordering.{on, then_cmp, bool_cmp, ordering_then, is_eq}
+use Rattle.std.specs.declared.cmp.Ordering.TheVariants.{Equal}
+use Rattle.std.specs.Ordering.{on, then_cmp, bool_cmp, is_eq}
 use Rattle.std.specs.Cmp.{IsTotalOrder, bool_cmp_total}
 use Rattle.std.specs.FinMap.{IsAntisymmetric}
 use Rattle.std.specs.List.{flat_map}
@@ -17,6 +17,7 @@ use Rattle.ore_algebra.specs.Domain.{Domain}
 use Rattle.ore_algebra.specs.Free.{Free, coefficient, collect, terms}
 use Rattle.ore_algebra.proofs.DomainLaws as Numbers
 use Rattle.ore_algebra.proofs.FreeLaws.{weigh, weigh-append, total, total-is, total-collect, total_only}
+use Rattle.ore_algebra.proofs.Orderings.{then_equal}
 use Rattle.ore_monomial.specs.Monomial.{Monomial, plain_cmp}
 use Rattle.ore_monomial.specs.LetterRule.{Operator}
 use Rattle.ore_monomial.proofs.Monomials.{plain_cmp_total, plain_cmp_apart}
@@ -38,11 +39,6 @@ unknown_cmp = then_cmp (on (λ i. i.0) bool_cmp) (on (λ i. i.1) plain_cmp)
 pub unknown_total : IsTotalOrder unknown_cmp
 unknown_total = then_total (on_total (λ i. i.0) bool_cmp_total) (on_total (λ i. i.1) plain_cmp_total)
 
-parts_equal : (a b : Ordering) → ordering_then a b ≡ Equal → (a ≡ Equal) × (b ≡ Equal)
-parts_equal Less b e = absurd (true≢false (ap is_eq (sym e)))
-parts_equal Equal b e = (refl, e)
-parts_equal Greater b e = absurd (true≢false (ap is_eq (sym e)))
-
 bool_apart : (x y : Bool) → bool_cmp x y ≡ Equal → x ≡ y
 bool_apart false false e = refl
 bool_apart false true e = absurd (true≢false (ap is_eq (sym e)))
@@ -51,7 +47,7 @@ bool_apart true true e = refl
 
 pub unknown_apart : IsAntisymmetric unknown_cmp
 unknown_apart i j e =
-    let p = parts_equal _ _ e in
+    let p = then_equal _ _ e in
     let a = bool_apart i.0 j.0 p.0 in
     let b = plain_cmp_apart i.1 j.1 p.1 in
     λ k. (a k, b k)
@@ -80,7 +76,7 @@ module _ (K : Domain) where
   total-part b w x = total-collect K plain_cmp_total plain_cmp_apart w _ ∙ weigh-part b w (terms K unknown_cmp x) ∙ sym (total-is K unknown_total unknown_apart _ x)
 
   coefficient-is : (f : Operator K) (m : Monomial) → coefficient K plain_cmp f m ≡ Operators.total K (λ n. coefficient K plain_cmp (one_term K n) m) f
-  coefficient-is f m = ap (λ g. coefficient K plain_cmp g m) (sym (Operators.extend_singles K f)) ∙ Operators.coefficient-extend K _ f m
+  coefficient-is f m = ap (λ g. coefficient K plain_cmp g m) (sym (Operators.linear_extension_singles K f)) ∙ Operators.coefficient-linear_extension K _ f m
 
   pub coefficient-part : (b : Bool) (x : Free K unknown_cmp) (m : Monomial) → coefficient K plain_cmp (part b x) m ≡ coefficient K unknown_cmp x (b, m)
   coefficient-part b x m =

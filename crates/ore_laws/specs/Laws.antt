@@ -11,10 +11,12 @@
 --                                                multiple, by operators of the signature
 --     Matrix                                     a list of rows of operators
 --     AdjointOfMatrixProduct, AdjointOfMatrixTwice    of the transposed adjoint of matrices
+--     Operator, one                              a finite sum of terms; the operator 1
+--     matrix_times, transpose_adjoint            the product of matrices; the transposed adjoint of one
 use Rattle.std.specs.Prelude.{◌≡◌, ◌≢◌, ◌⊎◌, ℕ, List, length}
 use Rattle.ore_algebra.specs.Free as sums
 use Rattle.ore_rational.specs.Fraction.{Fraction, mul}
-use Rattle.ore_rational.proofs.FractionLaws.{rationals}
+use Rattle.ore_rational.specs.Field.{rationals}
 use Rattle.ore_monomial.specs.Monomial.{Monomial, plain_cmp, product, unit}
 use Rattle.ore_monomial.specs.declared.order.Order.{Order}
 use Rattle.ore_monomial.specs.Signature.{Signature}

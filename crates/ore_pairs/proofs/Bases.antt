@@ -13,7 +13,7 @@ use Rattle.ore_monomial.specs.Signature.{Signature, IsLawful}
 use Rattle.ore_rows.specs.Rows.{Row, RowOf, AreLong, zero_row, combine, matrix_times, InRowModule}
 use Rattle.ore_rows.specs.RowLead.{IsRowLead}
 use Rattle.ore_rows.proofs.RowLaws as Rows
-use Rattle.ore_pairs.specs.PairList.{Entry, pairs_of, AreEntriesOf, syzygies}
+use Rattle.ore_pairs.specs.PairList.{DealtPair, pairs_of, AreEntriesOf, syzygies}
 use Rattle.ore_pairs.specs.PairRule.{AreAllListed}
 use Rattle.ore_pairs.specs.Blocks.{IsBasis}
 use Rattle.ore_pairs.proofs.PairCount.{all_listed}
@@ -26,7 +26,7 @@ module _ (K : Domain) (s : Signature) (lawful : IsLawful s) where
   long_product n [] b h = tt
   long_product n (r ∷ m) b h = (Rows.length-combine K s lawful n r b h, long_product n m b h)
 
-module _ (K : Domain) (s : Signature) (lawful : IsLawful s) (o : Order) (n : ℕ) (a basis from : List (Row K)) (entries : List (Entry K)) (leads : List Term) (v : IsBasis K s o n a basis from entries leads) where
+module _ (K : Domain) (s : Signature) (lawful : IsLawful s) (o : Order) (n : ℕ) (a basis from : List (Row K)) (entries : List (DealtPair K)) (leads : List Term) (v : IsBasis K s o n a basis from entries leads) where
   pub long_rows : AreLong K n a
   long_rows = subst (AreLong K n) v.from_is (long_product K s lawful n from basis v.long)
 

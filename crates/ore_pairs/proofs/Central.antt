@@ -18,13 +18,14 @@ use Rattle.ore_ring.proofs.Leads.{both_upto}
 use Rattle.ore_rows.specs.Rows.{Row, RowOf, AreLong, zero_row, row_plus, combine}
 use Rattle.ore_rows.specs.RowLead.{coefficient_at, IsRowLead}
 use Rattle.ore_rows.proofs.RowLaws as Rows
+use Rattle.ore_rows.proofs.RowLaws.{plus-zero_row}
 use Rattle.ore_pairs.specs.Steps.{lead_at, AreLeads}
-use Rattle.ore_pairs.proofs.RowSums.{row_assoc, plus-zero_row, of_entry}
-use Rattle.ore_pairs.proofs.Near.{weight, AreWeightsAtMost, IsSubmodule, IsNear}
+use Rattle.ore_pairs.proofs.RowSums.{row_assoc, of_entry}
+use Rattle.ore_pairs.proofs.BelowModulo.{weight, AreWeightsAtMost, IsSubmodule, IsBelowModulo}
 use Rattle.ore_pairs.proofs.Close.{AreClose}
 use Rattle.ore_pairs.proofs.Products.{IsLeadDivided, at, at-zero_row, nothing_at, lead_within, at_most-combine}
 use Rattle.ore_pairs.proofs.Top.{Top, top_of}
-use Rattle.ore_pairs.proofs.Moved.{moved_nothing, near-moved}
+use Rattle.ore_pairs.proofs.Moved.{moved_nothing, below_modulo-moved}
 
 -- z is a member of N and a rest, which is zeros or whose product has a coefficient at the greatest weight of the rest
 pub record IsStandard (K : Domain) (s : Signature) (o : Order) (p : ℕ) (basis : List (Row K)) (leads : List Term) (N : Row K → Type 0) (z : Row K) : Type 0 where
@@ -58,7 +59,7 @@ module _ (K : Domain) (s : Signature) (lawful : IsLawful s) (o : Order) (p : ℕ
     alone z l g = record { part = zero_row K n; rest = z; member = sub.has_zero; long = l; is = sym (Rows.zero_row_plus K n z l); greatest = g }
 
     -- the rest of a near row is standard, so the row is
-    with_rest : (t : Term) → ((u : Term) → u.column < p → term_cmp o u t ≡ Less → From u) → (z : Row K) (near : IsNear K s o leads n N t z) → Top K o leads n near.rest → Standard z
+    with_rest : (t : Term) → ((u : Term) → u.column < p → term_cmp o u t ≡ Less → From u) → (z : Row K) (near : IsBelowModulo K s o leads n N t z) → Top K o leads n near.rest → Standard z
     with_rest t ih z near (inl e) = record { part = near.part; rest = near.rest; member = near.member; long = near.long; is = near.is; greatest = inl e }
     with_rest t ih z near (inr (i, r, il, u, g)) =
         let st = ih (weight leads i r) (lead_within K s lawful o p basis leads long monic i il) (near.low i r u) near.rest near.long near.of i r (of_entry K s near.rest i near.of r u) il refl g in
@@ -77,8 +78,8 @@ module _ (K : Domain) (s : Signature) (lawful : IsLawful s) (o : Order) (p : ℕ
         by : Dec (found t z ≡ K.zero) → Standard z
         by (no d) = alone z l (inr (k, q, kl, subst (λ t. AreWeightsAtMost K o leads t z) (sym e) h, λ c. d (ap (coefficient_at K (combine K s p z basis)) (sym e) ∙ c)))
         by (yes c) =
-            let near : IsNear K s o leads n N t z = subst (IsNear K s o leads n N t) (moved_nothing K s lawful o p basis leads long monic N sub t k q oq e z l c)
-            (near-moved K s lawful o p basis leads long monic N sub t k q oq e z l oz h (λ i il same. close i k il kl same)) in
+            let near : IsBelowModulo K s o leads n N t z = subst (IsBelowModulo K s o leads n N t) (moved_nothing K s lawful o p basis leads long monic N sub t k q oq e z l c)
+            (below_modulo-moved K s lawful o p basis leads long monic N sub t k q oq e z l oz h (λ i il same. close i k il kl same)) in
             with_rest t ih z near (top_of K s lawful o leads n near.rest near.long)
 
     pub standard : (z : Row K) → length z ≡ n → RowOf K s z → Standard z

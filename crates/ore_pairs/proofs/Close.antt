@@ -26,12 +26,13 @@ use Rattle.ore_rows.specs.Rows.{Row, RowOf, zero_row, row_plus, row_minus, row_s
 use Rattle.ore_rows.proofs.Differences.{row_minus_self, row_minus_back, length-row_minus, of_row_minus}
 use Rattle.ore_rows.proofs.RowLaws as Rows
 use Rattle.ore_rows.proofs.UnitRows.{row-identity_rows}
-use Rattle.ore_pairs.specs.Steps.{Step, AreStepsOf, lead_at, pair_term, step_row, after, s_row, syzygy}
+use Rattle.ore_rows.proofs.RowLaws.{plus-zero_row}
+use Rattle.ore_pairs.specs.Steps.{Step, AreStepsOf, lead_at, lcm_of_leads, step_row, remainder_after, s_row, syzygy}
 use Rattle.ore_pairs.specs.PairList.{IsBelowStep}
-use Rattle.ore_pairs.proofs.RowSums.{row_assoc, plus-zero_row, scale-row_minus, row_minus-row_plus, row_minus_through, row_minus_turned}
+use Rattle.ore_pairs.proofs.RowSums.{row_assoc, scale-row_minus, row_minus-row_plus, row_minus_through, row_minus_turned}
 use Rattle.ore_pairs.proofs.Places.{place, of_place, length-place, place-plus, scale-place}
 use Rattle.ore_pairs.proofs.Tails.{only_monomial, IsProductTail, product_tail}
-use Rattle.ore_pairs.proofs.Near.{weight, weight_cmp, IsBelow, below-zero_row, below-row_plus, below-place, below-row_minus, IsSubmodule, IsNear, near_below, near_zero, near-row_plus, near-row_scale, near_number}
+use Rattle.ore_pairs.proofs.BelowModulo.{weight, weight_cmp, IsBelow, below-zero_row, below-row_plus, below-place, below-row_minus, IsSubmodule, IsBelowModulo, below_modulo_below, below_modulo_zero, below_modulo-row_plus, below_modulo-row_scale, below_modulo_number}
 
 module _ (K : Domain) (s : Signature) where
   abbrev pub difference : ℕ → ℕ → Monomial → ℕ → Monomial → Row K
@@ -42,10 +43,10 @@ module _ (K : Domain) (s : Signature) where
   step_row-identity_rows n t h = ap (row_scale K s (single K plain_cmp t.monomial t.number)) (row-identity_rows K n t.index h)
 
   pub s_row-identity_rows : (n : ℕ) (leads : List Term) (i j : ℕ) → i < n → j < n
-      → s_row K s leads (identity_rows K n) i j ≡ difference n i (quotient (pair_term leads i j).monomial (lead_at leads i).monomial) j (quotient (pair_term leads i j).monomial (lead_at leads j).monomial)
+      → s_row K s leads (identity_rows K n) i j ≡ difference n i (quotient (lcm_of_leads leads i j).monomial (lead_at leads i).monomial) j (quotient (lcm_of_leads leads i j).monomial (lead_at leads j).monomial)
   unfolding s_row
   s_row-identity_rows n leads i j il jl =
-      let c = (pair_term leads i j).monomial in
+      let c = (lcm_of_leads leads i j).monomial in
       λ e. row_minus K (row_scale K s (single K plain_cmp (quotient c (lead_at leads i).monomial) K.one) (row-identity_rows K n i il e)) (row_scale K s (single K plain_cmp (quotient c (lead_at leads j).monomial) K.one) (row-identity_rows K n j jl e))
 
 module _ (K : Domain) (s : Signature) (lawful : IsLawful s) (o : Order) (leads : List Term) (n : ℕ) where
@@ -60,10 +61,10 @@ module _ (K : Domain) (s : Signature) (lawful : IsLawful s) (o : Order) (leads :
     long : length rest ≡ n
     of : RowOf K s rest
     low : IsBelow K o leads t rest
-    is : z ≡ row_plus K (after K s (identity_rows K n) steps z) rest
+    is : z ≡ row_plus K (remainder_after K s (identity_rows K n) steps z) rest
 
   taken : (t : Term) (steps : List (Step K)) (z : Row K) → length leads ≡ n → length z ≡ n → AllByRecursion (IsBelowStep K o leads t) steps → AreStepsOf K s steps → (rest : Row K) × IsTaken t steps z rest
-  unfolding after
+  unfolding remainder_after
   taken t [] z e l h os = (zero_row K n, record { long = Rows.length-zero_row K s lawful n; of = Rows.of_zero_row K s n; low = below-zero_row K s lawful o leads t n; is = sym (plus-zero_row K n z l) })
   taken t (step ∷ steps) z e l h os = more (taken t steps (row_minus K z x) e (length-row_minus K s lawful n z x l lx) h.1 os.1)
     where
@@ -97,20 +98,20 @@ module _ (K : Domain) (s : Signature) (lawful : IsLawful s) (o : Order) (leads :
       )
 
   module _ (N : Row K → Type 0) (sub : IsSubmodule K s n N) where
-    abbrev Near : Term → Row K → Type 0
-    Near t z = IsNear K s o leads n N t z
+    abbrev BelowModulo : Term → Row K → Type 0
+    BelowModulo t z = IsBelowModulo K s o leads n N t z
 
     abbrev pub AreClose : ℕ → ℕ → Type 0
-    AreClose i j = (q r : Monomial) → MonomialOf s q → MonomialOf s r → weight leads i q ≡ weight leads j r → Near (weight leads i q) (difference K s n i q j r)
+    AreClose i j = (q r : Monomial) → MonomialOf s q → MonomialOf s r → weight leads i q ≡ weight leads j r → BelowModulo (weight leads i q) (difference K s n i q j r)
 
     pub close_itself : (i : ℕ) → AreClose i i
     close_itself i q r oq or e =
         let l = (lead_at leads i).monomial in
         let same : q ≡ r = product-cancel l q r (product_comm l q ∙ ap (λ t. t.monomial) e ∙ product_comm r l) in
-        subst (Near (weight leads i q)) (sym (ap (λ r. difference K s n i q i r) (sym same) ∙ row_minus_self K _ ∙ ap (zero_row K) (length-place K s lawful n i _))) (near_zero K s lawful o leads n N sub (weight leads i q))
+        subst (BelowModulo (weight leads i q)) (sym (ap (λ r. difference K s n i q i r) (sym same) ∙ row_minus_self K _ ∙ ap (zero_row K) (length-place K s lawful n i _))) (below_modulo_zero K s lawful o leads n N sub (weight leads i q))
 
     pub close_turned : (i j : ℕ) → AreClose i j → AreClose j i
-    close_turned i j h q r oq or e = subst (Near (weight leads j q)) (sym (row_minus_turned K s lawful _ _)) (near_number K s lawful o leads n N sub (weight leads j q) (K.minus K.one) _ (subst (λ t. Near t (difference K s n i r j q)) (sym e) (h r q or oq (sym e))))
+    close_turned i j h q r oq or e = subst (BelowModulo (weight leads j q)) (sym (row_minus_turned K s lawful _ _)) (below_modulo_number K s lawful o leads n N sub (weight leads j q) (K.minus K.one) _ (subst (λ t. BelowModulo t (difference K s n i r j q)) (sym e) (h r q or oq (sym e))))
 
     -- a multiple of the lead of row k meets t
     abbrev Meets : ℕ → Term → Type 0
@@ -119,17 +120,17 @@ module _ (K : Domain) (s : Signature) (lawful : IsLawful s) (o : Order) (leads :
     close_through : (i k j : ℕ) → AreClose i k → AreClose k j → ((q r : Monomial) → MonomialOf s q → weight leads i q ≡ weight leads j r → Meets k (weight leads i q)) → AreClose i j
     close_through i k j h g find q r oq or e = by (find q r oq e)
       where
-        by : Meets k (weight leads i q) → Near (weight leads i q) (difference K s n i q j r)
+        by : Meets k (weight leads i q) → BelowModulo (weight leads i q) (difference K s n i q j r)
         by (w, ow, f) =
-            subst (Near (weight leads i q)) (sym (row_minus_through K s lawful _ _ (place K s n k (single K plain_cmp w K.one)) (length-place K s lawful n i _ ∙ sym (length-place K s lawful n k _))))
-            (near-row_plus K s lawful o leads n N sub (weight leads i q) _ _ (h q w oq ow (sym f)) (subst (λ t. Near t (difference K s n k w j r)) f (g w r ow or (f ∙ e))))
+            subst (BelowModulo (weight leads i q)) (sym (row_minus_through K s lawful _ _ (place K s n k (single K plain_cmp w K.one)) (length-place K s lawful n i _ ∙ sym (length-place K s lawful n k _))))
+            (below_modulo-row_plus K s lawful o leads n N sub (weight leads i q) _ _ (h q w oq ow (sym f)) (subst (λ t. BelowModulo t (difference K s n k w j r)) f (g w r ow or (f ∙ e))))
 
     -- where two multiples meet, the common multiple of the leads divides
-    common_divides : (i j : ℕ) (q r : Monomial) → weight leads i q ≡ weight leads j r → Divides (pair_term leads i j).monomial (product q (lead_at leads i).monomial)
+    common_divides : (i j : ℕ) (q r : Monomial) → weight leads i q ≡ weight leads j r → Divides (lcm_of_leads leads i j).monomial (product q (lead_at leads i).monomial)
     common_divides i j q r e = lcm-divides _ _ _ (divides-product q _) (subst (Divides (lead_at leads j).monomial) (sym (ap (λ t. t.monomial) e)) (divides-product r _))
 
     module _ (declared : (k : ℕ) → MonomialOf s (lead_at leads k).monomial) where
-      pub close_skip : (i j k : ℕ) → (lead_at leads k).column ≡ (lead_at leads i).column → Divides (lead_at leads k).monomial (pair_term leads i j).monomial → AreClose i k → AreClose k j → AreClose i j
+      pub close_skip : (i j k : ℕ) → (lead_at leads k).column ≡ (lead_at leads i).column → Divides (lead_at leads k).monomial (lcm_of_leads leads i j).monomial → AreClose i k → AreClose k j → AreClose i j
       close_skip i j k c d h g = close_through i k j h g (λ q r oq e.
           let m = product q (lead_at leads i).monomial in (
             quotient m (lead_at leads k).monomial,
@@ -153,21 +154,21 @@ module _ (K : Domain) (s : Signature) (lawful : IsLawful s) (o : Order) (leads :
         abbrev aj : Monomial
         aj = quotient m lj
 
-        weight_first : (w : Monomial) → weight leads i (product w ai) ≡ shift w (pair_term leads i j)
+        weight_first : (w : Monomial) → weight leads i (product w ai) ≡ shift w (lcm_of_leads leads i j)
         weight_first w = same_term _ _ (product_assoc w ai li ∙ ap (product w) (product-quotient m li (divides-lcm_left li lj))) refl
 
-        weight_second : (w : Monomial) → weight leads j (product w aj) ≡ shift w (pair_term leads i j)
+        weight_second : (w : Monomial) → weight leads j (product w aj) ≡ shift w (lcm_of_leads leads i j)
         weight_second w = same_term _ _ (product_assoc w aj lj ∙ ap (product w) (product-quotient m lj (divides-lcm_right li lj))) (sym columns)
 
         om : MonomialOf s m
         om = MonomialOf-lcm s li lj (declared i) (declared j)
 
         -- from the pair's common multiple to its multiple by w
-        near_multiple : (w : Monomial) → MonomialOf s w → Near (pair_term leads i j) (difference K s n i ai j aj) → Near (shift w (pair_term leads i j)) (difference K s n i (product w ai) j (product w aj))
-        near_multiple w ow h = subst (Near t) (sym is) (near-row_plus K s lawful o leads n N sub t _ _ (near-row_scale K s lawful o leads n N sub (pair_term leads i j) w K.one _ ow h) below)
+        below_modulo_multiple : (w : Monomial) → MonomialOf s w → BelowModulo (lcm_of_leads leads i j) (difference K s n i ai j aj) → BelowModulo (shift w (lcm_of_leads leads i j)) (difference K s n i (product w ai) j (product w aj))
+        below_modulo_multiple w ow h = subst (BelowModulo t) (sym is) (below_modulo-row_plus K s lawful o leads n N sub t _ _ (below_modulo-row_scale K s lawful o leads n N sub (lcm_of_leads leads i j) w K.one _ ow h) below)
           where
             t : Term
-            t = shift w (pair_term leads i j)
+            t = shift w (lcm_of_leads leads i j)
 
             x : Operator K
             x = single K plain_cmp w K.one
@@ -184,8 +185,8 @@ module _ (K : Domain) (s : Signature) (lawful : IsLawful s) (o : Order) (leads :
             pb : Row K
             pb = place K s n j b.0
 
-            below : Near t (row_minus K pa pb)
-            below = near_below K s lawful o leads n N sub t _
+            below : BelowModulo t (row_minus K pa pb)
+            below = below_modulo_below K s lawful o leads n N sub t _
                 (length-row_minus K s lawful n pa pb (length-place K s lawful n i a.0) (length-place K s lawful n j b.0))
                 (of_row_minus K s pa pb (of_place K s n i a.0 (a.1.of ow (MonomialOf-quotient s m li om))) (of_place K s n j b.0 (b.1.of ow (MonomialOf-quotient s m lj om))))
                 (below-row_minus K s lawful o leads t pa pb (length-place K s lawful n i a.0 ∙ sym (length-place K s lawful n j b.0))
@@ -199,8 +200,8 @@ module _ (K : Domain) (s : Signature) (lawful : IsLawful s) (o : Order) (leads :
                 ∙ ap (λ r. row_plus K r (row_minus K pa pb)) (sym (scale-row_minus K s x _ _ ∙ (λ e. row_minus K (scale-place K s lawful x n i (single K plain_cmp ai K.one) e) (scale-place K s lawful x n j (single K plain_cmp aj K.one) e))))
 
         -- the pair's row of cofactors is near its common multiple, where its syzygy is in N
-        near_pair : (steps : List (Step K)) → length leads ≡ n → AllByRecursion (IsBelowStep K o leads (pair_term leads i j)) steps → AreStepsOf K s steps → N (syzygy K s n leads i j steps) → Near (pair_term leads i j) (difference K s n i ai j aj)
-        near_pair steps e h os member = subst (Near (pair_term leads i j)) (s_row-identity_rows K s n leads i j il jl) (by (taken (pair_term leads i j) steps z e lz h os))
+        below_modulo_pair : (steps : List (Step K)) → length leads ≡ n → AllByRecursion (IsBelowStep K o leads (lcm_of_leads leads i j)) steps → AreStepsOf K s steps → N (syzygy K s n leads i j steps) → BelowModulo (lcm_of_leads leads i j) (difference K s n i ai j aj)
+        below_modulo_pair steps e h os member = subst (BelowModulo (lcm_of_leads leads i j)) (s_row-identity_rows K s n leads i j il jl) (by (taken (lcm_of_leads leads i j) steps z e lz h os))
           where
             z : Row K
             z = s_row K s leads (identity_rows K n) i j
@@ -208,13 +209,13 @@ module _ (K : Domain) (s : Signature) (lawful : IsLawful s) (o : Order) (leads :
             lz : length z ≡ n
             lz = ap length (s_row-identity_rows K s n leads i j il jl) ∙ length-difference i ai j aj
 
-            by : (rest : Row K) × IsTaken (pair_term leads i j) steps z rest → Near (pair_term leads i j) z
+            by : (rest : Row K) × IsTaken (lcm_of_leads leads i j) steps z rest → BelowModulo (lcm_of_leads leads i j) z
             by (rest, t) = record { part = syzygy K s n leads i j steps; rest = rest; member = member; long = t.long; of = t.of; low = t.low; is = t.is }
 
-        pub close_pair : (steps : List (Step K)) → length leads ≡ n → AllByRecursion (IsBelowStep K o leads (pair_term leads i j)) steps → AreStepsOf K s steps → N (syzygy K s n leads i j steps) → AreClose i j
+        pub close_pair : (steps : List (Step K)) → length leads ≡ n → AllByRecursion (IsBelowStep K o leads (lcm_of_leads leads i j)) steps → AreStepsOf K s steps → N (syzygy K s n leads i j steps) → AreClose i j
         close_pair steps e h os member q r oq or meet =
-            subst (λ t. Near t (difference K s n i q j r)) (same_term _ _ back refl)
-            (subst (Near (shift w (pair_term leads i j))) (λ e. difference K s n i (sym qs e) j (sym rs e)) (near_multiple w ow (near_pair steps e h os member)))
+            subst (λ t. BelowModulo t (difference K s n i q j r)) (same_term _ _ back refl)
+            (subst (BelowModulo (shift w (lcm_of_leads leads i j))) (λ e. difference K s n i (sym qs e) j (sym rs e)) (below_modulo_multiple w ow (below_modulo_pair steps e h os member)))
           where
             w : Monomial
             w = quotient (product q li) m

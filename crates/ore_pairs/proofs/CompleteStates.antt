@@ -17,7 +17,7 @@ use Rattle.ore_rows.specs.declared.choices.Choice.{Choice}
 use Rattle.ore_rows.specs.declared.choices.Choice.TheVariants.{Treat, Skip}
 use Rattle.ore_pairs.specs.PairList.{pairs_of}
 use Rattle.ore_pairs.specs.PairRule.{may_treat, may_skip, is_lawful, none_treatable}
-use Rattle.ore_pairs.specs.Run.{State, Unlawful, IsComplete, as_refusal, follow, step}
+use Rattle.ore_pairs.specs.Run.{RunState, Unlawful, IsComplete, as_refusal, follow, step}
 use Rattle.ore_pairs.specs.Runner.{is_complete}
 use Rattle.ore_pairs.proofs.PairRuleLaws.{treat_from, treat_none, all_from, skip_from}
 use Rattle.ore_pairs.proofs.SomePair.{not_true, pair_none, pair_some}
@@ -58,7 +58,7 @@ module _ (leads : List Term) (listed : List (ℕ × ℕ)) where
 
 -- ---- states
 
-module _ (K : Domain) (st : State K) where
+module _ (K : Domain) (st : RunState K) where
   pub tested : IsComplete K st → is_complete K st ≡ true
   tested h = none_left (leads_of st.basis) (pairs_of st.listed) (λ i j. treat_none (leads_of st.basis) (pairs_of st.listed) i j h)
 
@@ -66,9 +66,9 @@ module _ (K : Domain) (st : State K) where
   tests e = all_from (leads_of st.basis) (pairs_of st.listed) (may_not (leads_of st.basis) (pairs_of st.listed) e)
 
 module _ (K : Domain) (inverses : HasInverses K) (o : Order) (A : Arithmetic K) where
-  pub unlawful_step : (st : State K) (c : Choice) → is_lawful (leads_of st.basis) (pairs_of st.listed) c ≡ false → step K inverses o A st c ≡ Err Unlawful
+  pub unlawful_step : (st : RunState K) (c : Choice) → is_lawful (leads_of st.basis) (pairs_of st.listed) c ≡ false → step K inverses o A st c ≡ Err Unlawful
   unfolding step
   unlawful_step st c e = ap (λ b. cond b (as_refusal (follow K inverses o A st c)) (Err Unlawful)) e
 
-  pub closed : (st : State K) (c : Choice) → is_complete K st ≡ true → step K inverses o A st c ≡ Err Unlawful
+  pub closed : (st : RunState K) (c : Choice) → is_complete K st ≡ true → step K inverses o A st c ≡ Err Unlawful
   closed st c e = unlawful_step st c (not_lawful (leads_of st.basis) (pairs_of st.listed) e c)

@@ -18,17 +18,17 @@ use Rattle.ore_rows.proofs.Differences.{row_minus_self, row_minus_back}
 use Rattle.ore_rows.proofs.RowLaws as Rows
 use Rattle.ore_rows.proofs.RowModules.{module_zero}
 use Rattle.ore_pairs.specs.Steps.{row_at}
-use Rattle.ore_pairs.specs.PairList.{Entry, Pair, Skip, syzygies}
-use Rattle.ore_pairs.specs.Blocks.{ExactBlock, IsValidExact, IsExactBlockOf, AreInside}
+use Rattle.ore_pairs.specs.PairList.{DealtPair, Pair, Skip, syzygies}
+use Rattle.ore_pairs.specs.Blocks.{ExactBlock, IsValidExact, IsExactBlockOfSignature, AreInside}
 use Rattle.ore_pairs.proofs.RowSums.{of_entry, scale-row_minus, row_minus-row_plus}
 use Rattle.ore_pairs.proofs.Places.{place, combine-place, by_places}
-use Rattle.ore_pairs.proofs.Syzygies.{IsWithin, within_lawful, combine-syzygy, long_syzygies}
+use Rattle.ore_pairs.proofs.Syzygies.{IsPairWithin, within_lawful, combine-syzygy, long_syzygies}
 use Rattle.ore_pairs.proofs.Generate.{combination_vanishes, combination_inside}
 use Rattle.ore_pairs.proofs.Bases.{long_rows, through, length-through, of_through, combine-through, basis_generates}
 
 module _ (K : Domain) (s : Signature) (lawful : IsLawful s) where
-  syzygies_inside : (q : ℕ) (leads : List Term) (to l : List (Row K)) → AreLong K q to → (es : List (Entry K)) (rs : List (Row K)) → AreLong K (length l) rs → AllByRecursion (RowOf K s) rs
-      → AllByRecursion (IsWithin K (length to)) es → AreInside K s q leads to l es rs → AllByRecursion (λ r. InRowModule K s q l (combine K s q r to)) (syzygies K s (length to) leads es)
+  syzygies_inside : (q : ℕ) (leads : List Term) (to l : List (Row K)) → AreLong K q to → (es : List (DealtPair K)) (rs : List (Row K)) → AreLong K (length l) rs → AllByRecursion (RowOf K s) rs
+      → AllByRecursion (IsPairWithin K (length to)) es → AreInside K s q leads to l es rs → AllByRecursion (λ r. InRowModule K s q l (combine K s q r to)) (syzygies K s (length to) leads es)
   unfolding syzygies InRowModule
   syzygies_inside q leads to l long [] rs lr or w h = tt
   syzygies_inside q leads to l long (Skip i j via ∷ es) [] lr or w h = syzygies_inside q leads to l long es [] lr or w.1 h
@@ -86,7 +86,7 @@ module _ (K : Domain) (s : Signature) (lawful : IsLawful s) where
       here : (k : ℕ) → k < q → InRowModule K s q l (row_minus K (unit_row K q k) (combine K s q (row_at from k) to))
       here k kq = (row_at inside k, All-get_or (λ r. length r ≡ length l) inside k [] (enough k kq) li, All-get_or (RowOf K s) inside k [] (enough k kq) oi, sym (h k kq))
 
-  module _ (o : Order) (n : ℕ) (a l : List (Row K)) (b : ExactBlock K) (ll : AreLong K (length a) l) (of : IsExactBlockOf K s b) (v : IsValidExact K s o n a l b) where
+  module _ (o : Order) (n : ℕ) (a l : List (Row K)) (b : ExactBlock K) (ll : AreLong K (length a) l) (of : IsExactBlockOfSignature K s b) (v : IsValidExact K s o n a l b) where
     abbrev q : ℕ
     q = length a
 
@@ -96,15 +96,15 @@ module _ (K : Domain) (s : Signature) (lawful : IsLawful s) where
     abbrev to_basis : Row K → Row K
     to_basis c = through K s lawful o n a b.basis b.from b.entries v.leads v.is_basis c
 
-    within : AllByRecursion (IsWithin K size) b.entries
-    within = subst (λ m. AllByRecursion (IsWithin K m) b.entries) v.is_basis.monic.long (within_lawful K s o n b.basis v.leads [] b.entries v.is_basis.lawful)
+    within : AllByRecursion (IsPairWithin K size) b.entries
+    within = subst (λ m. AllByRecursion (IsPairWithin K m) b.entries) v.is_basis.monic.long (within_lawful K s o n b.basis v.leads [] b.entries v.is_basis.lawful)
 
     all_inside : AllByRecursion (λ r. InRowModule K s q l (combine K s q r b.to)) (syzygies K s size v.leads b.entries)
     all_inside = subst (λ m. AllByRecursion (λ r. InRowModule K s q l (combine K s q r b.to)) (syzygies K s m v.leads b.entries)) v.to_shape.0
         (syzygies_inside q v.leads b.to l v.to_shape.1 b.entries (drop q b.inside)
         (All-drop (λ r. length r ≡ length l) q b.inside v.inside_shape.1)
         (All-drop (RowOf K s) q b.inside of.inside)
-        (subst (λ m. AllByRecursion (IsWithin K m) b.entries) (sym v.to_shape.0) within)
+        (subst (λ m. AllByRecursion (IsPairWithin K m) b.entries) (sym v.to_shape.0) within)
         v.later_inside)
 
     back_inside : (c : Row K) → InRowModule K s size (syzygies K s size v.leads b.entries) (to_basis c) → InRowModule K s q l (combine K s q (to_basis c) b.to)

@@ -30,10 +30,10 @@ use Rattle.ore_leads.proofs.Dividing.{divides_term_true}
 use Rattle.ore_rows.specs.Rows.{Row, RowOf, zero_row, unit_row, row_plus, row_minus, row_scale, combine, matrix_times, InRowModule, IsExact}
 use Rattle.ore_rows.specs.RowLead.{coefficient_at, IsRowLead}
 use Rattle.ore_rows.proofs.Differences.{number-times}
-use Rattle.ore_pairs.specs.Steps.{row_at, lead_at, pair_term, AreLeads, after, s_row}
-use Rattle.ore_pairs.specs.PairList.{Entry, Pair, Skip, AreLawful, pair_count, treated_count}
+use Rattle.ore_pairs.specs.Steps.{row_at, lead_at, lcm_of_leads, AreLeads, remainder_after, s_row}
+use Rattle.ore_pairs.specs.PairList.{DealtPair, Pair, Skip, AreLawful, pair_count, treated_count}
 use Rattle.ore_pairs.specs.PairRule.{is_listed, may_treat, may_skip}
-use Rattle.ore_pairs.specs.Blocks.{ExactBlock, OutsideBlock, IsBasis, IsValidExact, IsValidOutside, IsExactBlockOf, IsOutsideBlockOf}
+use Rattle.ore_pairs.specs.Blocks.{ExactBlock, OutsideBlock, IsBasis, IsValidExact, IsValidOutside, IsExactBlockOfSignature, IsOutsideBlockOfSignature}
 use Rattle.ore_pairs.proofs.Tails.{only_monomial}
 use Rattle.ore_pairs.proofs.Exact.{exact_block}
 use Rattle.ore_pairs.proofs.Outside.{outside_block}
@@ -125,7 +125,7 @@ module _ (K : Domain) (s : Signature) (lawful : IsLawful s) (o : Order) (d : Mon
   raised_second m = ap (λ q. single K plain_cmp q K.one) (ap (λ q. quotient q m) (lcm-unit m) ∙ quotient-itself m)
 
   basis_is : IsBasis K s o 1 column column both (Pair 0 1 [] ∷ []) leads
-  unfolding combine row_plus row_minus row_scale zero_row matrix_times pair_count after s_row may_treat is_listed
+  unfolding combine row_plus row_minus row_scale zero_row matrix_times pair_count remainder_after s_row may_treat is_listed
   basis_is = record {
     long = (refl, (refl, tt));
     monic = leads_are;
@@ -136,7 +136,7 @@ module _ (K : Domain) (s : Signature) (lawful : IsLawful s) (o : Order) (d : Mon
   }
 
   exact_valid : IsValidExact K s o 1 column relation block
-  unfolding combine row_plus row_minus row_scale zero_row matrix_times after s_row unit_row treated_count
+  unfolding combine row_plus row_minus row_scale zero_row matrix_times remainder_after s_row unit_row treated_count
   exact_valid = record {
     leads = leads;
     annihilates = (simp (times-one K s lawful, minus_one-times, Operators.plus_zero K, Operators.plus_opposite K), tt);
@@ -152,7 +152,7 @@ module _ (K : Domain) (s : Signature) (lawful : IsLawful s) (o : Order) (d : Mon
     later_inside = (simp (raised_first, raised_second, one-times K s lawful, times-one K s lawful, times-nil, opposite-nil, opposite-one, Operators.plus_zero K, Operators.zero-plus K), tt);
   }
 
-  exact_of : IsExactBlockOf K s block
+  exact_of : IsExactBlockOfSignature K s block
   exact_of = record { basis = ((ou, tt), ((od, tt), tt)); from = units; to = units; entries = (tt, tt); inside = ((on, tt), ((on, tt), ((ou, tt), tt))) }
     where
       ou : OperatorOf K s one
@@ -178,11 +178,11 @@ module _ (K : Domain) (s : Signature) (lawful : IsLawful s) (o : Order) (d : Mon
   abbrev three_leads : Monomial → List Term
   three_leads e = first_lead unit ∷ first_lead d ∷ first_lead e ∷ []
 
-  abbrev three_entries : List (Entry K)
+  abbrev three_entries : List (DealtPair K)
   three_entries = Pair 0 1 [] ∷ Pair 0 2 [] ∷ Skip 1 2 0 ∷ []
 
   skip_lawful : (e : Monomial) → AreLawful K s o 1 (three e) (three_leads e) [] three_entries
-  unfolding after s_row row_minus row_plus row_scale zero_row may_treat may_skip is_listed
+  unfolding remainder_after s_row row_minus row_plus row_scale zero_row may_treat may_skip is_listed
   skip_lawful e = (
     (refl, record { low = tt; nothing = simp (raised_first, raised_second, one-times K s lawful, times-one K s lawful, Operators.plus_opposite K) }),
     (
@@ -190,7 +190,7 @@ module _ (K : Domain) (s : Signature) (lawful : IsLawful s) (o : Order) (d : Mon
       (
         (
           refl,
-          ap (λ b. b && true && true) ((divides_term_true (first_lead unit) (pair_term (three_leads e) 1 2)).1 (refl, λ x. let a = exponent-unit x in omega arith)),
+          ap (λ b. b && true && true) ((divides_term_true (first_lead unit) (lcm_of_leads (three_leads e) 1 2)).1 (refl, λ x. let a = exponent-unit x in omega arith)),
         ),
         tt,
       ),
@@ -210,7 +210,7 @@ module _ (K : Domain) (s : Signature) (lawful : IsLawful s) (o : Order) (d : Mon
   outside = record { basis = multiple; from = (one ∷ []) ∷ []; entries = []; steps = []; rest = one ∷ [] }
 
   outside_valid : d ≢ unit → IsValidOutside K s o 1 multiple (one ∷ []) outside
-  unfolding combine row_plus row_scale zero_row matrix_times pair_count after
+  unfolding combine row_plus row_scale zero_row matrix_times pair_count remainder_after
   outside_valid h = record {
     leads = first_lead d ∷ [];
     is_basis = record {
@@ -232,7 +232,7 @@ module _ (K : Domain) (s : Signature) (lawful : IsLawful s) (o : Order) (d : Mon
   outside_follows : d ≢ unit → ¬ InRowModule K s 1 multiple (one ∷ [])
   outside_follows h = outside_block K s lawful o 1 multiple (one ∷ []) outside of (outside_valid h)
     where
-      of : IsOutsideBlockOf K s outside
+      of : IsOutsideBlockOfSignature K s outside
       of = record { basis = ((of_single K s d K.one declared, tt), tt); from = ((of_single K s unit K.one (MonomialOf-unit s), tt), tt); entries = tt; steps = tt }
 
   -- ---- no block of the signature for two zeros
@@ -255,7 +255,7 @@ module _ (K : Domain) (s : Signature) (lawful : IsLawful s) (o : Order) (d : Mon
       (apart_nil d)
       (no_zero_divisor K o s lawful f D (sym (Operators.plus_zero K _) ∙ first))
 
-  zeros_invalid : (b : ExactBlock K) → IsExactBlockOf K s b → ¬ IsValidExact K s o 1 zeros relation b
+  zeros_invalid : (b : ExactBlock K) → IsExactBlockOfSignature K s b → ¬ IsValidExact K s o 1 zeros relation b
   unfolding IsExact combine row_plus row_scale zero_row
   zeros_invalid b of v = not_reached (((exact_block K s lawful o 1 zeros relation b (refl, tt) of v).1 (nil ∷ one ∷ []) refl (of_none K s, (of_single K s unit K.one (MonomialOf-unit s), tt))).0 (simp (nil-times, times-nil, Operators.plus_zero K)))
 

@@ -20,7 +20,7 @@ use Rattle.ore_rows.specs.declared.choices.Choice.{Choice}
 use Rattle.ore_rows.specs.declared.choices.Choice.TheVariants.{Treat, Skip}
 use Rattle.ore_pairs.specs.PairList.{pairs_of}
 use Rattle.ore_pairs.specs.PairRule.{is_lawful}
-use Rattle.ore_pairs.specs.Run.{State, as_refusal, follow, step}
+use Rattle.ore_pairs.specs.Run.{RunState, as_refusal, follow, step}
 use Rattle.ore_pairs.specs.Runner.{runner}
 use Rattle.ore_pairs.proofs.CompleteStates.{treat_within, skip_within}
 
@@ -58,14 +58,14 @@ lawful_below leads listed (Treat i j) e = let h = treat_within leads listed i j 
 lawful_below leads listed (Skip i j via) e = let h = skip_within leads listed i j via e in skip_below _ i j via h.0 h.1 h.2
 
 module _ (K : Domain) (inverses : HasInverses K) (o : Order) (A : Arithmetic K) where
-  no_next : {X : Type 0} {e : Refusal} {next : State K} → ◌≡◌ {A = Result (State K) Refusal} (Err e) (Ok next) → X
+  no_next : {X : Type 0} {e : Refusal} {next : RunState K} → ◌≡◌ {A = Result (RunState K) Refusal} (Err e) (Ok next) → X
   no_next e = cc
 
-  named : (st : State K) (c : Choice) (next : State K) → step K inverses o A st c ≡ Ok next → Contains (choices_below (length (leads_of st.basis))) c
+  named : (st : RunState K) (c : Choice) (next : RunState K) → step K inverses o A st c ≡ Ok next → Contains (choices_below (length (leads_of st.basis))) c
   unfolding step
   named st c next e = by (is_lawful (leads_of st.basis) (pairs_of st.listed) c) refl e
     where
-      by : (b : Bool) → is_lawful (leads_of st.basis) (pairs_of st.listed) c ≡ b → ◌≡◌ {A = Result (State K) Refusal} (cond b (as_refusal (follow K inverses o A st c)) (Err Unlawful)) (Ok next) → Contains (choices_below (length (leads_of st.basis))) c
+      by : (b : Bool) → is_lawful (leads_of st.basis) (pairs_of st.listed) c ≡ b → ◌≡◌ {A = Result (RunState K) Refusal} (cond b (as_refusal (follow K inverses o A st c)) (Err Unlawful)) (Ok next) → Contains (choices_below (length (leads_of st.basis))) c
       by false f g = no_next g
       by true f g = lawful_below (leads_of st.basis) (pairs_of st.listed) c f
 

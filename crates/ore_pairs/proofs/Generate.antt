@@ -21,16 +21,16 @@ use Rattle.ore_rows.specs.RowLead.{IsRowLead}
 use Rattle.ore_rows.proofs.RowLaws as Rows
 use Rattle.ore_rows.proofs.RowModules.{module_zero, module_row, length-module}
 use Rattle.ore_pairs.specs.Steps.{AreStepsOf, row_at, lead_at, AreLeads, syzygy}
-use Rattle.ore_pairs.specs.PairList.{Entry, Pair, Skip, first, second, pairs_of, IsLawfulEntry, AreLawful, AreEntriesOf, syzygies}
+use Rattle.ore_pairs.specs.PairList.{DealtPair, Pair, Skip, first, second, pairs_of, IsLawfulEntry, AreLawful, AreEntriesOf, syzygies}
 use Rattle.ore_pairs.specs.PairRule.{is_listed, either_listed, AreAllListed}
 use Rattle.ore_pairs.proofs.PairRuleLaws.{treat_from, skip_from, pair_to, listed_split, either_from}
 use Rattle.ore_pairs.proofs.RowSums.{of_entry}
 use Rattle.ore_pairs.proofs.Places.{by_combination}
-use Rattle.ore_pairs.proofs.Near.{IsSubmodule}
+use Rattle.ore_pairs.proofs.BelowModulo.{IsSubmodule}
 use Rattle.ore_pairs.proofs.Close.{AreClose, close_itself, close_turned, close_skip, close_pair}
 use Rattle.ore_pairs.proofs.Products.{IsLeadDivided, declared_leads}
 use Rattle.ore_pairs.proofs.Central.{syzygy_member, lead_divided}
-use Rattle.ore_pairs.proofs.Syzygies.{IsWithin, within_lawful, long_syzygies, syzygies_vanish}
+use Rattle.ore_pairs.proofs.Syzygies.{IsPairWithin, within_lawful, long_syzygies, syzygies_vanish}
 
 module _ (K : Domain) (s : Signature) (lawful : IsLawful s) where
   pub module_of_rows : (n : ℕ) (rows : List (Row K)) → AreLong K n rows → IsSubmodule K s n (InRowModule K s n rows)
@@ -66,21 +66,21 @@ module _ (K : Domain) (s : Signature) (lawful : IsLawful s) (o : Order) (p : ℕ
     abbrev Close : ℕ → ℕ → Type 0
     Close i j = AreClose K s lawful o leads n N sub i j
 
-    abbrev AreKnown : List (Entry K) → Type 0
+    abbrev AreKnown : List (DealtPair K) → Type 0
     AreKnown es = (i j : ℕ) → is_listed i j (pairs_of es) ≡ true → Close i j
 
     turned : (i j : ℕ) → Close i j → Close j i
     turned i j = close_turned K s lawful o leads n N sub i j
 
-    known_either : (before : List (Entry K)) → AreKnown before → (i j : ℕ) → either_listed i j (pairs_of before) ≡ true → Close i j
+    known_either : (before : List (DealtPair K)) → AreKnown before → (i j : ℕ) → either_listed i j (pairs_of before) ≡ true → Close i j
     known_either before known i j h = ⊎_elim (known i j) (λ e. turned j i (known j i e)) (either_from i j (pairs_of before) h)
 
     -- the syzygy of a treated pair is in N, and its steps are of the signature
-    abbrev IsMember : Entry K → Type 0
+    abbrev IsMember : DealtPair K → Type 0
     IsMember (Pair i j steps) = N (syzygy K s n leads i j steps) × AreStepsOf K s steps
     IsMember (Skip i j via) = Unit {0}
 
-    close_entry : (before : List (Entry K)) (e : Entry K) → AreKnown before → IsMember e → IsLawfulEntry K s o p basis leads before e → Close (first e) (second e)
+    close_entry : (before : List (DealtPair K)) (e : DealtPair K) → AreKnown before → IsMember e → IsLawfulEntry K s o p basis leads before e → Close (first e) (second e)
     close_entry before (Pair i j steps) known member (allowed, treated) =
         let new = treat_from leads (pairs_of before) i j allowed in
         let jl : j < n = subst (λ m. j < m) many new.within in
@@ -90,7 +90,7 @@ module _ (K : Domain) (s : Signature) (lawful : IsLawful s) (o : Order) (p : ℕ
         let can = skip_from leads (pairs_of before) i j via skipped in
         close_skip K s lawful o leads n N sub declared i j via can.column can.divides (known_either before known i via can.known.0) (turned j via (known_either before known j via can.known.1))
 
-    close_listed : (before es : List (Entry K)) → AreKnown before → AllByRecursion IsMember es → AreLawful K s o p basis leads before es → AreKnown es
+    close_listed : (before es : List (DealtPair K)) → AreKnown before → AllByRecursion IsMember es → AreLawful K s o p basis leads before es → AreKnown es
     unfolding is_listed
     close_listed before [] known members laws i j h = absurd (true≢false (sym h))
     close_listed before (e ∷ es) known members laws i j h =
@@ -101,7 +101,7 @@ module _ (K : Domain) (s : Signature) (lawful : IsLawful s) (o : Order) (p : ℕ
         at_hand : Close (first e) (second e) → (i j : ℕ) → (first e ≡ i) × (second e ≡ j) → Close i j
         at_hand here i j same = subst (λ i. Close i j) same.0 (subst (λ j. Close (first e) j) same.1 here)
 
-    pub all_close : (es : List (Entry K)) → AllByRecursion IsMember es → AreLawful K s o p basis leads [] es → AreAllListed leads (pairs_of es) → (i j : ℕ) → i < n → j < n → (lead_at leads i).column ≡ (lead_at leads j).column → Close i j
+    pub all_close : (es : List (DealtPair K)) → AllByRecursion IsMember es → AreLawful K s o p basis leads [] es → AreAllListed leads (pairs_of es) → (i j : ℕ) → i < n → j < n → (lead_at leads i).column ≡ (lead_at leads j).column → Close i j
     unfolding is_listed
     all_close es members laws all i j il jl columns = by (dec_lt i j) (dec_lt j i)
       where
@@ -113,7 +113,7 @@ module _ (K : Domain) (s : Signature) (lawful : IsLawful s) (o : Order) (p : ℕ
         by (no a) (yes l) = turned j i (listed j i (all j i (pair_to leads j i l (subst (λ m. i < m) (sym many) il) (sym columns))))
         by (no a) (no b) = let e : i ≡ j = omega arith in subst (Close i) e (close_itself K s lawful o leads n N sub i)
 
-    members : (es : List (Entry K)) → AllByRecursion N (syzygies K s n leads es) → AreEntriesOf K s es → AllByRecursion IsMember es
+    members : (es : List (DealtPair K)) → AllByRecursion N (syzygies K s n leads es) → AreEntriesOf K s es → AllByRecursion IsMember es
     unfolding syzygies
     members [] h os = tt
     members (Pair i j steps ∷ es) h os = ((h.0, os.0), members es h.1 os.1)
@@ -122,7 +122,7 @@ module _ (K : Domain) (s : Signature) (lawful : IsLawful s) (o : Order) (p : ℕ
 -- ---- what the list shows
 
 module _ (K : Domain) (s : Signature) (lawful : IsLawful s) (o : Order) (p : ℕ) (basis : List (Row K)) (leads : List Term) (long : AreLong K p basis) (of : AllByRecursion (RowOf K s) basis) (monic : AreLeads K o basis leads)
-    (es : List (Entry K)) (entries : AreEntriesOf K s es) (laws : AreLawful K s o p basis leads [] es) (all : AreAllListed leads (pairs_of es)) where
+    (es : List (DealtPair K)) (entries : AreEntriesOf K s es) (laws : AreLawful K s o p basis leads [] es) (all : AreAllListed leads (pairs_of es)) where
   abbrev size : ℕ
   size = length basis
 
@@ -144,8 +144,8 @@ module _ (K : Domain) (s : Signature) (lawful : IsLawful s) (o : Order) (p : ℕ
   abbrev InSyzygies : Row K → Type 0
   InSyzygies z = InRowModule K s size (syzygies K s size leads es) z
 
-  within : AllByRecursion (IsWithin K size) es
-  within = subst (λ m. AllByRecursion (IsWithin K m) es) monic.long (within_lawful K s o p basis leads [] es laws)
+  within : AllByRecursion (IsPairWithin K size) es
+  within = subst (λ m. AllByRecursion (IsPairWithin K m) es) monic.long (within_lawful K s o p basis leads [] es laws)
 
   wide : AreLong K size (syzygies K s size leads es)
   wide = long_syzygies K s lawful size leads es within

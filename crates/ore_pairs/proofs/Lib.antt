@@ -1,7 +1,7 @@
 pub mod RowSums
 pub mod Places
 pub mod Tails
-pub mod Near
+pub mod BelowModulo
 pub mod Close
 pub mod Products
 pub mod Top

@@ -2,7 +2,7 @@
 --     moved                    the row, with what its product has at t taken away at that place
 --     moved_nothing            a row whose product has nothing at t stays
 --     moved-row_plus           it is additive
---     near-moved               of a row whose weights are at most t, the moved row is in N but for what is below t
+--     below_modulo-moved               of a row whose weights are at most t, the moved row is in N but for what is below t
 use Rattle.std.proofs.Common.{◌≡◌, ◌≢◌, ◌⊎◌, inl, inr, ℕ, ◌<◌, false, List, length, get_or, refl, sym, ap, ◌∙◌, subst, true≢false}
 use Rattle.std.specs.declared.cmp.Ordering.{Ordering}
 use Rattle.std.specs.declared.cmp.Ordering.TheVariants.{Less, Equal, Greater}
@@ -26,11 +26,12 @@ use Rattle.ore_rows.specs.Rows.{Row, RowOf, AreLong, zero_row, row_plus, row_min
 use Rattle.ore_rows.specs.RowLead.{coefficient_at}
 use Rattle.ore_rows.proofs.Differences.{number-times, row_minus_scaled}
 use Rattle.ore_rows.proofs.RowLaws as Rows
+use Rattle.ore_rows.proofs.RowLaws.{row_comm, plus-zero_row}
 use Rattle.ore_pairs.specs.Steps.{row_at, lead_at, AreLeads}
-use Rattle.ore_pairs.proofs.RowSums.{row_assoc, row_comm, plus-zero_row, of_entry, scale-row_minus}
+use Rattle.ore_pairs.proofs.RowSums.{row_assoc, of_entry, scale-row_minus}
 use Rattle.ore_pairs.proofs.Places.{place, of_place, length-place, place_none, place-plus, scale-place, by_places}
 use Rattle.ore_pairs.proofs.Tails.{tail, term_and_tail, of_tail, tail_below}
-use Rattle.ore_pairs.proofs.Near.{weight, weight_cmp, IsBelow, AreWeightsAtMost, below-place, IsSubmodule, IsNear, near_below, near_zero, near-row_plus, near_number}
+use Rattle.ore_pairs.proofs.BelowModulo.{weight, weight_cmp, IsBelow, AreWeightsAtMost, below-place, IsSubmodule, IsBelowModulo, below_modulo_below, below_modulo_zero, below_modulo-row_plus, below_modulo_number}
 use Rattle.ore_pairs.proofs.Close.{difference, AreClose}
 use Rattle.ore_pairs.proofs.Products.{at, at-zero_row, at-row_plus, at-place, lead-product}
 
@@ -63,8 +64,8 @@ module _ (K : Domain) (s : Signature) (lawful : IsLawful s) (o : Order) (p : ℕ
   number-term q x y = number-times K s lawful x _ ∙ Operators.scale-single K x y q
 
   module _ (N : Row K → Type 0) (sub : IsSubmodule K s n N) (t : Term) (k₀ : ℕ) (q₀ : Monomial) (declared : MonomialOf s q₀) (is : weight leads k₀ q₀ ≡ t) where
-    abbrev Near : Row K → Type 0
-    Near z = IsNear K s o leads n N t z
+    abbrev BelowModulo : Row K → Type 0
+    BelowModulo z = IsBelowModulo K s o leads n N t z
 
     abbrev IsCloseTo : ℕ → Type 0
     IsCloseTo k = AreClose K s lawful o leads n N sub k k₀
@@ -84,11 +85,11 @@ module _ (K : Domain) (s : Signature) (lawful : IsLawful s) (o : Order) (p : ℕ
         ∙ ap (row_plus K (row_plus K a b)) (place-plus K s n k₀ _ _) ∙ Rows.row_swap K a b _ _
 
     -- one entry, whose lead has the weight t
-    near_lead : (k : ℕ) → k < n → IsCloseTo k → (f : Operator K) (m : Monomial) → OperatorOf K s f → weight leads k m ≡ t → IsLead K o f m (coefficient K plain_cmp f m) → Near (moved (place K s n k f))
-    near_lead k kl close f m of e a = subst Near (sym split)
-        (near-row_plus K s lawful o leads n N sub t _ _
-        (near_number K s lawful o leads n N sub t j _ both)
-        (near_below K s lawful o leads n N sub t _ (length-place K s lawful n k rest) (of_place K s n k rest (of_tail K s f m j of om)) low))
+    below_modulo_lead : (k : ℕ) → k < n → IsCloseTo k → (f : Operator K) (m : Monomial) → OperatorOf K s f → weight leads k m ≡ t → IsLead K o f m (coefficient K plain_cmp f m) → BelowModulo (moved (place K s n k f))
+    below_modulo_lead k kl close f m of e a = subst BelowModulo (sym split)
+        (below_modulo-row_plus K s lawful o leads n N sub t _ _
+        (below_modulo_number K s lawful o leads n N sub t j _ both)
+        (below_modulo_below K s lawful o leads n N sub t _ (length-place K s lawful n k rest) (of_place K s n k rest (of_tail K s f m j of om)) low))
       where
         j : K.Number
         j = coefficient K plain_cmp f m
@@ -99,8 +100,8 @@ module _ (K : Domain) (s : Signature) (lawful : IsLawful s) (o : Order) (p : ℕ
         rest : Operator K
         rest = tail K f m j
 
-        both : Near (difference K s n k m k₀ q₀)
-        both = subst (λ u. IsNear K s o leads n N u (difference K s n k m k₀ q₀)) e (close m q₀ om declared (e ∙ sym is))
+        both : BelowModulo (difference K s n k m k₀ q₀)
+        both = subst (λ u. IsBelowModulo K s o leads n N u (difference K s n k m k₀ q₀)) e (close m q₀ om declared (e ∙ sym is))
 
         here : found t (place K s n k f) ≡ j
         here = at-place K s lawful o p basis leads long monic t k f kl ∙ ap (coefficient_at K (row_scale K s f (row_at basis k))) (sym e) ∙ (lead-product K s lawful o p basis leads long monic k f m j kl a).stands ∙ K.times_one j
@@ -123,20 +124,20 @@ module _ (K : Domain) (s : Signature) (lawful : IsLawful s) (o : Order) (p : ℕ
         low : IsBelow K o leads t (place K s n k rest)
         low = below-place K s lawful o leads t n k rest kl (λ q u. ap (term_cmp o (weight leads k q)) (sym e) ∙ weight_cmp o leads k q m ∙ tail_below K o f m j a q u)
 
-    near_unmoved : (z : Row K) → length z ≡ n → found t z ≡ K.zero → Near z → Near (moved z)
-    near_unmoved z l e h = subst Near (sym (moved_nothing z l e)) h
+    below_modulo_unmoved : (z : Row K) → length z ≡ n → found t z ≡ K.zero → BelowModulo z → BelowModulo (moved z)
+    below_modulo_unmoved z l e h = subst BelowModulo (sym (moved_nothing z l e)) h
 
-    near_blank : Near (moved (zero_row K n))
-    near_blank = near_unmoved _ (Rows.length-zero_row K s lawful n) (at-zero_row K s lawful o p basis leads long monic t) (near_zero K s lawful o leads n N sub t)
+    below_modulo_blank : BelowModulo (moved (zero_row K n))
+    below_modulo_blank = below_modulo_unmoved _ (Rows.length-zero_row K s lawful n) (at-zero_row K s lawful o p basis leads long monic t) (below_modulo_zero K s lawful o leads n N sub t)
 
     abbrev IsUnder : ℕ → Operator K → Type 0
     IsUnder k f = (q : Monomial) → coefficient K plain_cmp f q ≢ K.zero → is_gt (term_cmp o (weight leads k q) t) ≡ false
 
     -- one entry, whose lead has a weight below t
-    near_less : (k : ℕ) → k < n → (f : Operator K) (m : Monomial) → OperatorOf K s f → term_cmp o (weight leads k m) t ≡ Less → IsLead K o f m (coefficient K plain_cmp f m) → Near (moved (place K s n k f))
-    near_less k kl f m of e a =
-        near_unmoved _ (length-place K s lawful n k f) (by (K.discrete (found t (place K s n k f)) K.zero))
-        (near_below K s lawful o leads n N sub t _ (length-place K s lawful n k f) (of_place K s n k f of)
+    below_modulo_less : (k : ℕ) → k < n → (f : Operator K) (m : Monomial) → OperatorOf K s f → term_cmp o (weight leads k m) t ≡ Less → IsLead K o f m (coefficient K plain_cmp f m) → BelowModulo (moved (place K s n k f))
+    below_modulo_less k kl f m of e a =
+        below_modulo_unmoved _ (length-place K s lawful n k f) (by (K.discrete (found t (place K s n k f)) K.zero))
+        (below_modulo_below K s lawful o leads n N sub t _ (length-place K s lawful n k f) (of_place K s n k f of)
         (below-place K s lawful o leads t n k f kl (λ q u. upto_less (term_total o) (weight leads k q) (weight leads k m) t (ap is_gt (weight_cmp o leads k q m) ∙ a.greatest q u) e)))
       where
         by : Dec (found t (place K s n k f) ≡ K.zero) → found t (place K s n k f) ≡ K.zero
@@ -146,20 +147,20 @@ module _ (K : Domain) (s : Signature) (lawful : IsLawful s) (o : Order) (p : ℕ
             let above = lead.greatest t (λ z. d (at-place K s lawful o p basis leads long monic t k f kl ∙ z)) in
             absurd (reversed (term_cmp o (weight leads k m) t) e (ap is_gt (sym ((term_total o).antisymm t (weight leads k m))) ∙ above))
 
-    near_place : (k : ℕ) → k < n → ((lead_at leads k).column ≡ (lead_at leads k₀).column → IsCloseTo k) → (f : Operator K) → OperatorOf K s f → IsUnder k f → Near (moved (place K s n k f))
-    near_place k kl close f of h = by (lead_of K o f)
+    below_modulo_place : (k : ℕ) → k < n → ((lead_at leads k).column ≡ (lead_at leads k₀).column → IsCloseTo k) → (f : Operator K) → OperatorOf K s f → IsUnder k f → BelowModulo (moved (place K s n k f))
+    below_modulo_place k kl close f of h = by (lead_of K o f)
       where
-        compared : (m : Monomial) → IsLead K o f m (coefficient K plain_cmp f m) → (c : Ordering) → term_cmp o (weight leads k m) t ≡ c → Near (moved (place K s n k f))
-        compared m a Less e = near_less k kl f m of e a
-        compared m a Equal e = let same = term_apart o (weight leads k m) t e in near_lead k kl (close (ap (λ t. t.column) (same ∙ sym is))) f m of same a
+        compared : (m : Monomial) → IsLead K o f m (coefficient K plain_cmp f m) → (c : Ordering) → term_cmp o (weight leads k m) t ≡ c → BelowModulo (moved (place K s n k f))
+        compared m a Less e = below_modulo_less k kl f m of e a
+        compared m a Equal e = let same = term_apart o (weight leads k m) t e in below_modulo_lead k kl (close (ap (λ t. t.column) (same ∙ sym is))) f m of same a
         compared m a Greater e = absurd (true≢false (ap is_gt (sym e) ∙ h m a.apart))
 
-        by : (f ≡ empty_sum K plain_cmp) ⊎ ((m : Monomial) × IsLead K o f m (coefficient K plain_cmp f m)) → Near (moved (place K s n k f))
-        by (inl e) = subst (λ z. Near (moved z)) (sym (ap (place K s n k) e ∙ place_none K s n k)) near_blank
+        by : (f ≡ empty_sum K plain_cmp) ⊎ ((m : Monomial) × IsLead K o f m (coefficient K plain_cmp f m)) → BelowModulo (moved (place K s n k f))
+        by (inl e) = subst (λ z. BelowModulo (moved z)) (sym (ap (place K s n k) e ∙ place_none K s n k)) below_modulo_blank
         by (inr (m, a)) = compared m a (term_cmp o (weight leads k m) t) refl
 
-    pub near-moved : (z : Row K) → length z ≡ n → RowOf K s z → AreWeightsAtMost K o leads t z → ((k : ℕ) → k < n → (lead_at leads k).column ≡ (lead_at leads k₀).column → IsCloseTo k) → Near (moved z)
-    near-moved z l oz h close = by_places K s lawful (λ z. Near (moved z)) n z l
-        near_blank
-        (λ a b la lb x y. subst Near (sym (moved-row_plus a b (la ∙ sym lb))) (near-row_plus K s lawful o leads n N sub t _ _ x y))
-        (λ k kl. near_place k kl (close k kl) (get_or z k (empty_sum K plain_cmp)) (of_entry K s z k oz) (h k))
+    pub below_modulo-moved : (z : Row K) → length z ≡ n → RowOf K s z → AreWeightsAtMost K o leads t z → ((k : ℕ) → k < n → (lead_at leads k).column ≡ (lead_at leads k₀).column → IsCloseTo k) → BelowModulo (moved z)
+    below_modulo-moved z l oz h close = by_places K s lawful (λ z. BelowModulo (moved z)) n z l
+        below_modulo_blank
+        (λ a b la lb x y. subst BelowModulo (sym (moved-row_plus a b (la ∙ sym lb))) (below_modulo-row_plus K s lawful o leads n N sub t _ _ x y))
+        (λ k kl. below_modulo_place k kl (close k kl) (get_or z k (empty_sum K plain_cmp)) (of_entry K s z k oz) (h k))

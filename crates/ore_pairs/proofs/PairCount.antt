@@ -11,7 +11,7 @@ use Rattle.std.specs.List.{AllByRecursion, IsDistinct, count_by}
 use Rattle.std.specs.Set.{is_member}
 use Rattle.std.proofs.lemmas.Cmp.{nat_eq_equiv, on_equiv, and_equiv}
 use Rattle.std.proofs.ByRecursion.{All-append, All-map}
-use Rattle.std.proofs.lemmas.Bool.{or_parts}
+use Rattle.std.proofs.lemmas.Bool.{or_parts, and_parts, or_right, or_left}
 use Rattle.std.proofs.lemmas.Bool.Decides.{nat_tests}
 use Rattle.std.proofs.lemmas.List.{length-append, length-map}
 use Rattle.std.proofs.lemmas.List.Folds.{list_any-append}
@@ -23,7 +23,7 @@ use Rattle.ore_monomial.specs.declared.order.Order.{Order}
 use Rattle.ore_monomial.specs.Signature.{Signature}
 use Rattle.ore_rows.specs.Rows.{Row}
 use Rattle.ore_pairs.specs.Steps.{lead_at}
-use Rattle.ore_pairs.specs.PairList.{Entry, Pair, Skip, first, second, pairs_of, IsLawfulEntry, AreLawful, pair_count}
+use Rattle.ore_pairs.specs.PairList.{DealtPair, Pair, Skip, first, second, pairs_of, IsLawfulEntry, AreLawful, pair_count}
 use Rattle.ore_pairs.specs.PairRule.{is_listed, AreAllListed}
 use Rattle.ore_pairs.proofs.PairRuleLaws.{CanTreat, treat_from, pair_from, pair_to, listed_first, listed_later}
 
@@ -39,10 +39,6 @@ same_laws = and_equiv {K = Two} (on_equiv {K = Two} (λ p. p.0) nat_eq_equiv) (o
 same_from : (p q : Two) → p ≡ q → same p q ≡ true
 same_from p q e = subst (λ q. same p q ≡ true) e (same_laws.refl p)
 
-both_true : (a b : Bool) → (a && b) ≡ true → (a ≡ true) × (b ≡ true)
-both_true true b h = (refl, h)
-both_true false b h = absurd (true≢false (sym h))
-
 nat_eq_true : (a b : ℕ) → nat_eq a b ≡ true → a ≡ b
 nat_eq_true a b h = grind (arith, nat_tests)
 
@@ -50,7 +46,7 @@ nat_eq_from : (a b : ℕ) → a ≡ b → nat_eq a b ≡ true
 nat_eq_from a b h = grind (arith, nat_tests)
 
 to_same : (p q : Two) → same p q ≡ true → (p.0 ≡ q.0) × (p.1 ≡ q.1)
-to_same p q h = let b = both_true _ _ h in (nat_eq_true p.0 q.0 b.0, nat_eq_true p.1 q.1 b.1)
+to_same p q h = let b = and_parts _ _ h in (nat_eq_true p.0 q.0 b.0, nat_eq_true p.1 q.1 b.1)
 
 apart : (p q : Two) → ((p.0 ≡ q.0) × (p.1 ≡ q.1) → ⊥) → same p q ≡ false
 apart p q h = by (same p q) refl
@@ -58,14 +54,6 @@ apart p q h = by (same p q) refl
     by : (b : Bool) → same p q ≡ b → same p q ≡ false
     by true e = absurd (h (to_same p q e))
     by false e = e
-
-or_right : (a b : Bool) → b ≡ true → (a || b) ≡ true
-or_right true b h = refl
-or_right false b h = h
-
-or_left : (a b : Bool) → a ≡ true → (a || b) ≡ true
-or_left true b h = refl
-or_left false b h = absurd (true≢false (sym h))
 
 -- ---- all pairs, as a list
 
@@ -141,16 +129,16 @@ unlisted_apart i j [] h = tt
 unlisted_apart i j (p ∷ ps) h = let both = or_parts (nat_eq i p.0 && nat_eq j p.1) (is_listed i j ps) h in (both.0, unlisted_apart i j ps both.1)
 
 module _ (K : Domain) (s : Signature) (o : Order) (n : ℕ) (basis : List (Row K)) (leads : List Term) where
-  new_of : (before : List (Entry K)) (e : Entry K) → IsLawfulEntry K s o n basis leads before e → CanTreat leads (pairs_of before) (first e) (second e)
+  new_of : (before : List (DealtPair K)) (e : DealtPair K) → IsLawfulEntry K s o n basis leads before e → CanTreat leads (pairs_of before) (first e) (second e)
   new_of before (Pair i j steps) h = treat_from leads (pairs_of before) i j h.0
   new_of before (Skip i j k) h = treat_from leads (pairs_of before) i j h.0
 
-  later_apart : (i j : ℕ) (before es : List (Entry K)) → is_listed i j (pairs_of before) ≡ true → AreLawful K s o n basis leads before es → AllByRecursion (λ y. same (i, j) y ≡ false) (pairs_of es)
+  later_apart : (i j : ℕ) (before es : List (DealtPair K)) → is_listed i j (pairs_of before) ≡ true → AreLawful K s o n basis leads before es → AllByRecursion (λ y. same (i, j) y ≡ false) (pairs_of es)
   later_apart i j before [] h laws = tt
   later_apart i j before (e ∷ es) h laws =
       (apart (i, j) (first e, second e) (λ q. true≢false ((λ n. sym h n) ∙ (λ n. is_listed (q.0 n) (q.1 n) (pairs_of before)) ∙ (new_of before e laws.0).unlisted)), later_apart i j (e ∷ before) es (listed_later i j (first e, second e) (pairs_of before) h) laws.1)
 
-  pairs_distinct : (before es : List (Entry K)) → AreLawful K s o n basis leads before es → IsDistinct same (pairs_of es)
+  pairs_distinct : (before es : List (DealtPair K)) → AreLawful K s o n basis leads before es → IsDistinct same (pairs_of es)
   unfolding IsDistinct
   pairs_distinct before [] laws = tt
   pairs_distinct before (e ∷ es) laws = (later_apart (first e) (second e) (e ∷ before) es (listed_first (first e) (second e) (first e, second e) (pairs_of before) refl refl) laws.1, pairs_distinct (e ∷ before) es laws.1)
@@ -171,13 +159,13 @@ module _ (K : Domain) (s : Signature) (o : Order) (n : ℕ) (basis : List (Row K
       by true e h = here e
       by false e h = there h
 
-  pairs_members : (before es : List (Entry K)) → AreLawful K s o n basis leads before es → (q : Two) → is_member same (pairs_of es) q ≡ true → is_member same (pairs_from 0 leads) q ≡ true
+  pairs_members : (before es : List (DealtPair K)) → AreLawful K s o n basis leads before es → (q : Two) → is_member same (pairs_of es) q ≡ true → is_member same (pairs_from 0 leads) q ≡ true
   pairs_members before [] laws q h = absurd (true≢false (sym h))
   pairs_members before (e ∷ es) laws q h =
       let new = new_of before e laws.0 in
       by_head q (first e, second e) (pairs_of es) (member_of (first e) (second e) new.ordered new.within new.columns q) (pairs_members (e ∷ before) es laws.1 q) h
 
-  pub all_listed : (es : List (Entry K)) → AreLawful K s o n basis leads [] es → length es ≡ pair_count leads → AreAllListed leads (pairs_of es)
+  pub all_listed : (es : List (DealtPair K)) → AreLawful K s o n basis leads [] es → length es ≡ pair_count leads → AreAllListed leads (pairs_of es)
   unfolding IsDistinct
   all_listed es laws count i j pair = by (is_listed i j (pairs_of es)) refl
     where
@@ -248,7 +236,7 @@ members_from (x ∷ xs) ys h q m = by (same q x) refl (members_from xs ys h.1 q)
 
 module _ (K : Domain) (s : Signature) (o : Order) (n : ℕ) (basis : List (Row K)) (leads : List Term) where
   -- a list of all pairs, none of them twice, has as many entries as there are pairs
-  pub count-all : (es : List (Entry K)) → AreLawful K s o n basis leads [] es → AreAllListed leads (pairs_of es) → length es ≡ pair_count leads
+  pub count-all : (es : List (DealtPair K)) → AreLawful K s o n basis leads [] es → AreAllListed leads (pairs_of es) → length es ≡ pair_count leads
   count-all es laws all =
       let most = length-le_from_is_member same_laws (pairs_of es) (pairs_from 0 leads) (pairs_distinct K s o n basis leads [] es laws) (pairs_members K s o n basis leads [] es laws) in
       let least = length-le_from_is_member same_laws (pairs_from 0 leads) (pairs_of es) (distinct_pairs 0 leads)
@@ -261,7 +249,7 @@ module _ (K : Domain) (s : Signature) (o : Order) (n : ℕ) (basis : List (Row K
       listed : (x y : ℕ) (q : Two) → same q (x, y) ≡ true → is_listed x y (pairs_of es) ≡ true → is_member same (pairs_of es) q ≡ true
       listed x y q h k = let b = to_same q (x, y) h in (λ n. is_member same (pairs_of es) (b.0 n, b.1 n)) ∙ sym (listed_member x y (pairs_of es)) ∙ k
 
-  pub listed_most : (es : List (Entry K)) → AreLawful K s o n basis leads [] es → length es ≤ pair_count leads
+  pub listed_most : (es : List (DealtPair K)) → AreLawful K s o n basis leads [] es → length es ≤ pair_count leads
   listed_most es laws =
       let most = length-le_from_is_member same_laws (pairs_of es) (pairs_from 0 leads) (pairs_distinct K s o n basis leads [] es laws) (pairs_members K s o n basis leads [] es laws) in
       let many : length (pairs_of es) ≡ length es = length-map es (λ e. (first e, second e)) in

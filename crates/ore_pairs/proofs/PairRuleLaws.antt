@@ -13,7 +13,7 @@
 --     treat_longer, skip_longer    what may be done by some leads may be done by more
 use Rattle.std.proofs.Common.{◌≡◌, ◌≢◌, ◌⊎◌, inl, inr, ℕ, ◌<◌, ◌≤◌, Bool, true, false, List, [], ◌∷◌, ◌++◌, length, refl, sym, ap, ◌∙◌, true≢false, arith}
 use Rattle.std.specs.Prelude.{◌&&◌, ◌||◌, not, nat_eq, nat_lt}
-use Rattle.std.proofs.lemmas.Bool.{and_parts, not-true}
+use Rattle.std.proofs.lemmas.Bool.{and_parts, not-true, or_right}
 use Rattle.std.proofs.lemmas.Bool.Decides.{nat_tests}
 use Rattle.ore_monomial.specs.Monomial.{Divides, lcm}
 use Rattle.ore_monomial.specs.Term.{Term}
@@ -22,7 +22,7 @@ use Rattle.ore_leads.proofs.Dividing.{divides_term_true}
 use Rattle.ore_rows.specs.declared.choices.Choice.{Choice}
 use Rattle.ore_rows.specs.declared.choices.Choice.TheVariants.{Treat, Skip}
 use Rattle.ore_pairs.specs.PairRule.{is_listed, either_listed, HaveSamePairs, is_pair, may_treat, may_skip, is_lawful, AreAllListed}
-use Rattle.ore_pairs.specs.Steps.{lead_at, pair_term}
+use Rattle.ore_pairs.specs.Steps.{lead_at, lcm_of_leads}
 
 -- ---- listed pairs
 
@@ -31,10 +31,6 @@ pair_test i j x y b h = grind (arith, nat_tests)
 
 same_pair : (i j x y : ℕ) (b : Bool) → x ≡ i → y ≡ j → ((nat_eq i x && nat_eq j y) || b) ≡ true
 same_pair i j x y b e f = grind (arith, nat_tests)
-
-or_right : (a b : Bool) → b ≡ true → (a || b) ≡ true
-or_right true b h = refl
-or_right false b h = h
 
 or_from : (a b : Bool) → (a || b) ≡ true → (a ≡ true) ⊎ (b ≡ true)
 or_from true b h = inl refl
@@ -125,7 +121,7 @@ pub record CanSkip (leads : List Term) (listed : List (ℕ × ℕ)) (i j via : �
   pub within : via < length leads
   pub other : (via ≢ i) × (via ≢ j)
   pub column : (lead_at leads via).column ≡ (lead_at leads i).column
-  pub divides : Divides (lead_at leads via).monomial (pair_term leads i j).monomial
+  pub divides : Divides (lead_at leads via).monomial (lcm_of_leads leads i j).monomial
   pub known : (either_listed i via listed ≡ true) × (either_listed j via listed ≡ true)
 
 places_from : (k n i j : ℕ) → (nat_lt k n && not (nat_eq k i) && not (nat_eq k j)) ≡ true → (k < n) × ((k ≢ i) × (k ≢ j))
@@ -139,7 +135,7 @@ module _ (leads : List Term) (listed : List (ℕ × ℕ)) (i j via : ℕ) where
   third = nat_lt via (length leads) && not (nat_eq via i) && not (nat_eq via j)
 
   abbrev divides : Bool
-  divides = divides_term (lead_at leads via) (pair_term leads i j)
+  divides = divides_term (lead_at leads via) (lcm_of_leads leads i j)
 
   pub skip_from : may_skip leads listed i j via ≡ true → CanSkip leads listed i j via
   unfolding may_skip
@@ -148,7 +144,7 @@ module _ (leads : List Term) (listed : List (ℕ × ℕ)) (i j via : ℕ) where
       let b = and_parts (third && divides) (either_listed i via listed) a.0 in
       let c = and_parts third divides b.0 in
       let places = places_from via (length leads) i j c.0 in
-      let term = (divides_term_true (lead_at leads via) (pair_term leads i j)).0 c.1 in
+      let term = (divides_term_true (lead_at leads via) (lcm_of_leads leads i j)).0 c.1 in
       record { within = places.0; other = places.1; column = term.0; divides = term.1; known = (b.1, a.1) }
 
   pub skip_same : (others : List (ℕ × ℕ)) → HaveSamePairs listed others → may_skip leads listed i j via ≡ may_skip leads others i j via

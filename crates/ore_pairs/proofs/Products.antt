@@ -32,7 +32,7 @@ use Rattle.ore_rows.proofs.RowLeads.{lead-row_scale}
 use Rattle.ore_pairs.specs.Steps.{row_at, lead_at, AreLeads}
 use Rattle.ore_pairs.proofs.RowSums.{of_entry}
 use Rattle.ore_pairs.proofs.Places.{place, combine-place, by_places}
-use Rattle.ore_pairs.proofs.Near.{weight, AreWeightsAtMost}
+use Rattle.ore_pairs.proofs.BelowModulo.{weight, AreWeightsAtMost}
 
 abbrev pub IsLeadDivided : ℕ → List Term → Term → Type 0
 IsLeadDivided n leads t = (i : ℕ) × (i < n) × ((lead_at leads i).column ≡ t.column) × Divides (lead_at leads i).monomial t.monomial

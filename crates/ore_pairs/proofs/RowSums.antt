@@ -1,6 +1,5 @@
 -- Sums and differences of rows, over any domain.
---     row_assoc, row_comm      sums are associative and commutative
---     plus-zero_row            a row and zeros
+--     row_assoc                sums are associative and commutative
 --     scale-row_minus          a multiple of a difference
 --     row_minus-row_plus       the difference of two sums is the sum of two differences
 --     row_minus_through        a difference by way of a third row
@@ -18,9 +17,9 @@ use Rattle.ore_ring.specs.Belongs.{OperatorOf}
 use Rattle.ore_ring.specs.Product.{times}
 use Rattle.ore_ring.proofs.Belonging.{of_none}
 use Rattle.ore_ring.proofs.Product.{times-linear_right}
-use Rattle.ore_rows.specs.Rows.{Row, RowOf, zero_row, row_plus, row_minus, row_scale}
+use Rattle.ore_rows.specs.Rows.{Row, RowOf, row_plus, row_minus, row_scale}
 use Rattle.ore_rows.proofs.Differences.{row_minus_scaled, row_minus_back, number-times}
-use Rattle.ore_rows.proofs.RowLaws.{row_swap, zero_row_plus, scale-row_plus, scale-scale}
+use Rattle.ore_rows.proofs.RowLaws.{row_swap, scale-row_plus, scale-scale, row_comm}
 
 module _ (K : Domain) where
   pub row_assoc : (a b c : Row K) → row_plus K (row_plus K a b) c ≡ row_plus K a (row_plus K b c)
@@ -29,16 +28,6 @@ module _ (K : Domain) where
   row_assoc (x ∷ a) [] c = refl
   row_assoc (x ∷ a) (y ∷ b) [] = refl
   row_assoc (x ∷ a) (y ∷ b) (z ∷ c) = λ i. Operators.plus_assoc K x y z i ∷ row_assoc a b c i
-
-  pub row_comm : (a b : Row K) → row_plus K a b ≡ row_plus K b a
-  unfolding row_plus
-  row_comm [] [] = refl
-  row_comm [] (y ∷ b) = refl
-  row_comm (x ∷ a) [] = refl
-  row_comm (x ∷ a) (y ∷ b) = λ i. Operators.plus_comm K x y i ∷ row_comm a b i
-
-  pub plus-zero_row : (n : ℕ) (r : Row K) → length r ≡ n → row_plus K r (zero_row K n) ≡ r
-  plus-zero_row n r e = row_comm r (zero_row K n) ∙ zero_row_plus K n r e
 
 module _ (K : Domain) (s : Signature) where
   pub of_entry : (r : Row K) (j : ℕ) → RowOf K s r → OperatorOf K s (get_or r j (empty_sum K plain_cmp))

@@ -22,12 +22,12 @@ use Rattle.ore_monomial.proofs.TermOrder.{same_term}
 use Rattle.ore_ring.proofs.Belonging.{of_single}
 use Rattle.ore_rows.specs.Rows.{Row, RowOf, AreLong, row_minus, row_scale}
 use Rattle.ore_rows.specs.RowLead.{IsRowLead, IsRowBelow}
-use Rattle.ore_rows.specs.Arithmetic.{Arithmetic, exact, IsSound}
+use Rattle.ore_rows.specs.Arithmetic.{Arithmetic, exact, IsSoundArithmetic}
 use Rattle.ore_rows.proofs.Differences.{of_row_minus}
 use Rattle.ore_rows.proofs.RowLaws as Rows
 use Rattle.ore_rows.proofs.RowLeads.{lead-row_scale_term, below-row_minus}
 use Rattle.ore_rows.proofs.SoundArithmetic.{scaled_exact, less_exact, scaled_most, less_most}
-use Rattle.ore_pairs.specs.Steps.{row_at, lead_at, pair_term, multiplier, multiples_less, s_row, s_row_within, AreLeads}
+use Rattle.ore_pairs.specs.Steps.{row_at, lead_at, lcm_of_leads, multiplier, multiples_less, s_row, s_row_within, AreLeads}
 
 -- ---- by an arithmetic
 
@@ -38,16 +38,16 @@ module _ (K : Domain) (s : Signature) where
 
   pub s_row_exact : (leads : List Term) (m : List (Row K)) (i j : ℕ) → s_row_within K (exact K s) leads m i j ≡ Ok (s_row K s leads m i j)
   unfolding s_row_within s_row
-  s_row_exact leads m i j = multiples_exact (multiplier K leads (pair_term leads i j).monomial i) (multiplier K leads (pair_term leads i j).monomial j) (row_at m i) (row_at m j)
+  s_row_exact leads m i j = multiples_exact (multiplier K leads (lcm_of_leads leads i j).monomial i) (multiplier K leads (lcm_of_leads leads i j).monomial j) (row_at m i) (row_at m j)
 
-  module _ (A : Arithmetic K) (sound : IsSound K s A) where
+  module _ (A : Arithmetic K) (sound : IsSoundArithmetic K s A) where
     multiples_most : (d e : Operator K) (r q : Row K) → IsAtMost (multiples_less K A d r e q) (multiples_less K (exact K s) d r e q)
     unfolding multiples_less
     multiples_most d e r q = most_bind _ _ _ _ (scaled_most K s A sound d r) (λ x. most_bind _ _ _ _ (scaled_most K s A sound e q) (λ y. less_most K s A sound x y))
 
     pub s_row_most : (leads : List Term) (m : List (Row K)) (i j : ℕ) → IsAtMost (s_row_within K A leads m i j) (s_row_within K (exact K s) leads m i j)
     unfolding s_row_within
-    s_row_most leads m i j = multiples_most (multiplier K leads (pair_term leads i j).monomial i) (multiplier K leads (pair_term leads i j).monomial j) (row_at m i) (row_at m j)
+    s_row_most leads m i j = multiples_most (multiplier K leads (lcm_of_leads leads i j).monomial i) (multiplier K leads (lcm_of_leads leads i j).monomial j) (row_at m i) (row_at m j)
 
     pub s_row_value : (leads : List Term) (m : List (Row K)) (i j : ℕ) (x : Row K) → s_row_within K A leads m i j ≡ Ok x → x ≡ s_row K s leads m i j
     s_row_value leads m i j x = most_value _ x (s_row K s leads m i j) (subst (IsAtMost (s_row_within K A leads m i j)) (s_row_exact leads m i j) (s_row_most leads m i j))
@@ -56,7 +56,7 @@ module _ (K : Domain) (s : Signature) where
 
 module _ (K : Domain) (s : Signature) (lawful : IsLawful s) (leads : List Term) (i j : ℕ) where
   abbrev m : Term
-  m = pair_term leads i j
+  m = lcm_of_leads leads i j
 
   of_multiple : MonomialOf s m.monomial → (rows : List (Row K)) (k : ℕ) → k < length rows → AllByRecursion (RowOf K s) rows → RowOf K s (row_scale K s (multiplier K leads m.monomial k) (row_at rows k))
   of_multiple declared rows k h of = Rows.of_row_scale K s _ (row_at rows k) (of_single K s _ K.one (MonomialOf-quotient s m.monomial (lead_at leads k).monomial declared)) (All-get_or (RowOf K s) rows k [] h of)

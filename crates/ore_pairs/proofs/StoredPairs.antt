@@ -20,7 +20,7 @@ use Rattle.std.proofs.lemmas.Bool.Decides.{nat_tests}
 use Rattle.std.proofs.lemmas.Option.{get_or_from_slice_get}
 use Rattle.ore_algebra.specs.Domain.{Domain}
 use Rattle.ore_algebra.specs.Limits.{Cause, Degree, ◌>>=◌, guard}
-use Rattle.ore_rational.proofs.FractionLaws.{rationals}
+use Rattle.ore_rational.specs.Field.{rationals}
 use Rattle.ore_monomial.specs.LetterRule.{Operator}
 use Rattle.ore_monomial.specs.Monomial.{Monomial, Divides, exponent, degree}
 use Rattle.ore_monomial.specs.Signature.{Signature, MonomialOf}
@@ -29,20 +29,20 @@ use Rattle.ore_monomial.proofs.Monomials.{exponent_past}
 use Rattle.ore_ring.specs.Ordered.{Ordered}
 use Rattle.ore_rows.specs.Arithmetic.{Arithmetic}
 use Rattle.ore_rows.specs.Reduction as reduction
-use Rattle.ore_rows.specs.Reduction.{Monic, Work, basis_rows, cofactors_of, leads_of, origin}
+use Rattle.ore_rows.specs.Reduction.{BasisRow, ReductionState, basis_rows, cofactors_of, leads_of, origin}
 use Rattle.ore_rows.specs.Rows.{Row}
 use Rattle.ore_rows.specs.Stored.{sums_of}
-use Rattle.ore_rows.specs.StoredBasis.{StoredBasis, HasLead, AllBelong}
+use Rattle.ore_rows.specs.StoredBasis.{StoredBasis, HasLead, BasisBelongs}
 use Rattle.ore_rows.proofs.BasisParts.{row_belongs, lead_of_signature}
 use Rattle.ore_rows.proofs.StoredBases.{is_monic}
 use Rattle.ore_pairs.specs.PairRule.{is_listed, HaveSamePairs}
 use Rattle.ore_pairs.specs.Run.{s_rows}
-use Rattle.ore_pairs.specs.Steps.{row_at, lead_at, pair_term, multiplier, multiples_less, s_row_within, common_fits}
+use Rattle.ore_pairs.specs.Steps.{row_at, lead_at, lcm_of_leads, multiplier, multiples_less, s_row_within, common_fits}
 
 -- ---- reading the basis
 
 -- the lead of a row of the basis is of the signature of its entries
-pub lead_of_row : (s : Signature) (b : StoredBasis) (leads : List Term) (k : ℕ) → leads ≡ leads_of b.items → AllBelong s b.items → (r : List Ordered) → slice_get (basis_rows b.items) k ≡ Some r → HasLead r (reduction.basis_lead b.items k) → MonomialOf s (lead_at leads k).monomial
+pub lead_of_row : (s : Signature) (b : StoredBasis) (leads : List Term) (k : ℕ) → leads ≡ leads_of b.items → BasisBelongs s b.items → (r : List Ordered) → slice_get (basis_rows b.items) k ≡ Some r → HasLead r (reduction.basis_lead b.items k) → MonomialOf s (lead_at leads k).monomial
 lead_of_row s b leads k same belong r at lead =
     let of = row_belongs s b k r belong at in
     subst (λ (ts : List Term). MonomialOf s (lead_at ts k).monomial) (sym same) (lead_of_signature s r (reduction.basis_lead b.items k) rationals.one of (is_monic s r (reduction.basis_lead b.items k) of lead))
@@ -50,29 +50,29 @@ lead_of_row s b leads k same belong r at lead =
 -- ---- the S-row of a pair
 
 pub s_row_read : (A : Arithmetic rationals) (leads : List Term) (m : List (Row rationals)) (i j : ℕ) (c : Monomial) (f g : Operator rationals) (r q : List Ordered)
-    → c ≡ (pair_term leads i j).monomial → f ≡ multiplier rationals leads c i → g ≡ multiplier rationals leads c j → row_at m i ≡ sums_of r → row_at m j ≡ sums_of q
+    → c ≡ (lcm_of_leads leads i j).monomial → f ≡ multiplier rationals leads c i → g ≡ multiplier rationals leads c j → row_at m i ≡ sums_of r → row_at m j ≡ sums_of q
     → multiples_less rationals A f (sums_of r) g (sums_of q) ≡ s_row_within rationals A leads m i j
 unfolding s_row_within
 s_row_read A leads m i j c f g r q same d e at_i at_j = λ n.
     multiples_less rationals A ((d ∙ ap (λ c. multiplier rationals leads c i) same) n) (sym at_i n) ((e ∙ ap (λ c. multiplier rationals leads c j) same) n) (sym at_j n)
 
-module _ (K : Domain) (A : Arithmetic K) (basis : List (Monic (Row K))) (leads : List Term) (same : leads ≡ leads_of basis) (i j : ℕ) where
-  abbrev parts : Result (Unit {0}) Cause → Result (Row K) Cause → Result (Row K) Cause → Result (Work K) Cause
+module _ (K : Domain) (A : Arithmetic K) (basis : List (BasisRow (Row K))) (leads : List Term) (same : leads ≡ leads_of basis) (i j : ℕ) where
+  abbrev parts : Result (Unit {0}) Cause → Result (Row K) Cause → Result (Row K) Cause → Result (ReductionState K) Cause
   parts fits row cofactor = fits >>= λ u. row >>= λ r. cofactor >>= λ q. Ok (record { row = r; cofactor = q; steps = [] })
 
   abbrev here : List (Row K) → Result (Row K) Cause
   here m = s_row_within K A leads m i j
 
-  s_rows_by : (b : Bool) → A.degree_fits (degree (pair_term leads i j).monomial) ≡ b → s_rows K A basis i j ≡ parts (guard b tt Degree) (here (basis_rows basis)) (here (cofactors_of basis))
+  s_rows_by : (b : Bool) → A.degree_fits (degree (lcm_of_leads leads i j).monomial) ≡ b → s_rows K A basis i j ≡ parts (guard b tt Degree) (here (basis_rows basis)) (here (cofactors_of basis))
   unfolding s_rows
   s_rows_by b e =
-      (λ n. parts (common_fits K A (pair_term (sym same n) i j)) (s_row_within K A (sym same n) (basis_rows basis) i j) (s_row_within K A (sym same n) (cofactors_of basis) i j))
+      (λ n. parts (common_fits K A (lcm_of_leads (sym same n) i j)) (s_row_within K A (sym same n) (basis_rows basis) i j) (s_row_within K A (sym same n) (cofactors_of basis) i j))
       ∙ (λ n. parts (guard (e n) tt Degree) (here (basis_rows basis)) (here (cofactors_of basis)))
 
-  pub s_rows_degree : A.degree_fits (degree (pair_term leads i j).monomial) ≡ false → s_rows K A basis i j ≡ Err Degree
+  pub s_rows_degree : A.degree_fits (degree (lcm_of_leads leads i j).monomial) ≡ false → s_rows K A basis i j ≡ Err Degree
   s_rows_degree d = s_rows_by false d
 
-  module _ (fits : A.degree_fits (degree (pair_term leads i j).monomial) ≡ true) where
+  module _ (fits : A.degree_fits (degree (lcm_of_leads leads i j).monomial) ≡ true) where
     pub s_rows_first : (c : Cause) → here (basis_rows basis) ≡ Err c → s_rows K A basis i j ≡ Err c
     s_rows_first c e = s_rows_by true fits ∙ (λ n. parts (Ok tt) (e n) (here (cofactors_of basis)))
 

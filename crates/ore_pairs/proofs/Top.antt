@@ -1,15 +1,14 @@
 -- A row of cofactors is zeros or has a greatest weight.
 --     Top                      it is zeros, or a term at some place has a weight that no other exceeds
 --     top_of                   this of a row of n entries
-use Rattle.std.proofs.Common.{◌≡◌, ◌≢◌, ◌⊎◌, inl, inr, ⊎_elim, ℕ, zero, suc, ◌<◌, Bool, true, false, List, length, get_or, refl, sym, ap, ◌∙◌, subst, true≢false, arith}
-use Rattle.std.specs.declared.cmp.Ordering.{Ordering}
-use Rattle.std.specs.declared.cmp.Ordering.TheVariants.{Less, Equal, Greater}
-use Rattle.std.specs.Ordering.{is_gt, ordering_reverse}
+use Rattle.std.proofs.Common.{◌≡◌, ◌≢◌, ◌⊎◌, inl, inr, ⊎_elim, ℕ, zero, suc, ◌<◌, Bool, true, false, List, length, get_or, refl, sym, ap, ◌∙◌, subst, arith}
+use Rattle.std.specs.Ordering.{is_gt}
 use Rattle.std.specs.Cmp.{upto}
 use Rattle.std.proofs.lemmas.List.{ext_get_or, get_or_past}
 use native.Mathlib.Decide.{dec_lt}
 use Rattle.ore_algebra.specs.Domain.{Domain}
 use Rattle.ore_algebra.specs.Free.{empty_sum, coefficient}
+use Rattle.ore_algebra.proofs.Orderings.{reversed_greater}
 use Rattle.ore_monomial.specs.Monomial.{Monomial, plain_cmp}
 use Rattle.ore_monomial.specs.Term.{Term, term_cmp}
 use Rattle.ore_monomial.specs.declared.order.Order.{Order}
@@ -21,7 +20,7 @@ use Rattle.ore_ring.specs.Lead.{IsLead}
 use Rattle.ore_ring.proofs.NoZeroDivisor.{lead_of}
 use Rattle.ore_rows.specs.Rows.{Row, zero_row}
 use Rattle.ore_rows.proofs.RowLaws as Rows
-use Rattle.ore_pairs.proofs.Near.{weight, weight_cmp, at_place, AreWeightsAtMost}
+use Rattle.ore_pairs.proofs.BelowModulo.{weight, weight_cmp, at_place, AreWeightsAtMost}
 
 last : (P : ℕ → Type 0) (j : ℕ) → ((k : ℕ) → k < j → P k) → P j → (k : ℕ) → k < suc j → P k
 last P j h here k l = by (dec_lt k j)
@@ -29,11 +28,6 @@ last P j h here k l = by (dec_lt k j)
     by : Dec (k < j) → P k
     by (yes a) = h k a
     by (no a) = let e : j ≡ k = omega arith in subst P e here
-
-turned : (c : Ordering) → is_gt c ≡ true → is_gt (ordering_reverse c) ≡ false
-turned Less e = absurd (true≢false (sym e))
-turned Equal e = absurd (true≢false (sym e))
-turned Greater e = refl
 
 module _ (K : Domain) (o : Order) (leads : List Term) (z : Row K) where
   abbrev entry : ℕ → Operator K
@@ -71,7 +65,7 @@ module _ (K : Domain) (o : Order) (leads : List Term) (z : Row K) where
         omega arith,
         a.apart,
         last (IsUnder (weight leads j m)) j
-            (λ i l r v. upto (term_total o) (weight leads i r) (weight leads k q) (weight leads j m) (g i l r v) (ap is_gt ((term_total o).antisymm (weight leads k q) (weight leads j m)) ∙ turned _ h)) (own j m a),
+            (λ i l r v. upto (term_total o) (weight leads i r) (weight leads k q) (weight leads j m) (g i l r v) (ap is_gt ((term_total o).antisymm (weight leads k q) (weight leads j m)) ∙ reversed_greater _ h)) (own j m a),
       )
       by false h = inr (
         k,

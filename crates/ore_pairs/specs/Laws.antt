@@ -8,16 +8,16 @@ use Rattle.std.specs.Prelude.{◌≡◌, ◌↔◌, ℕ, true, List, length}
 use Rattle.ore_algebra.specs.Limits.{Limits}
 use Rattle.ore_course.specs.Bounded.{HasFewChoices}
 use Rattle.ore_course.specs.Choices.{IsClosed}
-use Rattle.ore_rational.proofs.FractionLaws.{rationals}
+use Rattle.ore_rational.specs.Field.{rationals}
 use Rattle.ore_monomial.specs.Signature.{Signature}
 use Rattle.ore_rows.specs.Rows.{Row, AreLong, InRowModule, IsExact}
-use Rattle.ore_pairs.specs.Run.{State, IsComplete}
+use Rattle.ore_pairs.specs.Run.{RunState, IsComplete}
 use Rattle.ore_pairs.specs.Runner.{is_complete, runner_within}
-use Rattle.ore_pairs.specs.Blocks.{ExactBlock, OutsideBlock, IsValidExact, IsValidOutside, IsExactBlockOf, IsOutsideBlockOf}
+use Rattle.ore_pairs.specs.Blocks.{ExactBlock, OutsideBlock, IsValidExact, IsValidOutside, IsExactBlockOfSignature, IsOutsideBlockOfSignature}
 
 -- each pair with equal lead columns is listed exactly where the test passes
 abbrev pub CompleteIsTested : Type 0
-CompleteIsTested = (st : State rationals) → (is_complete rationals st ≡ true) ↔ IsComplete rationals st
+CompleteIsTested = (st : RunState rationals) → (is_complete rationals st ≡ true) ↔ IsComplete rationals st
 
 module _ (s : Signature) where
   -- whatever the limits are
@@ -31,9 +31,9 @@ module _ (s : Signature) where
   -- where an exact block of the signature is valid for a, of n columns, and l, with a column for each row of a
   abbrev pub ExactBlockIsExact : Type 0
   ExactBlockIsExact = (n : ℕ) (a l : List (Row rationals)) (b : ExactBlock rationals) → AreLong rationals (length a) l
-      → IsExactBlockOf rationals s b → IsValidExact rationals s s.order n a l b → IsExact rationals s n a l
+      → IsExactBlockOfSignature rationals s b → IsValidExact rationals s s.order n a l b → IsExact rationals s n a l
 
   -- where an outside block of the signature is valid for a, of n columns, and the row w
   abbrev pub OutsideBlockIsOutside : Type 0
   OutsideBlockIsOutside = (n : ℕ) (a : List (Row rationals)) (w : Row rationals) (b : OutsideBlock rationals)
-      → IsOutsideBlockOf rationals s b → IsValidOutside rationals s s.order n a w b → ¬ InRowModule rationals s n a w
+      → IsOutsideBlockOfSignature rationals s b → IsValidOutside rationals s s.order n a w b → ¬ InRowModule rationals s n a w

@@ -3,13 +3,13 @@
 --     pairs_code               the code of a list of pairs as a list of numbers
 use Rattle.std.specs.Prelude.{ℕ, List, []}
 use Rattle.std.specs.Coded.{Coded, coded×, coded_list, coded_ℕ}
-use Rattle.ore_rational.proofs.FractionLaws.{rationals}
+use Rattle.ore_rational.specs.Field.{rationals}
 use Rattle.ore_ring.specs.Ordered.{Ordered}
-use Rattle.ore_rows.specs.Reduction.{Work}
+use Rattle.ore_rows.specs.Reduction.{ReductionState}
 use Rattle.ore_rows.specs.Stored.{sums_of}
 
 -- the two rows without the orders, and no steps
-abbrev pub work_of_rows : List Ordered × List Ordered → Work rationals
+abbrev pub work_of_rows : List Ordered × List Ordered → ReductionState rationals
 work_of_rows p = record { row = sums_of p.0; cofactor = sums_of p.1; steps = [] }
 
 abbrev pub pairs_code : Coded (List (ℕ × ℕ))

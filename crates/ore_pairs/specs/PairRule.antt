@@ -16,7 +16,7 @@ use Rattle.ore_monomial.specs.Term.{Term}
 use Rattle.ore_leads.specs.FirstDivisor.{divides_term}
 use Rattle.ore_rows.specs.declared.choices.Choice.{Choice}
 use Rattle.ore_rows.specs.declared.choices.Choice.TheVariants.{Treat, Skip}
-use Rattle.ore_pairs.specs.Steps.{lead_at, pair_term}
+use Rattle.ore_pairs.specs.Steps.{lead_at, lcm_of_leads}
 
 -- ---- listed pairs
 
@@ -55,7 +55,7 @@ none_treatable leads listed = not (some_pair (length leads) (may_treat leads lis
 unfoldable pub may_skip : List Term → List (ℕ × ℕ) → ℕ → ℕ → ℕ → Bool
 may_skip leads listed i j via =
     nat_lt via (length leads) && not (nat_eq via i) && not (nat_eq via j)
-    && divides_term (lead_at leads via) (pair_term leads i j)
+    && divides_term (lead_at leads via) (lcm_of_leads leads i j)
     && either_listed i via listed && either_listed j via listed
 
 -- the pair of the choice may be treated; where the choice skips it, it may be skipped so

@@ -1,7 +1,7 @@
 -- A run on the rows of a matrix: the choices, and what each makes of the state. What a choice leads to is forced. A pair
 -- is that of the basis rows at two places, where the first row has place 0.
 -- (Buchberger 1965; skipped pairs: Buchberger 1979.)
---     State                     the basis, the listed pairs, the syzygies and their origins; each grows at its end
+--     RunState                  the basis, the listed pairs, the syzygies and their origins; each grows at its end
 --     Refusal                   why a choice leads nowhere (Choices of ore_course)
 --     constant                  a fraction, as an operator
 --     entry_row                 zeros but for one entry
@@ -11,7 +11,7 @@
 --     s_rows                    the S-row of a pair, beside that of the cofactor rows
 --     unless_zero               a row, unless it is zero
 --     with_syzygy, with_row     the state where nothing is left of the S-row, and where something is
---     settle, treat             one of both; all that treating a pair does
+--     with_remainder, treat     one of both; all that treating a pair does
 --     as_refusal                a stop as a refusal
 --     follow, step              what a lawful choice, and a choice, make of a state
 --     begin_row, begin_rows, begin    what a row, some rows, and the rows of a matrix begin a run with
@@ -32,21 +32,21 @@ pub use Rattle.ore_course.specs.Choices.{Refusal, Unlawful, Stopped}
 use Rattle.ore_rows.specs.Rows.{Row, zero_row, unit_row}
 use Rattle.ore_rows.specs.RowLead.{coefficient_at, row_lead}
 use Rattle.ore_rows.specs.Arithmetic.{Arithmetic, scaled}
-use Rattle.ore_rows.specs.Reduction.{Monic, Work, basis_rows, cofactors_of, leads_of, reduce}
+use Rattle.ore_rows.specs.Reduction.{BasisRow, ReductionState, basis_rows, cofactors_of, leads_of, reduce}
 use Rattle.ore_rows.specs.declared.choices.Choice.{Choice}
 use Rattle.ore_rows.specs.declared.choices.Choice.TheVariants.{Treat, Skip}
 use Rattle.ore_rows.specs.declared.choices.Origin.{Origin}
 use Rattle.ore_rows.specs.declared.choices.Origin.TheVariants.{ZeroRow, Event}
-use Rattle.ore_pairs.specs.PairList.{Entry, pairs_of}
+use Rattle.ore_pairs.specs.PairList.{DealtPair, pairs_of}
 use Rattle.ore_pairs.specs.PairList as pair
 use Rattle.ore_pairs.specs.PairRule.{is_lawful, AreAllListed}
-use Rattle.ore_pairs.specs.Steps.{pair_term, s_row_within, common_fits}
+use Rattle.ore_pairs.specs.Steps.{lcm_of_leads, s_row_within, common_fits}
 
 -- the basis so far, the pairs that were dealt with, the syzygies that were found (rows c with cA = 0, for the matrix A
 -- of the run), and what each of these comes from: a zero row of A, or a listed pair, by its place
-pub record State (K : Domain) : Type 0 where
-  pub basis : List (Monic (Row K))
-  pub listed : List (Entry K)
+pub record RunState (K : Domain) : Type 0 where
+  pub basis : List (BasisRow (Row K))
+  pub listed : List (DealtPair K)
   pub syzygies : List (Row K)
   pub origins : List Origin
 
@@ -60,11 +60,11 @@ module _ (K : Domain) where
   entry_row n i f = map (λ j. cond (nat_eq j i) f (empty_sum K plain_cmp)) (range_with_len 0 n)
 
   -- a treated or skipped pair is listed last
-  abbrev pub entries_with : State K → Entry K → List (Entry K)
+  abbrev pub entries_with : RunState K → DealtPair K → List (DealtPair K)
   entries_with st e = st.listed ++ e ∷ []
 
   -- each pair of basis rows is listed
-  abbrev pub IsComplete : State K → Type 0
+  abbrev pub IsComplete : RunState K → Type 0
   IsComplete st = AreAllListed (leads_of st.basis) (pairs_of st.listed)
 
 -- a value stays; a cause becomes the refusal that has it
@@ -79,9 +79,9 @@ inverse_of K inverses k = elim (K.discrete k K.zero) [ yes e ↦ K.zero | no n �
 -- ---- treating a pair
 
 -- the S-row of a pair, and then that of the cofactor rows, where the degree of the common multiple fits
-unfoldable pub s_rows : (K : Domain) → Arithmetic K → List (Monic (Row K)) → ℕ → ℕ → Result (Work K) Cause
+unfoldable pub s_rows : (K : Domain) → Arithmetic K → List (BasisRow (Row K)) → ℕ → ℕ → Result (ReductionState K) Cause
 s_rows K A basis i j = do
-  _ ← common_fits K A (pair_term (leads_of basis) i j)
+  _ ← common_fits K A (lcm_of_leads (leads_of basis) i j)
   row ← s_row_within K A (leads_of basis) (basis_rows basis) i j
   cofactor ← s_row_within K A (leads_of basis) (cofactors_of basis) i j
   Ok (record { row = row; cofactor = cofactor; steps = [] })
@@ -92,7 +92,7 @@ module _ (K : Domain) (o : Order) where
   unless_zero c = elim (row_lead K o c) [ None ↦ [] | Some t ↦ c ∷ [] ]
 
   -- nothing is left of the row: the cofactor row is a syzygy, unless it is zero, and comes from the pair that is now listed
-  unfoldable pub with_syzygy : State K → ℕ → ℕ → Work K → State K
+  unfoldable pub with_syzygy : RunState K → ℕ → ℕ → ReductionState K → RunState K
   with_syzygy st i j w = record {
     basis = st.basis;
     listed = entries_with K st (pair.Pair i j w.steps);
@@ -110,57 +110,57 @@ module _ (K : Domain) (o : Order) where
 
 module _ (K : Domain) (inverses : HasInverses K) (A : Arithmetic K) where
   -- a row with the lead t, and then its cofactor row, scaled by the inverse of the lead coefficient
-  unfoldable pub monic_multiple : Row K → Row K → Term → Result (Monic (Row K)) Cause
+  unfoldable pub monic_multiple : Row K → Row K → Term → Result (BasisRow (Row K)) Cause
   monic_multiple row cofactor t = do
     monic ← scaled K A (constant K (inverse_of K inverses (coefficient_at K row t))) row
     scaled_cofactor ← scaled K A (constant K (inverse_of K inverses (coefficient_at K row t))) cofactor
     Ok (record { row = monic; cofactor = scaled_cofactor; lead = t })
 
   -- what is left, with the lead t, is made monic and is the next basis row; the last step has its lead coefficient
-  unfoldable pub with_row : State K → ℕ → ℕ → Work K → Term → Result (State K) Cause
+  unfoldable pub with_row : RunState K → ℕ → ℕ → ReductionState K → Term → Result (RunState K) Cause
   with_row st i j w t = do
     b ← monic_multiple w.row w.cofactor t
     Ok (record { basis = st.basis ++ b ∷ []; listed = entries_with K st (pair.Pair i j (w.steps ++ record { index = length st.basis; monomial = unit; number = coefficient_at K w.row t } ∷ [])); syzygies = st.syzygies; origins = st.origins })
 
 module _ (K : Domain) (inverses : HasInverses K) (o : Order) (A : Arithmetic K) where
   -- what the reduction of a pair makes of the state
-  unfoldable pub settle : State K → ℕ → ℕ → Work K → Result (State K) Cause
-  settle st i j w = elim (row_lead K o w.row) [ None ↦ Ok (with_syzygy K o st i j w) | Some t ↦ with_row K inverses A st i j w t ]
+  unfoldable pub with_remainder : RunState K → ℕ → ℕ → ReductionState K → Result (RunState K) Cause
+  with_remainder st i j w = elim (row_lead K o w.row) [ None ↦ Ok (with_syzygy K o st i j w) | Some t ↦ with_row K inverses A st i j w t ]
 
   -- the S-row of the pair i, j is reduced by the basis
-  unfoldable pub treat : State K → ℕ → ℕ → Result (State K) Cause
+  unfoldable pub treat : RunState K → ℕ → ℕ → Result (RunState K) Cause
   treat st i j = do
     start ← s_rows K A st.basis i j
     rest ← reduce K o A st.basis start
-    settle st i j rest
+    with_remainder st i j rest
 
   -- ---- choices
 
   -- what a choice makes of a state in which it is lawful
-  unfoldable pub follow : State K → Choice → Result (State K) Cause
+  unfoldable pub follow : RunState K → Choice → Result (RunState K) Cause
   follow st (Treat i j) = treat st i j
   follow st (Skip i j via) = Ok (record st { listed = entries_with K st (pair.Skip i j via) })
 
   -- what a choice makes of a state
-  unfoldable pub step : State K → Choice → Result (State K) Refusal
+  unfoldable pub step : RunState K → Choice → Result (RunState K) Refusal
   step st c = cond (is_lawful (leads_of st.basis) (pairs_of st.listed) c) (as_refusal (follow st c)) (Err Unlawful)
 
   -- ---- the first basis
 
   -- the row at place i of q: made monic it is a basis row; where it is zero its unit row is a syzygy that comes from it
-  unfoldable pub begin_row : ℕ → ℕ → Row K → State K → Result (State K) Cause
+  unfoldable pub begin_row : ℕ → ℕ → Row K → RunState K → Result (RunState K) Cause
   begin_row q i r st = elim (row_lead K o r) [
     | None ↦ Ok (record st { syzygies = st.syzygies ++ unit_row K q i ∷ []; origins = st.origins ++ ZeroRow i ∷ [] })
     | Some t ↦ monic_multiple K inverses A r (unit_row K q i) t >>= (λ b. Ok (record st { basis = st.basis ++ b ∷ [] }))
   ]
 
   -- the rows from place i on, of q
-  unfoldable pub begin_rows : ℕ → ℕ → List (Row K) → State K → Result (State K) Cause
+  unfoldable pub begin_rows : ℕ → ℕ → List (Row K) → RunState K → Result (RunState K) Cause
   begin_rows q i [] st = Ok st
   begin_rows q i (r ∷ rs) st = do
     next ← begin_row q i r st
     begin_rows q (suc i) rs next
 
   -- the state before the first choice of a run on a
-  unfoldable pub begin : List (Row K) → Result (State K) Cause
+  unfoldable pub begin : List (Row K) → Result (RunState K) Cause
   begin a = begin_rows (length a) 0 a (record { basis = []; listed = []; syzygies = []; origins = [] })

@@ -1,19 +1,18 @@
 //! The common multiple of two leads, and the S-row of two rows.
 
 ghost use Rattle.std.specs.Prelude.{◌≡◌, ◌<◌, ◌≤◌, List, length, OkIff, IfOk, IfErr};
-ghost use Rattle.std.specs.List.{All};
 ghost use Rattle.ore_algebra.specs.Limits.{program};
-ghost use Rattle.ore_rational.proofs.FractionLaws.{rationals};
+ghost use Rattle.ore_rational.specs.Field.{rationals};
 ghost use Rattle.ore_monomial.specs.Gives.{Gives};
 ghost use Rattle.ore_monomial.specs.Monomial.{Divides, degree};
 ghost use Rattle.ore_monomial.specs.Signature.{MonomialOf};
 ghost use Rattle.ore_monomial.specs.declared.stop.RingStop.TheVariants.{Memory};
-ghost use Rattle.ore_ring.specs.Belongs.{Belongs};
+ghost use Rattle.ore_ring.specs.Belongs.{AllBelong, Belongs};
 ghost use Rattle.ore_rows.specs.Arithmetic.{within};
 ghost use Rattle.ore_rows.specs.Reduction.{row_at};
 ghost use Rattle.ore_rows.specs.Rows.{Row as Plain};
 ghost use Rattle.ore_rows.specs.Stored.{sums_of};
-ghost use Rattle.ore_pairs.specs.Steps.{lead_at, multiples_less, multiplier, pair_term, s_row_within};
+ghost use Rattle.ore_pairs.specs.Steps.{lead_at, multiples_less, multiplier, lcm_of_leads, s_row_within};
 
 use ore_leads::Leads;
 use ore_monomial::{DegreePassed, Exps, RingStop};
@@ -29,7 +28,7 @@ use std::alloc::Global;
 pub fn common_multiple(leads: &Leads, i: usize, j: usize) -> Result<Exps, DegreePassed>
     requires first { i < length leads.now }
     requires second { j < length leads.now }
-    ensures { OkIff result (degree (pair_term leads.now i j).monomial ≤ 32767) (pair_term leads.now i j).monomial }
+    ensures { OkIff result (degree (lcm_of_leads leads.now i j).monomial ≤ 32767) (lcm_of_leads leads.now i j).monomial }
 {
     let first = leads.get(i);
     let second = leads.get(j);
@@ -53,13 +52,13 @@ pub fn s_row<R: OreRing>(
 ) -> Result<Row, RingStop>
     requires first { i < length leads.now }
     requires second { j < length leads.now }
-    requires common { multiple.now ≡ (pair_term leads.now i j).monomial }
+    requires common { multiple.now ≡ (lcm_of_leads leads.now i j).monomial }
     requires multiple_of { MonomialOf (R.sig ring.now) multiple.now }
     requires width { length row.now ≡ length other.now }
-    requires row_of { All (Belongs (R.sig ring.now)) row.now }
-    requires other_of { All (Belongs (R.sig ring.now)) other.now }
+    requires row_of { AllBelong (R.sig ring.now) row.now }
+    requires other_of { AllBelong (R.sig ring.now) other.now }
     ensures gives { (m : List (Plain rationals)) → row_at m i ≡ sums_of row.now → row_at m j ≡ sums_of other.now → Gives sums_of result (s_row_within rationals (within program (R.sig ring.now)) leads.now m i j) }
-    ensures of { IfOk result (All (Belongs (R.sig ring.now))) }
+    ensures of { IfOk result (AllBelong (R.sig ring.now)) }
     ensures width { IfOk result (λ r. length r ≡ length row.now) }
 {
     let first = multiplier(ring, alloc, leads, i, multiple)?;
@@ -100,11 +99,11 @@ fn multiples_less<R: OreRing>(
 ) -> Result<Row, RingStop>
     requires width { length row.now ≡ length other.now }
     requires first_of { Belongs (R.sig ring.now) first.now }
-    requires row_of { All (Belongs (R.sig ring.now)) row.now }
+    requires row_of { AllBelong (R.sig ring.now) row.now }
     requires second_of { Belongs (R.sig ring.now) second.now }
-    requires other_of { All (Belongs (R.sig ring.now)) other.now }
+    requires other_of { AllBelong (R.sig ring.now) other.now }
     ensures gives { Gives sums_of result (multiples_less rationals (within program (R.sig ring.now)) first.now.sum (sums_of row.now) second.now.sum (sums_of other.now)) }
-    ensures of { IfOk result (All (Belongs (R.sig ring.now))) }
+    ensures of { IfOk result (AllBelong (R.sig ring.now)) }
     ensures width { IfOk result (λ r. length r ≡ length row.now) }
 {
     let multiple = scale(ring, alloc, first, row)?;

@@ -1,15 +1,14 @@
 //! Pairs of rows of a basis: the common multiple, the S-row, and whether it may be left out.
 
 ghost use Rattle.std.specs.Prelude.{◌≡◌, ◌<◌, ◌≤◌, length, OkIff, IfOk};
-ghost use Rattle.std.specs.List.{All};
 ghost use Rattle.ore_algebra.specs.Limits.{program};
-ghost use Rattle.ore_rational.proofs.FractionLaws.{rationals};
+ghost use Rattle.ore_rational.specs.Field.{rationals};
 ghost use Rattle.ore_monomial.specs.Gives.{Gives};
 ghost use Rattle.ore_monomial.specs.Monomial.{degree, lcm};
-ghost use Rattle.ore_ring.specs.Belongs.{Belongs};
+ghost use Rattle.ore_ring.specs.Belongs.{AllBelong};
 ghost use Rattle.ore_rows.specs.Arithmetic.{within};
 ghost use Rattle.ore_rows.specs.Reduction.{basis_lead, leads_of};
-ghost use Rattle.ore_rows.specs.StoredBasis.{AllBelong, monics};
+ghost use Rattle.ore_rows.specs.StoredBasis.{BasisBelongs, monics};
 ghost use Rattle.ore_pairs.specs.Listed.{work_of_rows};
 ghost use Rattle.ore_pairs.specs.PairRule.{may_skip};
 ghost use Rattle.ore_pairs.specs.Run.{s_rows};
@@ -51,10 +50,10 @@ pub fn s_row<R: OreRing>(
     requires first { i < length basis.now.items }
     requires second { j < length basis.now.items }
     requires columns { (basis_lead basis.now.items i).column ≡ (basis_lead basis.now.items j).column }
-    requires basis_of { AllBelong (R.sig ring.now) basis.now.items }
+    requires basis_of { BasisBelongs (R.sig ring.now) basis.now.items }
     ensures gives { Gives work_of_rows result (s_rows rationals (within program (R.sig ring.now)) (monics basis.now) i j) }
-    ensures row_of { IfOk result (λ p. All (Belongs (R.sig ring.now)) p.0) }
-    ensures cofactor_of { IfOk result (λ p. All (Belongs (R.sig ring.now)) p.1) }
+    ensures row_of { IfOk result (λ p. AllBelong (R.sig ring.now) p.0) }
+    ensures cofactor_of { IfOk result (λ p. AllBelong (R.sig ring.now) p.1) }
     ensures row_width { IfOk result (λ p. length p.0 ≡ basis.now.cols) }
     ensures cofactor_width { IfOk result (λ p. length p.1 ≡ basis.now.width) }
 {

@@ -4,7 +4,7 @@ ghost use Rattle.std.specs.Prelude.{◌≡◌, ◌<◌, ◌↔◌, length, IsTru
 ghost use Rattle.ore_monomial.specs.Monomial.{Divides, lcm};
 ghost use Rattle.ore_leads.specs.FirstDivisor.{divides_term};
 ghost use Rattle.ore_pairs.specs.PairRule.{either_listed, may_skip, may_treat};
-ghost use Rattle.ore_pairs.specs.Steps.{lead_at, pair_term};
+ghost use Rattle.ore_pairs.specs.Steps.{lead_at, lcm_of_leads};
 
 use crate::listed::Listed;
 use ore_leads::Leads;
@@ -53,7 +53,7 @@ fn divides_common(leads: &Leads, i: usize, j: usize, via: usize) -> bool
     requires first { i < length leads.now }
     requires second { j < length leads.now }
     requires third { via < length leads.now }
-    ensures { result ≡ divides_term (lead_at leads.now via) (pair_term leads.now i j) }
+    ensures { result ≡ divides_term (lead_at leads.now via) (lcm_of_leads leads.now i j) }
 {
     let first = leads.get(i);
     let second = leads.get(j);

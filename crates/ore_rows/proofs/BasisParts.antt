@@ -11,28 +11,28 @@ use Rattle.std.proofs.lemmas.List.Elements.{All-map}
 use Rattle.std.proofs.lemmas.Option.{slice_get_within, get_or_from_slice_get}
 use Rattle.ore_algebra.specs.Free.{empty_sum, coefficient}
 use Rattle.ore_rational.specs.Fraction.{Fraction}
-use Rattle.ore_rational.proofs.FractionLaws.{rationals}
+use Rattle.ore_rational.specs.Field.{rationals}
 use Rattle.ore_monomial.specs.Monomial.{plain_cmp}
 use Rattle.ore_monomial.specs.Signature.{Signature, MonomialOf}
 use Rattle.ore_monomial.specs.Term.{Term}
 use Rattle.ore_ring.specs.Belongs.{Belongs}
 use Rattle.ore_ring.specs.Ordered.{Ordered}
-use Rattle.ore_rows.specs.Reduction.{Monic, basis_rows, cofactors_of, leads_of, row_at}
+use Rattle.ore_rows.specs.Reduction.{BasisRow, basis_rows, cofactors_of, leads_of, row_at}
 use Rattle.ore_rows.specs.RowLead.{IsRowLead}
 use Rattle.ore_rows.specs.Stored.{sums_of}
-use Rattle.ore_rows.specs.StoredBasis.{StoredBasis, AllBelong, monic_of, monics}
+use Rattle.ore_rows.specs.StoredBasis.{StoredBasis, BasisBelongs, monic_of, monics}
 use Rattle.ore_rows.proofs.Dots.{all_at}
 use Rattle.ore_rows.proofs.LeadAppend.{within_row}
 
-pub leads_monics : (items : List (Monic (List Ordered))) → leads_of (map monic_of items) ≡ leads_of items
+pub leads_monics : (items : List (BasisRow (List Ordered))) → leads_of (map monic_of items) ≡ leads_of items
 leads_monics [] = refl
 leads_monics (b ∷ items) = λ i. b.lead ∷ leads_monics items i
 
-pub rows_monics : (items : List (Monic (List Ordered))) → basis_rows (map monic_of items) ≡ map sums_of (basis_rows items)
+pub rows_monics : (items : List (BasisRow (List Ordered))) → basis_rows (map monic_of items) ≡ map sums_of (basis_rows items)
 rows_monics [] = refl
 rows_monics (b ∷ items) = λ i. sums_of b.row ∷ rows_monics items i
 
-pub cofactors_monics : (items : List (Monic (List Ordered))) → cofactors_of (map monic_of items) ≡ map sums_of (cofactors_of items)
+pub cofactors_monics : (items : List (BasisRow (List Ordered))) → cofactors_of (map monic_of items) ≡ map sums_of (cofactors_of items)
 cofactors_monics [] = refl
 cofactors_monics (b ∷ items) = λ i. sums_of b.cofactor ∷ cofactors_monics items i
 
@@ -45,11 +45,11 @@ row_value b k r e = ap (λ rs. get_or rs k []) (rows_monics b.items) ∙ value_a
 pub cofactor_value : (b : StoredBasis) (k : ℕ) (r : List Ordered) → slice_get (cofactors_of b.items) k ≡ Some r → row_at (cofactors_of (monics b)) k ≡ sums_of r
 cofactor_value b k r e = ap (λ rs. get_or rs k []) (cofactors_monics b.items) ∙ value_at (cofactors_of b.items) k r e
 
-pub row_belongs : (s : Signature) (b : StoredBasis) (k : ℕ) (r : List Ordered) → AllBelong s b.items → slice_get (basis_rows b.items) k ≡ Some r → All (Belongs s) r
-row_belongs s b k r h e = all_at (All (Belongs s)) (basis_rows b.items) k r e (All-map (All (Belongs s)) (λ (m : Monic (List Ordered)). m.row) b.items (λ j d l. (h j d l).0))
+pub row_belongs : (s : Signature) (b : StoredBasis) (k : ℕ) (r : List Ordered) → BasisBelongs s b.items → slice_get (basis_rows b.items) k ≡ Some r → All (Belongs s) r
+row_belongs s b k r h e = all_at (All (Belongs s)) (basis_rows b.items) k r e (All-map (All (Belongs s)) (λ (m : BasisRow (List Ordered)). m.row) b.items (λ j d l. (h j d l).0))
 
-pub cofactor_belongs : (s : Signature) (b : StoredBasis) (k : ℕ) (r : List Ordered) → AllBelong s b.items → slice_get (cofactors_of b.items) k ≡ Some r → All (Belongs s) r
-cofactor_belongs s b k r h e = all_at (All (Belongs s)) (cofactors_of b.items) k r e (All-map (All (Belongs s)) (λ (m : Monic (List Ordered)). m.cofactor) b.items (λ j d l. (h j d l).1))
+pub cofactor_belongs : (s : Signature) (b : StoredBasis) (k : ℕ) (r : List Ordered) → BasisBelongs s b.items → slice_get (cofactors_of b.items) k ≡ Some r → All (Belongs s) r
+cofactor_belongs s b k r h e = all_at (All (Belongs s)) (cofactors_of b.items) k r e (All-map (All (Belongs s)) (λ (m : BasisRow (List Ordered)). m.cofactor) b.items (λ j d l. (h j d l).1))
 
 pub lead_of_signature : (s : Signature) (r : List Ordered) (t : Term) (k : Fraction) → All (Belongs s) r → IsRowLead rationals s.order (sums_of r) t k → MonomialOf s t.monomial
 lead_of_signature s r t k h a = (h t.column blank inside).variables t.monomial (λ e. a.apart (sym a.stands ∙ ap (λ f. coefficient rationals plain_cmp f t.monomial) (get_or-map (λ (w : Ordered). w.sum) r t.column blank (empty_sum rationals plain_cmp) inside) ∙ e))

@@ -7,16 +7,15 @@
 --     row_lead_from             it finds the lead
 --     row_lead-zero             it finds none in a row of zeros
 --     zero_from                 where it finds none the row is zeros
-use Rattle.std.proofs.Common.{◌≡◌, ◌≢◌, ◌⊎◌, inl, inr, ⊎_elim, ℕ, zero, suc, ◌+◌, Bool, true, false, cond, T, List, [], ◌∷◌, ◌++◌, length, map, get_or, refl, sym, ap, ◌∙◌, subst, true≢false, arith}
+use Rattle.std.proofs.Common.{◌≡◌, ◌≢◌, ◌⊎◌, inl, inr, ⊎_elim, ℕ, zero, suc, ◌+◌, Bool, true, false, cond, T, List, [], ◌∷◌, ◌++◌, length, map, get_or, refl, sym, ap, ◌∙◌, subst, arith}
 use Rattle.std.specs.declared.option.Option.{Option}
 use Rattle.std.specs.declared.option.Option.TheVariants.{None, Some}
-use Rattle.std.specs.declared.cmp.Ordering.{Ordering}
-use Rattle.std.specs.declared.cmp.Ordering.TheVariants.{Less, Equal, Greater}
-use Rattle.std.specs.Ordering.{ordering_reverse, is_gt, is_eq, eq_by_cmp}
+use Rattle.std.specs.Ordering.{is_gt, is_eq, eq_by_cmp}
 use Rattle.std.specs.Cmp.{upto, tied_itself}
 use Rattle.ore_algebra.specs.Domain.{Domain}
 use Rattle.ore_algebra.specs.Free.{empty_sum, coefficient, terms}
 use Rattle.ore_algebra.proofs.FreeLaws.{named, same_key, apart_of_named}
+use Rattle.ore_algebra.proofs.Orderings.{reversed_greater}
 use Rattle.ore_monomial.specs.Monomial.{Monomial, plain_cmp}
 use Rattle.ore_monomial.specs.Term.{Term, term_cmp}
 use Rattle.ore_monomial.specs.declared.order.Order.{Order}
@@ -53,11 +52,6 @@ abbrev IsGreatest : Order → List Term → Option Term → Type 0
 IsGreatest o ts None = (u : Term) → Among u ts → ⊥
 IsGreatest o ts (Some t) = Among t ts × ((u : Term) → Among u ts → is_gt (term_cmp o u t) ≡ false)
 
-turned : (r : Ordering) → is_gt r ≡ true → is_gt (ordering_reverse r) ≡ false
-turned Less e = absurd (true≢false (sym e))
-turned Equal e = absurd (true≢false (sym e))
-turned Greater e = refl
-
 greatest_is : (o : Order) (ts : List Term) → IsGreatest o ts (greatest o ts)
 unfolding greatest
 greatest_is o [] = λ u h. h
@@ -71,7 +65,7 @@ greatest_is o (t ∷ ts) = by (greatest o ts) (greatest_is o ts)
     by (Some u) (i, up) = pick (is_gt (term_cmp o t u)) refl
       where
         pick : (b : Bool) → is_gt (term_cmp o t u) ≡ b → Among (cond b t u) (t ∷ ts) × ((x : Term) → Among x (t ∷ ts) → is_gt (term_cmp o x (cond b t u)) ≡ false)
-        pick true e = (inl refl, λ x k. ⊎_elim (λ s. ap (λ y. is_gt (term_cmp o y t)) s ∙ itself) (λ a. upto (term_total o) x u t (up x a) (ap is_gt ((term_total o).antisymm u t) ∙ turned _ e)) k)
+        pick true e = (inl refl, λ x k. ⊎_elim (λ s. ap (λ y. is_gt (term_cmp o y t)) s ∙ itself) (λ a. upto (term_total o) x u t (up x a) (ap is_gt ((term_total o).antisymm u t) ∙ reversed_greater _ e)) k)
         pick false e = (inr i, λ x k. ⊎_elim (λ s. ap (λ y. is_gt (term_cmp o y u)) s ∙ e) (λ a. up x a) k)
 
 -- ---- the terms of a row

@@ -1,22 +1,21 @@
 -- A row less a multiple of another, with each difference formed right after its product.
 --     products_first    where nothing but Overflow stops, all products first or each before its difference is the same
 --     less_in_turn      so for a row less a multiple of another, where the degrees fit
---     there             an item that is there, whatever the default
 --     turns             an operation on the items of two lists from one place on, behind the items before it
 --     turn_kept, turn_made, turn_stops     the item at the place stays, is replaced, or the operation stops there
-use Rattle.std.proofs.Common.{◌≡◌, ℕ, zero, suc, ◌+◌, ◌<◌, List, [], ◌∷◌, ◌++◌, length, map, pred, take, drop, set, get_or, refl, sym, ap, ◌∙◌, subst, arith}
+use Rattle.std.proofs.Common.{◌≡◌, ℕ, ◌+◌, ◌<◌, List, [], ◌∷◌, ◌++◌, length, map, pred, take, drop, set, get_or, refl, sym, ap, ◌∙◌, subst, arith}
 use Rattle.std.proofs.lemmas.List.{length-map, length-set, take_more, take_more_set, take-set, drop-set-lt}
 use Rattle.std.proofs.lemmas.List.Elements.{All-nil, All-cons, All-head, All-tail}
 use Rattle.std.specs.List.{All, zip}
 use Rattle.std.specs.declared.result.Result.{Result}
 use Rattle.std.specs.declared.result.Result.TheVariants.{Ok, Err}
 use Rattle.ore_algebra.specs.Limits.{Cause, Overflow, program, ◌>>=◌, map_within, fronted}
-use Rattle.ore_rational.proofs.FractionLaws.{rationals}
+use Rattle.ore_algebra.proofs.ListLaws.{drop_item}
+use Rattle.ore_rational.specs.Field.{rationals}
 use Rattle.ore_monomial.specs.Signature.{Signature}
 use Rattle.ore_monomial.specs.LetterRule.{Operator}
 use Rattle.ore_ring.specs.Ordered.{Ordered}
 use Rattle.ore_ring.specs.Within.{minus_within, times_within, opposite}
-use Rattle.ore_ring.proofs.MergeSteps.{next}
 use Rattle.ore_ring.proofs.Contributed.{Overflows, bind_overflows, plus_overflows, times_overflows}
 use Rattle.ore_rows.specs.Arithmetic.{within}
 use Rattle.ore_rows.specs.Reduction.{less_multiple}
@@ -71,18 +70,13 @@ module _ (s : Signature) (d : Operator rationals) where
       products_first (times_within program s d) (minus_within program) (λ f g. plus_overflows program f (opposite g)) (map (λ f. f.sum) r) (map (λ f. f.sum) q)
       (length-map r (λ f. f.sum) ∙ e ∙ sym (length-map q (λ f. f.sum))) (all_overflow q h)
 
-pub there : {X : Type 0} (xs : List X) (k : ℕ) (d e : X) → k < length xs → get_or xs k d ≡ get_or xs k e
-there [] k d e h = absurd (omega arith)
-there (x ∷ xs) zero d e h = refl
-there (x ∷ xs) (suc k) d e h = there xs k d e (omega arith)
-
 module _ {X V : Type 0} (value : X → V) (op : V → V → Result V Cause) where
   abbrev pub turns : ℕ → List X → List X → Result (List V) Cause
   turns k xs ys = fronted (map value (take k xs)) (both value op (map value (drop k xs)) (map value (drop k ys)))
 
   module _ (xs ys : List X) (k : ℕ) (x y : X) (xl : k < length xs) (xe : x ≡ get_or xs k x) (yl : k < length ys) (ye : y ≡ get_or ys k y) where
     turn : (z : X) → op (value x) (value y) ≡ Ok (value z) → turns k xs ys ≡ fronted (map value (take k xs ++ z ∷ [])) (both value op (map value (drop (k + 1) xs)) (map value (drop (k + 1) ys)))
-    turn z e = both_next value op (take k xs) (drop k xs) (drop k ys) (drop (k + 1) xs) (drop (k + 1) ys) x y z (next xs k x xl xe) (next ys k y yl ye) e
+    turn z e = both_next value op (take k xs) (drop k xs) (drop k ys) (drop (k + 1) xs) (drop (k + 1) ys) x y z (drop_item xs k x xl xe) (drop_item ys k y yl ye) e
 
     pub turn_kept : op (value x) (value y) ≡ Ok (value x) → turns k xs ys ≡ turns (k + 1) xs ys
     turn_kept e =
@@ -105,5 +99,5 @@ module _ {X V : Type 0} (value : X → V) (op : V → V → Result V Cause) wher
 
     pub turn_stops : (c : Cause) → op (value x) (value y) ≡ Err c → turns k xs ys ≡ Err c
     turn_stops c e =
-        (λ i. fronted (map value (take k xs)) (both value op (map value (next xs k x xl xe i)) (map value (next ys k y yl ye i))))
+        (λ i. fronted (map value (take k xs)) (both value op (map value (drop_item xs k x xl xe i)) (map value (drop_item ys k y yl ye i))))
         ∙ ap (λ r. fronted (map value (take k xs)) (r >>= λ v. both value op (map value (drop (k + 1) xs)) (map value (drop (k + 1) ys)) >>= λ vs. Ok (v ∷ vs))) e

@@ -7,17 +7,18 @@
 --     lead-append_zero          the lead stays where a zero is appended
 --     lead-append_first         it is that of the appended entry where all before are zero
 --     lead-append_less, lead-append_greater     and else the greater of both
-use Rattle.std.proofs.Common.{◌≡◌, ◌≢◌, ℕ, ◌<◌, true, false, [], ◌∷◌, ◌++◌, length, refl, sym, ap, ◌∙◌, true≢false, arith}
+use Rattle.std.proofs.Common.{◌≡◌, ◌≢◌, ℕ, ◌<◌, true, false, [], ◌∷◌, ◌++◌, length, refl, sym, ap, ◌∙◌, arith}
 use native.Mathlib.Decide.{dec_lt}
 use Rattle.std.specs.declared.cmp.Ordering.{Ordering}
 use Rattle.std.specs.declared.cmp.Ordering.TheVariants.{Less, Equal, Greater}
-use Rattle.std.specs.Ordering.{is_gt, nat_cmp, ordering_then, ordering_reverse}
+use Rattle.std.specs.Ordering.{is_gt, nat_cmp, ordering_then}
 use Rattle.std.specs.Cmp.{upto}
 use Rattle.std.specs.List.{All}
 use Rattle.std.proofs.lemmas.Bool.Decides.{nat_tests}
 use Rattle.std.proofs.lemmas.List.{get_or_append_left, get_or_push, get_or_past, length_push}
 use Rattle.ore_algebra.specs.Domain.{Domain}
 use Rattle.ore_algebra.specs.Free.{empty_sum, coefficient}
+use Rattle.ore_algebra.proofs.Orderings.{reversed_greater}
 use Rattle.ore_monomial.specs.Monomial.{Monomial, order_cmp, plain_cmp}
 use Rattle.ore_monomial.specs.Term.{Term, term_cmp}
 use Rattle.ore_monomial.specs.declared.order.Order.{Order}
@@ -116,9 +117,4 @@ module _ (K : Domain) (o : Order) (r : Row K) (f : Operator K) where
     }
       where
         not_above : is_gt (term_cmp o (at_column (length r) m) t) ≡ true → is_gt (term_cmp o t (at_column (length r) m)) ≡ false
-        not_above e = ap is_gt ((term_total o).antisymm t (at_column (length r) m)) ∙ turned _ e
-          where
-            turned : (c : Ordering) → is_gt c ≡ true → is_gt (ordering_reverse c) ≡ false
-            turned Less e = absurd (true≢false (sym e))
-            turned Equal e = absurd (true≢false (sym e))
-            turned Greater e = refl
+        not_above e = ap is_gt ((term_total o).antisymm t (at_column (length r) m)) ∙ reversed_greater _ e

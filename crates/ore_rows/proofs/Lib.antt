@@ -17,3 +17,4 @@ pub mod BasisParts
 pub mod ZeroOperands
 pub mod Moving
 pub mod InTurn
+pub mod NonzeroPlaces

@@ -1,9 +1,8 @@
 -- One turn of a loop that goes through two lists side by side and may stop. The items have values, and an operation
 -- on values may stop.
 --     both           the operation on the values at each place, in order
---     both_next      the first items of both are done, and the rest is to come
+--     both_next, both_pushed    the first items of both are done, and the rest is to come
 --     both_end       one of the lists has no item left
---     folded, folded_next, folded_stops, folded_end     a fold over the pairs, and its turns
 --     width_within, both_width     what is made of each item has as many items
 --     all_rest       what holds of all of a list holds of all but its first item
 --     shorter        a list without its first item has a length that is less by 1
@@ -13,7 +12,7 @@ use Rattle.std.proofs.lemmas.List.Elements.{All-tail}
 use Rattle.std.specs.List.{All, zip}
 use Rattle.std.specs.declared.result.Result.{Result}
 use Rattle.std.specs.declared.result.Result.TheVariants.{Ok, Err}
-use Rattle.ore_algebra.specs.Limits.{Cause, fold_within, map_within}
+use Rattle.ore_algebra.specs.Limits.{Cause, map_within}
 use Rattle.ore_algebra.specs.Results.{◌>>=◌, fronted}
 use Rattle.ore_algebra.proofs.ResultLaws.{front_more}
 
@@ -52,6 +51,11 @@ module _ {X V : Type 0} (value : X → V) (op : V → V → Result V Cause) wher
       ∙ step (map value out) (map value us) (map value vs) (value x) (value y) (value z) k
       ∙ ap (λ o. fronted o (both (map value us) (map value vs))) (sym (map-append value out (z ∷ [])))
 
+  -- the same where the new item was appended
+  pub both_pushed : (out new xs ys us vs : List X) (x y z : X) → new ≡ out ++ z ∷ [] → xs ≡ x ∷ us → ys ≡ y ∷ vs → op (value x) (value y) ≡ Ok (value z)
+      → fronted (map value new) (both (map value us) (map value vs)) ≡ fronted (map value out) (both (map value xs) (map value ys))
+  both_pushed out new xs ys us vs x y z p e f k = ap (λ o. fronted (map value o) (both (map value us) (map value vs))) p ∙ sym (both_next out xs ys us vs x y z e f k)
+
   nothing_left : (out xs : List X) → fronted (map value out) (both (map value xs) []) ≡ Ok (map value out)
   nothing_left out [] = ap Ok (append-nil (map value out))
   nothing_left out (x ∷ xs) = ap Ok (append-nil (map value out))
@@ -66,28 +70,3 @@ module _ {X V : Type 0} (value : X → V) (op : V → V → Result V Cause) wher
       ∙ width_within (λ p. op p.0 p.1) (zip (map value xs) (map value ys)) (map value out) e
       ∙ length-zip_same (map value xs) (map value ys) (length-map xs value ∙ h ∙ sym (length-map ys value))
       ∙ length-map xs value
-
--- a fold over pairs: of the item x of the one and the item y of the other
-module _ {X Y V U W S : Type 0} (u : X → V) (h : Y → U) (g : U → W) (step : S → V × W → Result S Cause) where
-  abbrev pub folded : S → List X → List Y → Result S Cause
-  folded s xs ys = fold_within step s (zip (map u xs) (map g (map h ys)))
-
-  pub folded_next : (s t : S) (xs us : List X) (ys vs : List Y) (x : X) (y : Y) → xs ≡ x ∷ us → ys ≡ y ∷ vs → step s (u x, g (h y)) ≡ Ok t → folded s xs ys ≡ folded t us vs
-  folded_next s t xs us ys vs x y e f k =
-      ap (λ l. folded s l ys) e
-      ∙ ap (λ l. folded s (x ∷ us) l) f
-      ∙ ap (λ r. r >>= λ t. folded t us vs) k
-
-  pub folded_stops : (s : S) (c : Cause) (xs us : List X) (ys vs : List Y) (x : X) (y : Y) → xs ≡ x ∷ us → ys ≡ y ∷ vs → step s (u x, g (h y)) ≡ Err c → folded s xs ys ≡ Err c
-  folded_stops s c xs us ys vs x y e f k =
-      ap (λ l. folded s l ys) e
-      ∙ ap (λ l. folded s (x ∷ us) l) f
-      ∙ ap (λ r. r >>= λ t. folded t us vs) k
-
-  nothing_over : (s : S) (xs : List X) → folded s xs [] ≡ Ok s
-  nothing_over s [] = refl
-  nothing_over s (x ∷ xs) = refl
-
-  pub folded_end : (s : S) (xs : List X) (ys : List Y) → (xs ≡ []) ⊎ (ys ≡ []) → folded s xs ys ≡ Ok s
-  folded_end s xs ys (inl e) = ap (λ l. folded s l ys) e
-  folded_end s xs ys (inr e) = ap (λ l. folded s xs l) e ∙ nothing_over s xs

@@ -19,8 +19,10 @@
 --     entry-combine                     an entry of a combination is the coefficients times a column
 --     long_columns                      a row of adjoints has as many entries as the matrix has rows
 --     adjoint-product, adjoint_twice    the transposed adjoint of a product, and of a transposed adjoint
---     row_swap, zero_row_twice, zero_row_plus    sums of four rows in another order; sums with zeros
+--     row_swap, row_comm                sums of rows in another order
+--     zero_row_twice, zero_row_plus, plus-zero_row    sums with zeros
 --     scale_sum, zero_scale_row         multiples of a row by a sum, and by zero
+--     dot-zero_column                   a row times a column of zeros
 --     combine-plus, combine-zero        combinations with the sums of coefficients, and with zeros
 --     combine-combine, matrix_assoc     combinations of combinations; products of matrices are associative
 --     module_plus, module_scale         row modules are closed under sums and multiples by operators of the signature
@@ -303,7 +305,23 @@ module _ (K : Domain) where
   zero_row_plus (suc n) [] e = absurd (omega arith)
   zero_row_plus (suc n) (a ∷ r) e = λ i. Operators.zero-plus K a i ∷ zero_row_plus n r (ap pred e) i
 
+  pub row_comm : (a b : Row K) → row_plus K a b ≡ row_plus K b a
+  unfolding row_plus
+  row_comm [] [] = refl
+  row_comm [] (y ∷ b) = refl
+  row_comm (x ∷ a) [] = refl
+  row_comm (x ∷ a) (y ∷ b) = λ i. Operators.plus_comm K x y i ∷ row_comm a b i
+
+  pub plus-zero_row : (n : ℕ) (r : Row K) → length r ≡ n → row_plus K r (zero_row K n) ≡ r
+  plus-zero_row n r e = row_comm r (zero_row K n) ∙ zero_row_plus n r e
+
 module _ (K : Domain) (s : Signature) where
+  pub dot-zero_column : (r : Row K) (n : ℕ) → dot K s r (zero_row K n) ≡ empty_sum K plain_cmp
+  unfolding dot zero_row
+  dot-zero_column [] n = refl
+  dot-zero_column (f ∷ r) zero = refl
+  dot-zero_column (f ∷ r) (suc n) = (λ i. plus K plain_cmp (Operators.linear-empty_sum K (times-linear_right K s f) i) (dot-zero_column r n i)) ∙ Operators.plus_zero K _
+
   pub scale_sum : (c d : Operator K) (r : Row K) → row_scale K s (plus K plain_cmp c d) r ≡ row_plus K (row_scale K s c r) (row_scale K s d r)
   unfolding row_scale row_plus
   scale_sum c d [] = refl

@@ -11,7 +11,7 @@ use Rattle.ore_algebra.specs.Domain.{Domain}
 use Rattle.ore_algebra.specs.Free.{plus, scale}
 use Rattle.ore_algebra.specs.Limits.{Limits, unlimited, ◌>>=◌, IsAtMost}
 use Rattle.ore_algebra.proofs.LimitLaws.{most_map, most_value}
-use Rattle.ore_rational.proofs.FractionLaws.{rationals}
+use Rattle.ore_rational.specs.Field.{rationals}
 use Rattle.ore_monomial.specs.Monomial.{plain_cmp}
 use Rattle.ore_monomial.specs.Signature.{Signature}
 use Rattle.ore_monomial.specs.LetterRule.{Operator}
@@ -19,11 +19,11 @@ use Rattle.ore_ring.specs.Product.{times}
 use Rattle.ore_ring.specs.Within.{plus_within, times_within, opposite}
 use Rattle.ore_ring.proofs.WithinLaws as Ring
 use Rattle.ore_rows.specs.Rows.{Row, row_plus, row_minus, row_scale}
-use Rattle.ore_rows.specs.Arithmetic.{Arithmetic, exact, within, IsSound, scaled, less}
+use Rattle.ore_rows.specs.Arithmetic.{Arithmetic, exact, within, IsSoundArithmetic, scaled, less}
 use Rattle.ore_rows.proofs.WithinValues.{map_unlimited}
 
 module _ (K : Domain) (s : Signature) where
-  pub exact_sound : IsSound K s (exact K s)
+  pub exact_sound : IsSoundArithmetic K s (exact K s)
   exact_sound = record { product = λ f g. refl; difference = λ f g. refl }
 
   pub scaled_exact : (d : Operator K) (r : Row K) → scaled K (exact K s) d r ≡ Ok (row_scale K s d r)
@@ -36,7 +36,7 @@ module _ (K : Domain) (s : Signature) where
   less_exact (a ∷ r) [] = refl
   less_exact (a ∷ r) (b ∷ q) = λ i. less_exact r q i >>= λ ys. Ok (plus K plain_cmp a (scale K plain_cmp (K.minus K.one) b) ∷ ys)
 
-  module _ (A : Arithmetic K) (sound : IsSound K s A) where
+  module _ (A : Arithmetic K) (sound : IsSoundArithmetic K s A) where
     pub scaled_most : (d : Operator K) (r : Row K) → IsAtMost (scaled K A d r) (scaled K (exact K s) d r)
     scaled_most d r = most_map _ _ (sound.product d) r
 
@@ -49,7 +49,7 @@ module _ (K : Domain) (s : Signature) where
     pub less_value : (r q x : Row K) → less K A r q ≡ Ok x → x ≡ row_minus K r q
     less_value r q x = most_value _ x (row_minus K r q) (subst (IsAtMost (less K A r q)) (less_exact r q) (less_most r q))
 
-pub within_sound : (l : Limits) (s : Signature) → IsSound rationals s (within l s)
+pub within_sound : (l : Limits) (s : Signature) → IsSoundArithmetic rationals s (within l s)
 unfolding opposite
 within_sound l s = record {
   product = λ f g. subst (IsAtMost (times_within l s f g)) (Ring.times_unlimited s f g) (Ring.times_at_most l s f g);

@@ -96,16 +96,9 @@ module _ (K : Domain) (s : Signature) (lawful : IsLawful s) where
   one_scale [] = refl
   one_scale (f ∷ r) = λ i. one-times K s lawful f i ∷ one_scale r i
 
-  plus_zero_row : (n : ℕ) (r : Row K) → length r ≡ n → row_plus K r (zero_row K n) ≡ r
-  unfolding row_plus zero_row
-  plus_zero_row zero [] e = refl
-  plus_zero_row zero (f ∷ r) e = absurd (omega arith)
-  plus_zero_row (suc n) [] e = absurd (omega arith)
-  plus_zero_row (suc n) (f ∷ r) e = λ i. Operators.plus_zero K f i ∷ plus_zero_row n r (let p : length r ≡ n = omega arith in p) i
-
   first_of : (n : ℕ) (r : Row K) (rows : List (Row K)) → AreLong K n (r ∷ rows) → combine K s n (one_operator K ∷ zero_row K (length rows)) (r ∷ rows) ≡ r
   unfolding combine
-  first_of n r rows long = (λ i. row_plus K (one_scale r i) (Rows.combine-zero K s (length rows) n rows long.1 i)) ∙ plus_zero_row n r long.0
+  first_of n r rows long = (λ i. row_plus K (one_scale r i) (Rows.combine-zero K s (length rows) n rows long.1 i)) ∙ Rows.plus-zero_row K n r long.0
 
   later_of : (n : ℕ) (c : Row K) (r : Row K) (rows : List (Row K)) → AreLong K n (r ∷ rows) → combine K s n (empty_sum K plain_cmp ∷ c) (r ∷ rows) ≡ combine K s n c rows
   unfolding combine
@@ -127,16 +120,9 @@ module _ (K : Domain) (s : Signature) (lawful : IsLawful s) where
       ∙ ap (λ c. combine K s n c rows) (row-identity_rows K (length rows) i il)
       ∙ combine-unit_row n i rows il long)
 
-  dot-zero_row : (c : Row K) (n : ℕ) → dot K s c (zero_row K n) ≡ empty_sum K plain_cmp
-  unfolding dot zero_row
-  dot-zero_row [] zero = refl
-  dot-zero_row [] (suc n) = refl
-  dot-zero_row (f ∷ c) zero = refl
-  dot-zero_row (f ∷ c) (suc n) = (λ i. plus K plain_cmp (Operators.linear-empty_sum K (times-linear_right K s f) i) (dot-zero_row c n i)) ∙ Operators.plus_zero K (empty_sum K plain_cmp)
-
   dot_first : (f : Operator K) (c : Row K) (n : ℕ) → dot K s (f ∷ c) (one_operator K ∷ zero_row K n) ≡ f
   unfolding dot
-  dot_first f c n = (λ i. plus K plain_cmp (times-one K s lawful f i) (dot-zero_row c n i)) ∙ Operators.plus_zero K f
+  dot_first f c n = (λ i. plus K plain_cmp (times-one K s lawful f i) (Rows.dot-zero_column K s c n i)) ∙ Operators.plus_zero K f
 
   dot_later : (f : Operator K) (c q : Row K) → dot K s (f ∷ c) (empty_sum K plain_cmp ∷ q) ≡ dot K s c q
   unfolding dot

@@ -14,7 +14,7 @@ use Rattle.std.proofs.lemmas.List.{ext_get_or}
 use Rattle.ore_algebra.specs.Free.{empty_sum, plus}
 use Rattle.ore_algebra.specs.Limits.{Limits, Cause, unlimited, ◌>>=◌, fold_within, map_within, IsAtMost}
 use Rattle.ore_algebra.proofs.LimitLaws.{most_bind, most_fold, most_map, value_from}
-use Rattle.ore_rational.proofs.FractionLaws.{rationals}
+use Rattle.ore_rational.specs.Field.{rationals}
 use Rattle.ore_monomial.specs.Monomial.{plain_cmp}
 use Rattle.ore_monomial.specs.Signature.{Signature}
 use Rattle.ore_monomial.specs.LetterRule.{Operator}

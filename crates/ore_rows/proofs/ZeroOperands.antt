@@ -2,6 +2,7 @@
 --     plus_zero, zero_plus         a sum with zero is the other operand
 --     minus_zero                   a difference from which zero is taken is the same
 --     times_zero, zero_times       a product with zero is zero
+--     added_none                   where a product with zero is added, the same is left
 --     taken_none                   where a product with zero is taken away, the same is left
 --     adjoint_none                 the adjoint of zero is zero
 --     copied                       a copy gives what a definition gives that gives the operand
@@ -11,7 +12,7 @@ use Rattle.std.specs.declared.result.Result.{Result}
 use Rattle.std.specs.declared.result.Result.TheVariants.{Ok, Err}
 use Rattle.ore_algebra.specs.Free.{coefficient, empty_sum, plus, terms}
 use Rattle.ore_algebra.specs.Limits.{Limits, Cause, Overflow, Degree, ◌>>=◌, guard, fold_within}
-use Rattle.ore_rational.proofs.FractionLaws.{rationals}
+use Rattle.ore_rational.specs.Field.{rationals}
 use Rattle.ore_monomial.specs.Gives.{Fails, Gives}
 use Rattle.ore_monomial.specs.Monomial.{plain_cmp}
 use Rattle.ore_monomial.specs.Signature.{Signature}
@@ -27,7 +28,7 @@ use Rattle.ore_ring.specs.Within.{shared_fits, all_shared_fit, plus_within, minu
 use Rattle.ore_ring.proofs.AllTerms.{all_terms}
 use Rattle.ore_ring.proofs.Falls.{falls_none, falling-none}
 use Rattle.ore_ring.proofs.MergeIs.{fits_is, fits_none}
-use Rattle.ore_rows.specs.RowsWithin.{product_taken}
+use Rattle.ore_rows.specs.RowsWithin.{product_added, product_taken}
 
 module _ (l : Limits) where
   pub plus_zero : (f : Operator rationals) → plus_within l f (empty_sum rationals plain_cmp) ≡ Ok f
@@ -67,6 +68,10 @@ module _ (l : Limits) where
     pub zero_times : (f : Operator rationals) → times_within l s (empty_sum rationals plain_cmp) f ≡ Ok (empty_sum rationals plain_cmp)
     unfolding times_within degrees_fit
     zero_times f = ap (λ ts. cond (degrees_fit l ts (falling s.order f)) (fold_within (row_within l s (falling s.order f)) (empty_sum rationals plain_cmp) ts) (Err Degree)) (falling-none s.order)
+
+    pub added_none : (acc f : Operator rationals) → product_added l s acc (empty_sum rationals plain_cmp, f) ≡ Ok acc
+    unfolding product_added
+    added_none acc f = ap (λ r. r >>= plus_within l acc) (zero_times f) ∙ plus_zero acc
 
     pub taken_none : (d f : Operator rationals) → product_taken l s d f (empty_sum rationals plain_cmp) ≡ Ok f
     unfolding product_taken

@@ -2,7 +2,7 @@
 --     Arithmetic           how products and differences of operators are formed, and which degrees fit
 --     exact                nothing stops
 --     within               what passes the limits stops
---     IsSound              a value that comes is the right one
+--     IsSoundArithmetic    a value that comes is the right one
 --     entry_by_entry       an operation on the entries of two rows at one place, in order
 --     scaled, less         an operator times each entry of a row; a row less another
 use Rattle.std.specs.Prelude.{ℕ, Bool, true}
@@ -12,7 +12,7 @@ use Rattle.std.specs.declared.result.Result.TheVariants.{Ok}
 use Rattle.ore_algebra.specs.Domain.{Domain}
 use Rattle.ore_algebra.specs.Free.{plus, scale}
 use Rattle.ore_algebra.specs.Limits.{Limits, Cause, is_within, map_within, IsAtMost}
-use Rattle.ore_rational.proofs.FractionLaws.{rationals}
+use Rattle.ore_rational.specs.Field.{rationals}
 use Rattle.ore_monomial.specs.Monomial.{plain_cmp}
 use Rattle.ore_monomial.specs.Signature.{Signature}
 use Rattle.ore_monomial.specs.LetterRule.{Operator}
@@ -35,7 +35,7 @@ abbrev pub within : Limits → Signature → Arithmetic rationals
 within l s = record { product = times_within l s; difference = minus_within l; degree_fits = is_within l.degree }
 
 -- each operation gives the exact value, or stops
-pub record IsSound (K : Domain) (s : Signature) (A : Arithmetic K) : Type 0 where
+pub record IsSoundArithmetic (K : Domain) (s : Signature) (A : Arithmetic K) : Type 0 where
   pub product : (f g : Operator K) → IsAtMost (A.product f g) ((exact K s).product f g)
   pub difference : (f g : Operator K) → IsAtMost (A.difference f g) ((exact K s).difference f g)
 

@@ -8,5 +8,5 @@ pub mod Reduction
 pub mod ReduceRows
 pub mod StoredSteps
 pub mod StoredBasis
-pub mod Shown
+pub mod BasisLeads
 pub mod Laws

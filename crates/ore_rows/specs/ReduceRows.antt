@@ -16,7 +16,7 @@ use Rattle.ore_monomial.specs.declared.order.Order.{Order}
 use Rattle.ore_rows.specs.Rows.{Row, zero_row}
 use Rattle.ore_rows.specs.RowLead.{row_lead}
 use Rattle.ore_rows.specs.Arithmetic.{Arithmetic}
-use Rattle.ore_rows.specs.Reduction.{Monic, Work, reduce}
+use Rattle.ore_rows.specs.Reduction.{BasisRow, ReductionState, reduce}
 
 -- the opposite of each entry
 abbrev pub negated : (K : Domain) → Row K → Row K
@@ -26,11 +26,11 @@ negated K r = map (scale K plain_cmp (K.minus K.one)) r
 -- which something is left, and what that is
 pub data Reductions (K : Domain) : Type 0 where
   AllReduce : List (Row K) → Reductions K
-  LeavesRest : ℕ → Work K → Reductions K
+  LeavesRest : ℕ → ReductionState K → Reductions K
 
-module _ (K : Domain) (o : Order) (A : Arithmetic K) (n : ℕ) (basis : List (Monic (Row K))) where
+module _ (K : Domain) (o : Order) (A : Arithmetic K) (n : ℕ) (basis : List (BasisRow (Row K))) where
   -- by a basis whose cofactor rows have n entries
-  abbrev pub reduce_row : Row K → Result (Work K) Cause
+  abbrev pub reduce_row : Row K → Result (ReductionState K) Cause
   reduce_row r = reduce K o A basis (record { row = r; cofactor = zero_row K n; steps = [] })
 
   -- where all rows before place k reduce, and are these combinations

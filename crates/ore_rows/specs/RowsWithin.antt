@@ -6,15 +6,17 @@
 --     HasDegrees                         the degrees of the product of two operators fit
 --     product_taken, in_turn             a product of operators, taken from an operator; from each entry of a row in turn
 --     dot_within                         a row times a column
+--     added_at, dot_at                   the product of the entries at a place is added; those at some places, in turn
+--     AreEnough                          the entries at some places make the product with each column
 --     combine_from, combine_within       a row times some columns of a matrix, or all of them, column by column
 --     matrix_times_within                a matrix times a matrix, row by row
-use Rattle.std.specs.Prelude.{◌≡◌, true, ℕ, zero, suc, List, [], ◌∷◌}
+use Rattle.std.specs.Prelude.{◌≡◌, true, ℕ, zero, suc, List, [], ◌∷◌, length, get_or}
 use Rattle.std.specs.List.{zip}
 use Rattle.std.specs.declared.result.Result.{Result}
 use Rattle.std.specs.declared.result.Result.TheVariants.{Ok}
 use Rattle.ore_algebra.specs.Free.{empty_sum}
 use Rattle.ore_algebra.specs.Limits.{Limits, Cause, program, ◌>>=◌, fold_within, map_within}
-use Rattle.ore_rational.proofs.FractionLaws.{rationals}
+use Rattle.ore_rational.specs.Field.{rationals}
 use Rattle.ore_monomial.specs.Monomial.{plain_cmp}
 use Rattle.ore_monomial.specs.Signature.{Signature}
 use Rattle.ore_monomial.specs.LetterRule.{Operator}
@@ -60,6 +62,14 @@ module _ (l : Limits) (s : Signature) where
   abbrev pub dot_within : Row rationals → Row rationals → Result (Operator rationals) Cause
   dot_within c r = fold_within product_added (empty_sum rationals plain_cmp) (zip c r)
 
+  -- the product of the entries at place k is added to a sum
+  abbrev pub added_at : Row rationals → Row rationals → Operator rationals → ℕ → Result (Operator rationals) Cause
+  added_at c r acc k = product_added acc (get_or c k (empty_sum rationals plain_cmp), get_or r k (empty_sum rationals plain_cmp))
+
+  -- from zero, the products of the entries at these places are added
+  abbrev pub dot_at : List ℕ → Row rationals → Row rationals → Result (Operator rationals) Cause
+  dot_at ks c r = fold_within (added_at c r) (empty_sum rationals plain_cmp) ks
+
   -- the columns from j on, n of them
   unfoldable pub combine_from : ℕ → ℕ → Row rationals → List (Row rationals) → Result (Row rationals) Cause
   combine_from j zero c m = Ok []
@@ -75,3 +85,7 @@ module _ (l : Limits) (s : Signature) where
   -- each row of a times b, which has n columns
   abbrev pub matrix_times_within : ℕ → List (Row rationals) → List (Row rationals) → Result (List (Row rationals)) Cause
   matrix_times_within n a b = map_within (λ r. combine_within n r b) a
+
+-- under any limits, the entries of c at other places than these add nothing to the product with a column
+abbrev pub AreEnough : List ℕ → Row rationals → Type 0
+AreEnough ks c = (l : Limits) (s : Signature) (r : Row rationals) → length r ≡ length c → dot_at l s ks c r ≡ dot_within l s c r

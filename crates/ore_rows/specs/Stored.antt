@@ -9,7 +9,7 @@ use Rattle.std.specs.Prelude.{◌≡◌, ℕ, List, map, length, get_or, refl}
 use Rattle.std.specs.List.{All}
 use Rattle.std.specs.Coded.{Coded, coded×, coded_list, coded_ℕ, code_by}
 use Rattle.ore_algebra.specs.Free.{empty_sum}
-use Rattle.ore_rational.proofs.FractionLaws.{rationals}
+use Rattle.ore_rational.specs.Field.{rationals}
 use Rattle.ore_monomial.specs.Monomial.{plain_cmp}
 use Rattle.ore_ring.specs.Ordered.{Ordered, ordered_code}
 use Rattle.ore_rows.specs.Rows.{Row}

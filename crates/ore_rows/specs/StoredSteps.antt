@@ -4,7 +4,7 @@ use Rattle.std.specs.Prelude.{ℕ, List, refl}
 use Rattle.std.specs.Coded.{Coded, coded×, coded_list, coded_ℕ, code_by}
 use Rattle.ore_rational.specs.Fraction.{Fraction}
 use Rattle.ore_rational.specs.Reduced.{fraction_code}
-use Rattle.ore_rational.proofs.FractionLaws.{rationals}
+use Rattle.ore_rational.specs.Field.{rationals}
 use Rattle.ore_monomial.specs.Monomial.{Monomial}
 use Rattle.ore_monomial.specs.MonomialCode.{monomial_code}
 use Rattle.ore_rows.specs.Reduction.{Step}

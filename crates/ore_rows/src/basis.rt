@@ -1,16 +1,16 @@
 //! A basis of rows, each with its cofactor row and its lead.
 
-ghost use Rattle.std.specs.Prelude.{◌≡◌, ◌<◌, ◌^◌, [], ◌∷◌, ◌++◌, length, slice_get, IfOk, IfErr};
-ghost use Rattle.std.specs.List.{All};
-ghost use Rattle.ore_rational.proofs.FractionLaws.{rationals};
+ghost use Rattle.std.specs.Prelude.{◌≡◌, ◌<◌, ◌^◌, [], ◌∷◌, ◌++◌, length, map, slice_get, IfOk, IfErr};
+ghost use Rattle.ore_rational.specs.Field.{rationals};
 ghost use Rattle.ore_monomial.specs.Term.{Term};
-ghost use Rattle.ore_ring.specs.Belongs.{Belongs};
+ghost use Rattle.ore_ring.specs.Belongs.{AllBelong};
 ghost use Rattle.ore_rows.specs.Reduction.{basis_rows, cofactors_of, leads_of, basis_lead};
 ghost use Rattle.ore_rows.specs.RowLead.{IsRowLead};
 ghost use Rattle.ore_rows.specs.Stored.{sums_of};
 ghost use Rattle.ore_rows.specs.StoredBasis.{HasLead, HaveLeads, HaveWidths};
 
 use crate::lead::row_lead;
+use crate::matrix::Matrix;
 use crate::row::Row;
 use ore_leads::Leads;
 use ore_monomial::{Exps, NoMemory, Signature};
@@ -19,7 +19,7 @@ use std::marker::Model;
 
 // A row of a basis, and its cofactor row.
 #[derive(Drop)]
-struct Entry {
+struct BasisEntry {
     row: Row,
     cofactor: Row,
 }
@@ -33,12 +33,12 @@ struct Entry {
 pub struct Basis {
     cols: usize,
     width: usize,
-    items: Vec<Entry>,
+    items: Vec<BasisEntry>,
     leads: Leads,
 }
 
 impl Model for Basis {
-    ghost use Rattle.ore_rows.specs.StoredBasis.{StoredBasis, basis_code, with_leads, IsStored};
+    ghost use Rattle.ore_rows.specs.StoredBasis.{StoredBasis, basis_code, with_leads, IsStoredBasis};
 
     ghost Value = { StoredBasis };
 
@@ -46,7 +46,7 @@ impl Model for Basis {
 
     ghost view = { λ a. record { cols = a.cols; width = a.width; items = with_leads a.items.items a.leads } };
 
-    ghost invariant = { λ a. IsStored a.cols a.width a.items.items a.leads };
+    ghost invariant = { λ a. IsStoredBasis a.cols a.width a.items.items a.leads };
 }
 
 impl Basis {
@@ -107,6 +107,23 @@ impl Basis {
         &entry.cofactor
     }
 
+    /// The rows and the cofactor rows, in order, as two matrices.
+    ///
+    /// # Errors
+    /// Want of memory.
+    pub fn into_matrices(self, alloc: Global) -> Result<(Matrix, Matrix), NoMemory>
+        requires few_cols { self.cols < 2 ^ 63 }
+        requires few_cofactors { self.width < 2 ^ 63 }
+        ensures rows { IfOk result (λ p. p.0 ≡ record { cols = self.cols; rows = basis_rows self.items }) }
+        ensures cofactors { IfOk result (λ p. p.1 ≡ record { cols = self.width; rows = cofactors_of self.items }) }
+    {
+        let (rows, cofactors) = parted(alloc, self.items)?;
+        Ok((
+            Matrix::from_rows(self.cols, rows),
+            Matrix::from_rows(self.width, cofactors),
+        ))
+    }
+
     /// The leads of the rows, in order.
     pub fn leads(&self) -> &Leads
         ensures { result.now ≡ leads_of self.now.items }
@@ -124,14 +141,14 @@ impl Basis {
     pub fn push(&mut self, sig: &Signature, row: Row, cofactor: Row) -> Result<(), NoMemory>
         requires row_width { length row ≡ self.old.cols }
         requires cofactor_width { length cofactor ≡ self.old.width }
-        requires row_of { All (Belongs sig.now) row }
-        requires cofactor_of { All (Belongs sig.now) cofactor }
+        requires row_of { AllBelong sig.now row }
+        requires cofactor_of { AllBelong sig.now cofactor }
         requires monic { (t : Term) × IsRowLead rationals sig.now.order (sums_of row) t rationals.one }
         ensures pushed { IfOk result (λ _. (t : Term) × IsRowLead rationals sig.now.order (sums_of row) t rationals.one × (self.new ≡ record self.old { items = self.old.items ++ record { row = row; cofactor = cofactor; lead = t } ∷ [] })) }
         ensures kept { IfErr result (λ _. self.new ≡ self.old) }
     {
         let (column, exps) = monic_lead(sig, &row);
-        self.items.push(Entry { row, cofactor })?;
+        self.items.push(BasisEntry { row, cofactor })?;
         match self.leads.push(column, exps) {
             Ok(()) => Ok(()),
             Err(refused) => {
@@ -142,9 +159,23 @@ impl Basis {
     }
 }
 
+// The rows of some entries, and their cofactor rows.
+fn parted(alloc: Global, entries: Vec<BasisEntry>) -> Result<(Vec<Row>, Vec<Row>), NoMemory>
+    ensures rows { IfOk result (λ p. p.0.items ≡ map (λ e. e.row) entries.items) }
+    ensures cofactors { IfOk result (λ p. p.1.items ≡ map (λ e. e.cofactor) entries.items) }
+{
+    let mut rows = Vec::with_capacity(alloc, entries.len())?;
+    let mut cofactors = Vec::with_capacity(alloc, entries.len())?;
+    for entry in entries {
+        rows.push(entry.row)?;
+        cofactors.push(entry.cofactor)?;
+    }
+    Ok((rows, cofactors))
+}
+
 // The lead of a row whose lead coefficient is 1.
 fn monic_lead(sig: &Signature, row: &Row) -> (usize, Exps)
-    requires row_of { All (Belongs sig.now) row.now }
+    requires row_of { AllBelong sig.now row.now }
     requires monic { (t : Term) × IsRowLead rationals sig.now.order (sums_of row.now) t rationals.one }
     ensures { IsRowLead rationals sig.now.order (sums_of row.now) (record { monomial = result.1; column = result.0 }) rationals.one }
 {

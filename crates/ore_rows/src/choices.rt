@@ -3,7 +3,7 @@
 
 ghost use Rattle.std.specs.Prelude.{◌≡◌, ◌<◌, ◌^◌, ℕ, Bool, List, length, slice_get};
 ghost use Rattle.ore_rows.specs.declared.choices.Choice as choices;
-ghost use Rattle.ore_rows.specs.Shown.{Shown};
+ghost use Rattle.ore_rows.specs.BasisLeads.{BasisLeads};
 
 use std::marker::Model;
 
@@ -21,10 +21,10 @@ pub enum Choice {
 /// which they were listed.
 pub trait Rule {
     /// The choice may come.
-    ghost allows: { Shown → List (ℕ × ℕ) → choices.Choice → Bool };
+    ghost allows: { BasisLeads → List (ℕ × ℕ) → choices.Choice → Bool };
 
     /// The answer that the budget is spent may come.
-    ghost allows_spent: { Shown → List (ℕ × ℕ) → Bool };
+    ghost allows_spent: { BasisLeads → List (ℕ × ℕ) → Bool };
 }
 
 /// What a syzygy of a run comes from.

@@ -1,9 +1,8 @@
 //! The lead of a row.
 
 ghost use Rattle.std.specs.Prelude.{◌≡◌, ◌+◌, ◌<◌, length, take, MatchOption};
-ghost use Rattle.std.specs.List.{All};
-ghost use Rattle.ore_rational.proofs.FractionLaws.{rationals};
-ghost use Rattle.ore_ring.specs.Belongs.{Belongs};
+ghost use Rattle.ore_rational.specs.Field.{rationals};
+ghost use Rattle.ore_ring.specs.Belongs.{AllBelong};
 ghost use Rattle.ore_rows.specs.LeadFound.{IsLeadFound, greater_found};
 ghost use Rattle.ore_rows.specs.RowLead.{IsRowLead};
 ghost use Rattle.ore_rows.specs.Stored.{IsZeroRow, sums_of};
@@ -17,7 +16,7 @@ use ore_ring::lead;
 /// coefficient. There is none in a row of zeros. Of terms with one monomial that in the first column is the greatest.
 /// The entries are of the signature.
 pub fn row_lead(sig: &Signature, row: &Row) -> Option<(usize, Exps, Rational)>
-    requires { All (Belongs sig.now) row.now }
+    requires { AllBelong sig.now row.now }
     ensures { MatchOption result (IsZeroRow row.now) (λ t. IsRowLead rationals sig.now.order (sums_of row.now) (record { monomial = t.1; column = t.0 }) t.2) }
 {
     let mut found = None;
@@ -35,7 +34,7 @@ fn found_with(
     before: Option<(usize, Exps, Rational)>,
 ) -> Option<(usize, Exps, Rational)>
     requires within { k < length row.now }
-    requires row_of { All (Belongs sig.now) row.now }
+    requires row_of { AllBelong sig.now row.now }
     requires before { IsLeadFound sig.now.order (take k row.now) before }
     ensures { IsLeadFound sig.now.order (take (k + 1) row.now) result }
 {

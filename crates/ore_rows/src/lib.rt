@@ -15,7 +15,8 @@
 //! after its product, since then nothing stops but for one cause (`proofs/InTurn.antt`).
 //!
 //! No product, sum or difference with the operator zero is formed: it has its value under any limits
-//! (`laws::law_zero`), so that an operation stops exactly where its definition does.
+//! (`laws::law_zero`), so that an operation stops exactly where its definition does. [`combine`] finds the places of its
+//! row that aren't zero once, and forms the products at these for each column (`proofs/NonzeroPlaces.antt`).
 //!
 //! A [`Basis`] keeps rows with lead coefficient 1, each with a cofactor row and beside its lead. What it is seen as
 //! stands in `specs/StoredBasis.antt`. Its type knows how many entries its rows have, and that each noted lead is that
@@ -38,7 +39,7 @@
 //! `specs/Reduction.antt` defines lead reduction, over the arithmetic of `specs/Arithmetic.antt`, which is exact or stops
 //! at limits. The crates above meet this definition, and that of runs (`ore_pairs/specs/Run.antt`). [`Steps`],
 //! [`Choices`] and [`Runs`] are the lists that they give and take, an [`Origin`] says what a syzygy of a run comes from,
-//! and a [`Rule`] which choices may come, by what is shown of a basis (`specs/Shown.antt`). `proofs/GreatestTerms.antt` proves that the
+//! and a [`Rule`] which choices may come, by what is shown of a basis (`specs/BasisLeads.antt`). `proofs/GreatestTerms.antt` proves that the
 //! function `row_lead` of the definitions finds the lead, and `proofs/SoundArithmetic.antt` that within limits each
 //! operation on rows gives the exact value or stops.
 //!

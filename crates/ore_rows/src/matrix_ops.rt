@@ -5,15 +5,15 @@ ghost use Rattle.std.specs.List.{All};
 ghost use Rattle.ore_algebra.specs.Limits.{program};
 ghost use Rattle.ore_monomial.specs.Gives.{Gives};
 ghost use Rattle.ore_monomial.specs.declared.stop.RingStop.TheVariants.{Memory};
-ghost use Rattle.ore_ring.specs.Belongs.{Belongs};
-ghost use Rattle.ore_rows.specs.RowsWithin.{combine_within, dot_within, matrix_times_within, product_added};
+ghost use Rattle.ore_ring.specs.Belongs.{AllBelong, Belongs};
+ghost use Rattle.ore_rows.specs.RowsWithin.{AreEnough, combine_within, dot_within, matrix_times_within, product_added};
 ghost use Rattle.ore_rows.specs.Stored.{places, rows_of, sums_of};
 
 use crate::entry_ops::{join, mul};
 use crate::matrix::Matrix;
 use crate::row::Row;
 use crate::row_ops::row_copy;
-use ore_monomial::RingStop;
+use ore_monomial::{NoMemory, RingStop};
 use ore_ring::{Op, OreRing};
 use std::alloc::Global;
 
@@ -24,16 +24,16 @@ use std::alloc::Global;
 /// The stop of the first product or sum that stops, and want of memory.
 pub fn combine<R: OreRing>(ring: &R, alloc: Global, c: &Row, m: &Matrix) -> Result<Row, RingStop>
     requires rows { length c.now ≡ length m.now.rows }
-    requires c_of { All (Belongs (R.sig ring.now)) c.now }
-    requires m_of { All (All (Belongs (R.sig ring.now))) m.now.rows }
+    requires c_of { AllBelong (R.sig ring.now) c.now }
+    requires m_of { All (AllBelong (R.sig ring.now)) m.now.rows }
     ensures gives { Gives sums_of result (combine_within program (R.sig ring.now) m.now.cols (sums_of c.now) (rows_of m.now)) }
-    ensures of { IfOk result (All (Belongs (R.sig ring.now))) }
+    ensures of { IfOk result (AllBelong (R.sig ring.now)) }
     ensures width { IfOk result (λ r. length r ≡ m.now.cols) }
 {
-    let rows = m.rows_slice();
+    let nonzero = nonzero_places(alloc, c)?;
     let mut out = Vec::with_capacity(alloc, m.cols())?;
     for j in 0..m.cols() {
-        out.push(dot(ring, alloc, c.entries(), rows, j)?)?;
+        out.push(dot(ring, alloc, c, m, &nonzero, j)?)?;
     }
     Ok(Row::from_vec(out))
 }
@@ -50,11 +50,11 @@ pub fn times<R: OreRing>(
     b: &Matrix,
 ) -> Result<Matrix, RingStop>
     requires fits { a.now.cols ≡ length b.now.rows }
-    requires a_of { All (All (Belongs (R.sig ring.now))) a.now.rows }
-    requires b_of { All (All (Belongs (R.sig ring.now))) b.now.rows }
+    requires a_of { All (AllBelong (R.sig ring.now)) a.now.rows }
+    requires b_of { All (AllBelong (R.sig ring.now)) b.now.rows }
     ensures gives { Gives rows_of result (matrix_times_within program (R.sig ring.now) b.now.cols (rows_of a.now) (rows_of b.now)) }
     ensures cols { IfOk result (λ m. m.cols ≡ b.now.cols) }
-    ensures of { IfOk result (λ m. All (All (Belongs (R.sig ring.now))) m.rows) }
+    ensures of { IfOk result (λ m. All (AllBelong (R.sig ring.now)) m.rows) }
 {
     let mut out = Vec::with_capacity(alloc, a.rows())?;
     for row in a.rows_slice() {
@@ -70,11 +70,11 @@ pub fn times<R: OreRing>(
 /// Want of memory.
 pub fn stack<R: OreRing>(ring: &R, alloc: Global, z: &Row, m: &Matrix) -> Result<Matrix, RingStop>
     requires width { length z.now ≡ m.now.cols }
-    requires z_of { All (Belongs (R.sig ring.now)) z.now }
-    requires m_of { All (All (Belongs (R.sig ring.now))) m.now.rows }
+    requires z_of { AllBelong (R.sig ring.now) z.now }
+    requires m_of { All (AllBelong (R.sig ring.now)) m.now.rows }
     ensures value { IfOk result (λ x. x ≡ record { cols = m.now.cols; rows = z.now ∷ m.now.rows }) }
     ensures memory { IfErr result (λ e. e ≡ Memory) }
-    ensures of { IfOk result (λ x. All (All (Belongs (R.sig ring.now))) x.rows) }
+    ensures of { IfOk result (λ x. All (AllBelong (R.sig ring.now)) x.rows) }
 {
     let mut out = Vec::new(alloc);
     out.push(row_copy(ring, alloc, z)?)?;
@@ -97,23 +97,42 @@ fn add_product<R: OreRing>(ring: &R, alloc: Global, acc: Op, f: &Op, g: &Op) -> 
     join(ring, alloc, acc, product)
 }
 
-// A row times the entries at place `j` of as many rows.
+// The places of the entries that aren't zero, in order.
+fn nonzero_places(alloc: Global, c: &Row) -> Result<Vec<usize>, NoMemory>
+    ensures enough { IfOk result (λ x. AreEnough x.items (sums_of c.now)) }
+    ensures inside { IfOk result (λ x. All (λ k. k < length c.now) x.items) }
+{
+    let mut out = Vec::new(alloc);
+    for k in 0..c.len() {
+        if c.entry(k).is_zero() {
+            continue;
+        }
+        out.push(k)?;
+    }
+    Ok(out)
+}
+
+// A row times the column at place `j` of a matrix, by the entries of the row at the places `nonzero`.
 fn dot<R: OreRing>(
     ring: &R,
     alloc: Global,
-    c: &[Op],
-    rows: &[Row],
+    c: &Row,
+    m: &Matrix,
+    nonzero: &[usize],
     j: usize,
 ) -> Result<Op, RingStop>
-    requires c_of { All (Belongs (R.sig ring.now)) c.now }
-    requires rows_of { All (All (Belongs (R.sig ring.now))) rows.now }
-    requires place { All (λ r. j < length r) rows.now }
-    ensures gives { Gives (λ f. f.sum) result (dot_within program (R.sig ring.now) (sums_of c.now) (places j rows.now)) }
+    requires c_of { AllBelong (R.sig ring.now) c.now }
+    requires m_of { All (AllBelong (R.sig ring.now)) m.now.rows }
+    requires rows { length c.now ≡ length m.now.rows }
+    requires column { j < m.now.cols }
+    requires enough { AreEnough nonzero.now (sums_of c.now) }
+    requires inside { All (λ k. k < length c.now) nonzero.now }
+    ensures gives { Gives (λ f. f.sum) result (dot_within program (R.sig ring.now) (sums_of c.now) (places j m.now.rows)) }
     ensures of { IfOk result (Belongs (R.sig ring.now)) }
 {
     let mut acc = Op::zero(alloc, ring.signature().order());
-    for (f, row) in c.iter().zip(rows) {
-        acc = add_product(ring, alloc, acc, f, row.entry(j))?;
+    for k in nonzero {
+        acc = add_product(ring, alloc, acc, c.entry(*k), m.row(*k).entry(j))?;
     }
     Ok(acc)
 }

@@ -5,8 +5,8 @@ ghost use Rattle.std.specs.List.{All};
 ghost use Rattle.ore_algebra.specs.Limits.{program};
 ghost use Rattle.ore_monomial.specs.Gives.{Gives};
 ghost use Rattle.ore_monomial.specs.declared.stop.RingStop.TheVariants.{Memory};
-ghost use Rattle.ore_rational.proofs.FractionLaws.{rationals};
-ghost use Rattle.ore_ring.specs.Belongs.{Belongs};
+ghost use Rattle.ore_rational.specs.Field.{rationals};
+ghost use Rattle.ore_ring.specs.Belongs.{AllBelong, Belongs};
 ghost use Rattle.ore_rows.specs.Arithmetic.{within};
 ghost use Rattle.ore_rows.specs.Reduction.{less_multiple};
 ghost use Rattle.ore_rows.specs.RowsWithin.{scale_within, sum_within, difference_within, HasDegrees, in_turn};
@@ -25,9 +25,9 @@ use std::mem;
 /// The stop of the first product that stops, and want of memory.
 pub fn scale<R: OreRing>(ring: &R, alloc: Global, f: &Op, row: &Row) -> Result<Row, RingStop>
     requires f_of { Belongs (R.sig ring.now) f.now }
-    requires row_of { All (Belongs (R.sig ring.now)) row.now }
+    requires row_of { AllBelong (R.sig ring.now) row.now }
     ensures gives { Gives sums_of result (scale_within program (R.sig ring.now) f.now.sum (sums_of row.now)) }
-    ensures of { IfOk result (All (Belongs (R.sig ring.now))) }
+    ensures of { IfOk result (AllBelong (R.sig ring.now)) }
     ensures width { IfOk result (λ r. length r ≡ length row.now) }
 {
     let mut out = Vec::with_capacity(alloc, row.len())?;
@@ -58,10 +58,10 @@ pub fn row_copy<R: OreRing>(ring: &R, alloc: Global, row: &Row) -> Result<Row, R
 /// The stop of the first sum that stops, and want of memory.
 pub fn row_add<R: OreRing>(ring: &R, alloc: Global, a: &Row, b: &Row) -> Result<Row, RingStop>
     requires lengths { length a.now ≡ length b.now }
-    requires a_of { All (Belongs (R.sig ring.now)) a.now }
-    requires b_of { All (Belongs (R.sig ring.now)) b.now }
+    requires a_of { AllBelong (R.sig ring.now) a.now }
+    requires b_of { AllBelong (R.sig ring.now) b.now }
     ensures gives { Gives sums_of result (sum_within program (sums_of a.now) (sums_of b.now)) }
-    ensures of { IfOk result (All (Belongs (R.sig ring.now))) }
+    ensures of { IfOk result (AllBelong (R.sig ring.now)) }
     ensures width { IfOk result (λ r. length r ≡ length a.now) }
 {
     let mut out = Vec::with_capacity(alloc, a.len())?;
@@ -77,10 +77,10 @@ pub fn row_add<R: OreRing>(ring: &R, alloc: Global, a: &Row, b: &Row) -> Result<
 /// The stop of the first difference that stops, and want of memory.
 pub fn row_sub<R: OreRing>(ring: &R, alloc: Global, a: &Row, b: &Row) -> Result<Row, RingStop>
     requires lengths { length a.now ≡ length b.now }
-    requires a_of { All (Belongs (R.sig ring.now)) a.now }
-    requires b_of { All (Belongs (R.sig ring.now)) b.now }
+    requires a_of { AllBelong (R.sig ring.now) a.now }
+    requires b_of { AllBelong (R.sig ring.now) b.now }
     ensures gives { Gives sums_of result (difference_within program (sums_of a.now) (sums_of b.now)) }
-    ensures of { IfOk result (All (Belongs (R.sig ring.now))) }
+    ensures of { IfOk result (AllBelong (R.sig ring.now)) }
     ensures width { IfOk result (λ r. length r ≡ length a.now) }
 {
     let mut out = Vec::with_capacity(alloc, a.len())?;
@@ -97,10 +97,10 @@ pub fn row_sub<R: OreRing>(ring: &R, alloc: Global, a: &Row, b: &Row) -> Result<
 /// The stop of the first difference that stops, and want of memory. Then the first row is dropped.
 pub fn row_take<R: OreRing>(ring: &R, alloc: Global, row: Row, other: &Row) -> Result<Row, RingStop>
     requires lengths { length row ≡ length other.now }
-    requires row_of { All (Belongs (R.sig ring.now)) row }
-    requires other_of { All (Belongs (R.sig ring.now)) other.now }
+    requires row_of { AllBelong (R.sig ring.now) row }
+    requires other_of { AllBelong (R.sig ring.now) other.now }
     ensures gives { Gives sums_of result (difference_within program (sums_of row) (sums_of other.now)) }
-    ensures of { IfOk result (All (Belongs (R.sig ring.now))) }
+    ensures of { IfOk result (AllBelong (R.sig ring.now)) }
     ensures width { IfOk result (λ r. length r ≡ length row) }
 {
     let mut out = Vec::with_capacity(alloc, row.len())?;
@@ -124,11 +124,11 @@ pub fn row_less<R: OreRing>(
     other: &Row,
 ) -> Result<Row, RingStop>
     requires lengths { length row ≡ length other.now }
-    requires row_of { All (Belongs (R.sig ring.now)) row }
+    requires row_of { AllBelong (R.sig ring.now) row }
     requires f_of { Belongs (R.sig ring.now) f.now }
-    requires other_of { All (Belongs (R.sig ring.now)) other.now }
+    requires other_of { AllBelong (R.sig ring.now) other.now }
     ensures gives { Gives sums_of result (less_multiple rationals (within program (R.sig ring.now)) f.now.sum (sums_of other.now) (sums_of row)) }
-    ensures of { IfOk result (All (Belongs (R.sig ring.now))) }
+    ensures of { IfOk result (AllBelong (R.sig ring.now)) }
     ensures width { IfOk result (λ r. length r ≡ length row) }
 {
     if degrees_fit_in(ring, f, other) {
@@ -141,7 +141,7 @@ pub fn row_less<R: OreRing>(
 // Whether the degrees of `f` times each entry fit.
 fn degrees_fit_in<R: OreRing>(ring: &R, f: &Op, row: &Row) -> bool
     requires f_of { Belongs (R.sig ring.now) f.now }
-    requires row_of { All (Belongs (R.sig ring.now)) row.now }
+    requires row_of { AllBelong (R.sig ring.now) row.now }
     ensures { result ≡ true → All (λ g. HasDegrees (R.sig ring.now) f.now.sum g.sum) row.now }
 {
     let _ = ring;
@@ -163,11 +163,11 @@ fn less_in_turn<R: OreRing>(
     other: &Row,
 ) -> Result<Row, RingStop>
     requires lengths { length row ≡ length other.now }
-    requires row_of { All (Belongs (R.sig ring.now)) row }
+    requires row_of { AllBelong (R.sig ring.now) row }
     requires f_of { Belongs (R.sig ring.now) f.now }
-    requires other_of { All (Belongs (R.sig ring.now)) other.now }
+    requires other_of { AllBelong (R.sig ring.now) other.now }
     ensures gives { Gives sums_of result (in_turn program (R.sig ring.now) f.now.sum (sums_of row) (sums_of other.now)) }
-    ensures of { IfOk result (All (Belongs (R.sig ring.now))) }
+    ensures of { IfOk result (AllBelong (R.sig ring.now)) }
     ensures width { IfOk result (λ r. length r ≡ length row) }
 {
     let mut entries = row.into_vec();

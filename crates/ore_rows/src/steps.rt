@@ -18,7 +18,7 @@ pub struct Step {
 }
 
 impl Model for Step {
-    ghost use Rattle.ore_rational.proofs.FractionLaws.{rationals};
+    ghost use Rattle.ore_rational.specs.Field.{rationals};
     ghost use Rattle.ore_rows.specs.Reduction as reduction;
     ghost use Rattle.ore_rows.specs.StoredSteps.{step_code};
 
@@ -37,7 +37,7 @@ pub struct Steps {
 
 impl Model for Steps {
     ghost use Rattle.std.specs.Prelude.{List};
-    ghost use Rattle.ore_rational.proofs.FractionLaws.{rationals};
+    ghost use Rattle.ore_rational.specs.Field.{rationals};
     ghost use Rattle.ore_rows.specs.Reduction as reduction;
     ghost use Rattle.ore_rows.specs.StoredSteps.{steps_code};
 

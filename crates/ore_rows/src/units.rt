@@ -3,10 +3,10 @@
 ghost use Rattle.std.specs.Prelude.{◌≡◌, length, cond, IfOk};
 ghost use Rattle.std.specs.List.{All};
 ghost use Rattle.ore_algebra.specs.Free.{empty_sum, single};
-ghost use Rattle.ore_rational.proofs.FractionLaws.{rationals};
+ghost use Rattle.ore_rational.specs.Field.{rationals};
 ghost use Rattle.ore_monomial.specs.Monomial.{plain_cmp};
 ghost use Rattle.ore_monomial.specs.Monomial as monomials;
-ghost use Rattle.ore_ring.specs.Belongs.{Belongs};
+ghost use Rattle.ore_ring.specs.Belongs.{AllBelong, Belongs};
 ghost use Rattle.ore_rows.specs.Rows as rows;
 ghost use Rattle.ore_rows.specs.Stored.{rows_of, sums_of};
 
@@ -25,7 +25,7 @@ use std::alloc::Global;
 pub fn unit_row(alloc: Global, sig: &Signature, n: usize, i: usize) -> Result<Row, NoMemory>
     ensures value { IfOk result (λ r. sums_of r ≡ rows.unit_row rationals n i) }
     ensures width { IfOk result (λ r. length r ≡ n) }
-    ensures of { IfOk result (All (Belongs sig.now)) }
+    ensures of { IfOk result (AllBelong sig.now) }
 {
     let mut out = Vec::with_capacity(alloc, n)?;
     for k in 0..n {
@@ -42,7 +42,7 @@ pub fn identity(alloc: Global, sig: &Signature, n: usize) -> Result<Matrix, NoMe
     ensures rows { IfOk result (λ m. rows_of m ≡ rows.identity_rows rationals n) }
     ensures cols { IfOk result (λ m. m.cols ≡ n) }
     ensures count { IfOk result (λ m. length m.rows ≡ n) }
-    ensures of { IfOk result (λ m. All (All (Belongs sig.now)) m.rows) }
+    ensures of { IfOk result (λ m. All (AllBelong sig.now) m.rows) }
 {
     let mut out = Vec::with_capacity(alloc, n)?;
     for k in 0..n {

@@ -1,5 +1,5 @@
 use Rattle.std.proofs.Common.{length}
-use Rattle.ore_rational.proofs.FractionLaws.{rationals}
+use Rattle.ore_rational.specs.Field.{rationals}
 use Rattle.ore_monomial.proofs.Signatures.{lawful}
 use Rattle.ore_rows.proofs.RowLaws.{adjoint-product, adjoint_twice}
 use Rattle.ore_laws.proofs.law_adjoint_matrix.Goals as goal

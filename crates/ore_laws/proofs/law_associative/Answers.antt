@@ -1,4 +1,4 @@
-use Rattle.ore_rational.proofs.FractionLaws.{rationals}
+use Rattle.ore_rational.specs.Field.{rationals}
 use Rattle.ore_monomial.proofs.Signatures.{lawful}
 use Rattle.ore_ring.proofs.Product.{times_assoc, one-times, times-one}
 use Rattle.ore_laws.proofs.law_associative.Goals as goal

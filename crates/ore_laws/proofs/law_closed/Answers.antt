@@ -1,4 +1,4 @@
-use Rattle.ore_rational.proofs.FractionLaws.{rationals}
+use Rattle.ore_rational.specs.Field.{rationals}
 use Rattle.ore_ring.proofs.Belonging.{of_plus, of_times}
 use Rattle.ore_ring.proofs.AdjointParts.{of_adjoint}
 use Rattle.ore_laws.proofs.law_closed.Goals as goal

@@ -1,4 +1,4 @@
-use Rattle.ore_rational.proofs.FractionLaws.{rationals, rational_inverses}
+use Rattle.ore_rational.specs.Field.{rationals, rational_inverses}
 use Rattle.ore_laws.proofs.CommonMultiples.{common_right_multiple}
 use Rattle.ore_laws.proofs.law_common_right_multiple.Goals as goal
 

@@ -1,4 +1,4 @@
-use Rattle.ore_rational.proofs.FractionLaws.{rationals}
+use Rattle.ore_rational.specs.Field.{rationals}
 use Rattle.ore_monomial.proofs.Signatures.{lawful}
 use Rattle.ore_ring.proofs.Product.{times-plus, plus-times}
 use Rattle.ore_laws.proofs.law_distributive.Goals as goal

@@ -3,7 +3,7 @@ use Rattle.std.proofs.lemmas.List.{map-append}
 use Rattle.std.proofs.lemmas.Result.{err_from_is_err_and}
 use Rattle.std.specs.declared.result.Result.TheVariants.{Ok}
 use Rattle.ore_algebra.specs.Limits.{program, fronted, map_within}
-use Rattle.ore_rational.proofs.FractionLaws.{rationals}
+use Rattle.ore_rational.specs.Field.{rationals}
 use Rattle.ore_monomial.proofs.Stops.{fails_like}
 use Rattle.ore_ring.specs.AdjointWithin.{adjoint_within}
 use Rattle.ore_ring.specs.Ordered.{Ordered}

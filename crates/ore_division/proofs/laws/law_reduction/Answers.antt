@@ -1,6 +1,6 @@
 use Rattle.std.proofs.Common.{subst}
 use Rattle.ore_algebra.specs.Limits.{IsAtMost}
-use Rattle.ore_rational.proofs.FractionLaws.{rationals}
+use Rattle.ore_rational.specs.Field.{rationals}
 use Rattle.ore_monomial.proofs.Signatures.{lawful}
 use Rattle.ore_rows.specs.Arithmetic.{exact, within}
 use Rattle.ore_rows.specs.Reduction.{reduce}

@@ -1,4 +1,4 @@
-use Rattle.ore_rational.proofs.FractionLaws.{rationals}
+use Rattle.ore_rational.specs.Field.{rationals}
 use Rattle.ore_monomial.proofs.Signatures.{lawful}
 use Rattle.ore_pairs.proofs.Exact.{exact_block}
 use Rattle.ore_pairs.proofs.laws.law_exact_block.Goals as goal

@@ -4,7 +4,7 @@ use Rattle.ore_algebra.specs.Limits.{program}
 use Rattle.ore_monomial.specs.Signature.{MonomialOf}
 use Rattle.ore_monomial.proofs.Declared.{MonomialOf-lcm}
 use Rattle.ore_monomial.proofs.Stops.{fails_like}
-use Rattle.ore_rational.proofs.FractionLaws.{rationals}
+use Rattle.ore_rational.specs.Field.{rationals}
 use Rattle.ore_rows.specs.Arithmetic.{within}
 use Rattle.ore_rows.specs.Reduction.{basis_rows, cofactors_of}
 use Rattle.ore_rows.specs.Stored.{sums_of}

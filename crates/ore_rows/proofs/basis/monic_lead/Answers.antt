@@ -1,5 +1,5 @@
 use Rattle.std.proofs.Common.{subst}
-use Rattle.ore_rational.proofs.FractionLaws.{rationals}
+use Rattle.ore_rational.specs.Field.{rationals}
 use Rattle.ore_rows.specs.RowLead.{IsRowLead}
 use Rattle.ore_rows.specs.Stored.{sums_of}
 use Rattle.ore_rows.proofs.RowLeads.{one_row_lead}

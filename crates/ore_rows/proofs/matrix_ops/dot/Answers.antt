@@ -1,75 +1,75 @@
-use Rattle.std.proofs.Common.{rules, sym, ap, ◌∙◌, ◌<◌, List, get_or, length}
+use Rattle.std.proofs.Common.{get_or, map, sym, ap, ◌∙◌}
+use Rattle.std.proofs.lemmas.List.{length-map}
 use Rattle.std.proofs.lemmas.Result.{err_from_is_err_and}
-use Rattle.std.proofs.lemmas.Slice.Zip.{Zip-more, either_empty_from_Zip}
-use Rattle.std.specs.Iterator.Adapters.{zip_first, zip_second}
-use Rattle.std.specs.List.{All, zip}
-use Rattle.std.specs.Slice.Iter.{iter_rest}
+use Rattle.std.specs.List.{All}
 use Rattle.ore_algebra.specs.Free.{empty_sum}
 use Rattle.ore_algebra.specs.Limits.{program, fold_within}
-use Rattle.ore_rational.proofs.FractionLaws.{rationals}
+use Rattle.ore_rational.specs.Field.{rationals}
 use Rattle.ore_monomial.specs.Monomial.{plain_cmp}
 use Rattle.ore_monomial.specs.Signature.{Signature}
-use Rattle.ore_monomial.specs.LetterRule.{Operator}
 use Rattle.ore_monomial.proofs.Stops.{fails_like}
 use Rattle.ore_ring.specs.Belongs.{Belongs}
 use Rattle.ore_ring.specs.Ordered.{Ordered}
-use Rattle.ore_rows.specs.RowsWithin.{product_added}
+use Rattle.ore_rows.specs.Rows.{Row}
+use Rattle.ore_rows.specs.RowsWithin.{added_at}
 use Rattle.ore_rows.specs.Stored.{sums_of, places}
-use Rattle.ore_rows.proofs.Dots.{all_at, all_first, entry_place, zero_belongs}
-use Rattle.ore_rows.proofs.Pairs.{all_rest, folded_next, folded_stops, folded_end}
+use Rattle.ore_rows.proofs.Dots.{all_at, zero_belongs}
+use Rattle.ore_rows.proofs.NonzeroPlaces.{added_there, place_next, place_stops, places_end}
 use Rattle.ore_rows.proofs.matrix_ops.dot.Goals as goal
 
-pub loop-f-init : goal.loop-f-init
-loop-f-init g c =
+pub loop-k-init : goal.loop-k-init
+loop-k-init g c =
     let s = g.R.OreRing.sig c.args.ring.now in
-    let xs = iter_rest (zip_first c.into_iter-f-iterator.result) in
-    let ys = iter_rest (zip_second c.into_iter-f-iterator.result) in
+    let row = c.args.c.now in
+    let rows = c.args.m.now.rows in
+    let column = places c.args.j rows in
+    let high = length-map (map sums_of rows) (λ (q : Row rationals). get_or q c.args.j (empty_sum rationals plain_cmp)) ∙ length-map rows sums_of ∙ sym c.requires.rows ∙ sym (length-map row (λ (w : Ordered). w.sum)) in
     record {
-      told = ap (λ (w : Ordered). fold_within (product_added program s) w.sum (zip (sums_of xs) (places c.args.j ys))) c.zero-acc.ensures ∙ search rules;
+      told = ap (λ (w : Ordered). fold_within (added_at program s (sums_of row) column) w.sum c.args.nonzero.now) c.zero-acc.ensures ∙ c.requires.enough program s column high;
       belongs = zero_belongs s _ c.zero-acc.result c.zero-acc.ensures (c.order.ensures ∙ ap (λ (v : Signature). v.order) c.signature.ensures);
-      first_belongs = search rules;
-      second_belongs = search rules;
-      place = search rules;
     }
+
+pub add_product-requires-clause-f_of : goal.add_product-requires-clause-f_of
+add_product-requires-clause-f_of g c = all_at (Belongs (g.R.OreRing.sig c.args.ring.now)) _ _ _ c.entry.ensures c.requires.c_of
 
 pub add_product-requires-clause-g_of : goal.add_product-requires-clause-g_of
 add_product-requires-clause-g_of g c =
     let s = g.R.OreRing.sig c.args.ring.now in
-    let rests = Zip-more c.loop-f.f-iterator c.next.new.self _ _ c.in-Some.is c.next.ensures.steps in
-    all_at (Belongs s) _ c.args.j _ c.entry.ensures (all_first (All (Belongs s)) _ _ _ rests.1 c.loop-f.invariant.second_belongs)
+    all_at (Belongs s) _ c.args.j _ c.entry-in-loop-k.ensures (all_at (All (Belongs s)) _ _ _ c.row.ensures.value c.requires.m_of)
 
 pub returns-in_err-acc-clause-gives : goal.returns-in_err-acc-clause-gives
 returns-in_err-acc-clause-gives g c =
     let s = g.R.OreRing.sig c.args.ring.now in
-    let j = c.args.j in
+    let ks = c.args.nonzero.now in
+    let n = c.loop-k.k-index in
+    let k = get_or ks n 0 in
+    let row = c.args.c.now in
+    let rows = c.args.m.now.rows in
     let p = err_from_is_err_and c.from_residual.result c.from_residual.ensures.1 in
-    let rests = Zip-more c.loop-f.f-iterator c.next.new.self _ _ c.in-Some.is c.next.ensures.steps in
-    let same = entry_place c.in-Some.row.now j c.entry.result.now c.entry.ensures in
     rw (p.1, p.2) (fails_like _ _ _
-    (λ e h. sym c.loop-f.invariant.told
-    ∙ folded_stops (λ (w : Ordered). w.sum) sums_of (λ (r : List (Operator rationals)). get_or r j (empty_sum rationals plain_cmp)) (product_added program s) c.loop-f.acc.sum e _ _ _ _ c.in-Some.f.now c.in-Some.row.now rests.0 rests.1
-    (ap (λ (v : Operator rationals). product_added program s c.loop-f.acc.sum (c.in-Some.f.now.sum, v)) same ∙ h))
+    (λ e h. sym c.loop-k.invariant.told
+    ∙ place_stops (added_at program s (sums_of row) (places c.args.j rows)) ks n c.loop-k.acc.sum e c.loop-k-test.true
+    (added_there program s row rows k c.args.j c.entry.result.now c.row.result.now c.entry-in-loop-k.result.now c.loop-k.acc.sum c.entry.ensures c.row.ensures.value c.entry-in-loop-k.ensures ∙ h))
     c.in_err-acc.ensures.gives)
 
-pub loop-f-preserved : goal.loop-f-preserved
-loop-f-preserved g c =
+pub loop-k-preserved : goal.loop-k-preserved
+loop-k-preserved g c =
     let s = g.R.OreRing.sig c.args.ring.now in
-    let j = c.args.j in
-    let rests = Zip-more c.loop-f.f-iterator c.next.new.self _ _ c.in-Some.is c.next.ensures.steps in
-    let same = entry_place c.in-Some.row.now j c.entry.result.now c.entry.ensures in
+    let ks = c.args.nonzero.now in
+    let n = c.loop-k.k-index in
+    let k = get_or ks n 0 in
+    let row = c.args.c.now in
+    let rows = c.args.m.now.rows in
     record {
       told =
-          sym (folded_next (λ (w : Ordered). w.sum) sums_of (λ (r : List (Operator rationals)). get_or r j (empty_sum rationals plain_cmp)) (product_added program s) c.loop-f.acc.sum c.in_ok-acc.acc.sum _ _ _ _ c.in-Some.f.now c.in-Some.row.now rests.0 rests.1
-          (ap (λ (v : Operator rationals). product_added program s c.loop-f.acc.sum (c.in-Some.f.now.sum, v)) same ∙ c.in_ok-acc.ensures.gives))
-          ∙ c.loop-f.invariant.told;
+          sym (place_next (added_at program s (sums_of row) (places c.args.j rows)) ks n c.loop-k.acc.sum c.in_ok-acc.acc.sum c.loop-k-test.true
+          (added_there program s row rows k c.args.j c.entry.result.now c.row.result.now c.entry-in-loop-k.result.now c.loop-k.acc.sum c.entry.ensures c.row.ensures.value c.entry-in-loop-k.ensures ∙ c.in_ok-acc.ensures.gives))
+          ∙ c.loop-k.invariant.told;
       belongs = c.in_ok-acc.ensures.of;
-      first_belongs = all_rest (Belongs s) _ _ _ rests.0 c.loop-f.invariant.first_belongs;
-      second_belongs = all_rest (All (Belongs s)) _ _ _ rests.1 c.loop-f.invariant.second_belongs;
-      place = all_rest (λ (r : List Ordered). j < length r) _ _ _ rests.1 c.loop-f.invariant.place;
     }
 
 pub returns-clause-gives : goal.returns-clause-gives
 returns-clause-gives g c =
     let s = g.R.OreRing.sig c.args.ring.now in
-    sym c.loop-f.invariant.told
-    ∙ folded_end (λ (w : Ordered). w.sum) sums_of (λ (r : List (Operator rationals)). get_or r c.args.j (empty_sum rationals plain_cmp)) (product_added program s) c.loop-f.acc.sum _ _ (either_empty_from_Zip c.loop-f.f-iterator c.next.new.self _ c.in-None.is c.next.ensures.steps)
+    sym c.loop-k.invariant.told
+    ∙ places_end (added_at program s (sums_of c.args.c.now) (places c.args.j c.args.m.now.rows)) c.args.nonzero.now c.loop-k.k-index c.loop-k.acc.sum c.loop-k-test.false

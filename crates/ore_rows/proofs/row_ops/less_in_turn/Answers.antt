@@ -1,16 +1,16 @@
 use Rattle.std.proofs.Common.{◌≡◌, ◌<◌, length, get_or, set, rules, refl, sym, ap, ◌∙◌, arith}
-use Rattle.std.proofs.lemmas.List.{length-set}
+use Rattle.std.proofs.lemmas.List.{length-set, get_or_default}
 use Rattle.std.proofs.lemmas.Option.{get_or_from_slice_get}
 use Rattle.std.proofs.lemmas.Result.{err_from_is_err_and}
 use Rattle.ore_algebra.specs.Limits.{program}
-use Rattle.ore_rational.proofs.FractionLaws.{rationals}
+use Rattle.ore_rational.specs.Field.{rationals}
 use Rattle.ore_monomial.specs.LetterRule.{Operator}
 use Rattle.ore_monomial.proofs.Stops.{fails_like}
 use Rattle.ore_ring.specs.Belongs.{Belongs}
 use Rattle.ore_ring.specs.Ordered.{Ordered}
 use Rattle.ore_rows.specs.RowsWithin.{product_taken}
 use Rattle.ore_rows.proofs.Dots.{all_at}
-use Rattle.ore_rows.proofs.InTurn.{there, turn_kept, turn_made, turn_stops}
+use Rattle.ore_rows.proofs.InTurn.{turn_kept, turn_made, turn_stops}
 use Rattle.ore_rows.proofs.ZeroOperands.{taken_none}
 use Rattle.ore_rows.proofs.row_ops.less_in_turn.Goals as goal
 
@@ -34,7 +34,7 @@ loop-k-preserved-then-is_zero g c =
     let yl : k < length ys = omega (arith, xl, c.loop-k.invariant.wide, c.requires.lengths) in
     record {
       told =
-          sym (turn_kept value (product_taken program s d) xs ys k x y xl (there xs k y x xl) yl (sym (get_or_from_slice_get ys k y y c.entry-g.ensures))
+          sym (turn_kept value (product_taken program s d) xs ys k x y xl (get_or_default xs k y x xl) yl (sym (get_or_from_slice_get ys k y y c.entry-g.ensures))
           (ap (product_taken program s d x.sum) (c.if-is_zero.ensures.0 refl) ∙ taken_none program s d x.sum))
           ∙ c.loop-k.invariant.told;
       belongs = c.loop-k.invariant.belongs;
@@ -55,7 +55,7 @@ loop-k-preserved g c =
     let same = ap length c.into_vec-entries.ensures in
     let xl : k < length xs = omega (arith, same, c.into_vec-entries.result.ok.0, c.len-k-end.ensures, c.loop-k-test.true, c.loop-k.invariant.wide) in
     let yl : k < length ys = omega (arith, xl, c.loop-k.invariant.wide, c.requires.lengths) in
-    let xe : x ≡ get_or xs k x = c.replace-entry.ensures.value ∙ c.index_mut.ensures.value ∙ there xs k c.index_mut.result.now x xl in
+    let xe : x ≡ get_or xs k x = c.replace-entry.ensures.value ∙ c.index_mut.ensures.value ∙ get_or_default xs k c.index_mut.result.now x xl in
     record {
       told =
           sym (turn_made value (product_taken program s d) xs ys k x y xl xe yl (sym (get_or_from_slice_get ys k y y c.entry-g.ensures)) w z c.in_ok-entries.ensures.gives)
@@ -76,7 +76,7 @@ returns-in_err-entries-clause-gives g c =
     let same = ap length c.into_vec-entries.ensures in
     let xl : k < length xs = omega (arith, same, c.into_vec-entries.result.ok.0, c.len-k-end.ensures, c.loop-k-test.true, c.loop-k.invariant.wide) in
     let yl : k < length ys = omega (arith, xl, c.loop-k.invariant.wide, c.requires.lengths) in
-    let xe : x ≡ get_or xs k x = c.replace-entry.ensures.value ∙ c.index_mut.ensures.value ∙ there xs k c.index_mut.result.now x xl in
+    let xe : x ≡ get_or xs k x = c.replace-entry.ensures.value ∙ c.index_mut.ensures.value ∙ get_or_default xs k c.index_mut.result.now x xl in
     let p = err_from_is_err_and c.from_residual.result c.from_residual.ensures.1 in
     rw (p.1, p.2) (fails_like _ _ _ (λ e h. sym c.loop-k.invariant.told
     ∙ turn_stops value (product_taken program s d) xs ys k x y xl xe yl (sym (get_or_from_slice_get ys k y y c.entry-g.ensures)) e h) c.in_err-entries.ensures.gives)

@@ -1,26 +1,19 @@
 use Rattle.std.proofs.Common.{rules, sym, ap, ◌∙◌}
-use Rattle.std.specs.Iterator.Adapters.{zip_first, zip_second}
-use Rattle.std.specs.Slice.Iter.{iter_rest}
-use Rattle.std.specs.Vec.Iter.{into_iter_items}
 use Rattle.std.specs.declared.result.Result.TheVariants.{Ok}
-use Rattle.ore_algebra.specs.Limits.{program, fronted}
+use Rattle.ore_algebra.specs.Limits.{program}
 use Rattle.ore_ring.specs.Belongs.{Belongs}
 use Rattle.ore_ring.specs.Within.{minus_within}
 use Rattle.ore_ring.specs.Ordered.{Ordered}
-use Rattle.ore_rows.specs.RowsWithin.{difference_within}
 use Rattle.ore_rows.specs.Stored.{sums_of}
 use Rattle.ore_rows.proofs.Moving.{moved_more, moved_end}
-use Rattle.ore_rows.proofs.Pairs.{all_rest, both_next, both_end, both_width, shorter}
+use Rattle.ore_rows.proofs.Pairs.{all_rest, both_pushed, both_end, both_width, shorter}
 use Rattle.ore_rows.proofs.row_ops.row_take.Goals as goal
 
 pub loop-f-preserved : goal.loop-f-preserved
 loop-f-preserved g c =
     let rests = moved_more c.loop-f.f-iterator c.next.new.self _ _ c.in-Some.is c.next.ensures.steps in
     record {
-      told =
-          ap (λ o. fronted (sums_of o) (difference_within program (sums_of (into_iter_items (zip_first c.next.new.self))) (sums_of (iter_rest (zip_second c.next.new.self))))) c.in_ok-push.ensures.items
-          ∙ sym (both_next (λ (w : Ordered). w.sum) (minus_within program) c.loop-f.out.items _ _ _ _ _ _ c.in_ok-take.field-0 rests.0 rests.2 c.in_ok-take.ensures.gives)
-          ∙ c.loop-f.invariant.told;
+      told = both_pushed (λ (w : Ordered). w.sum) (minus_within program) _ _ _ _ _ _ _ _ c.in_ok-take.field-0 c.in_ok-push.ensures.items rests.0 rests.2 c.in_ok-take.ensures.gives ∙ c.loop-f.invariant.told;
       belongs = search rules;
       count = shorter _ _ _ _ _ rests.0 rests.1 c.loop-f.invariant.count;
       first_belongs = all_rest (Belongs (g.R.OreRing.sig c.args.ring.now)) _ _ _ rests.0 c.loop-f.invariant.first_belongs;

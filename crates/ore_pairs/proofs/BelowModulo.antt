@@ -5,8 +5,9 @@
 --     IsBelow, AreWeightsAtMost        all weights of a row are below t; none is above t
 --     below-zero_row, below-row_plus, below-place, below-row_scale, below-row_minus
 --     IsSubmodule              rows closed under sums and multiples by operators of the signature
---     IsNear                   a row is a member of such a module and a row below t
---     near_member, near_below, near_zero, near-row_plus, near-row_scale, near_number
+--     IsBelowModulo            a row is a member of such a module and a row below t
+--     below_modulo_member, below_modulo_below, below_modulo_zero, below_modulo_number
+--     below_modulo-row_plus, below_modulo-row_scale
 use Rattle.std.proofs.Common.{◌≡◌, ◌≢◌, ◌⊎◌, inl, inr, ⊎_elim, ℕ, ◌<◌, false, List, length, get_or, refl, sym, ap, ◌∙◌, subst}
 use Rattle.std.specs.declared.cmp.Ordering.TheVariants.{Less}
 use Rattle.std.specs.Ordering.{is_gt}
@@ -35,8 +36,8 @@ use Rattle.ore_rows.specs.Rows.{Row, RowOf, zero_row, row_plus, row_minus, row_s
 use Rattle.ore_rows.proofs.Differences.{row_minus_scaled}
 use Rattle.ore_rows.proofs.RowLaws as Rows
 use Rattle.ore_rows.proofs.RowLeads.{lead-single}
+use Rattle.ore_rows.proofs.RowLaws.{plus-zero_row}
 use Rattle.ore_pairs.specs.Steps.{lead_at}
-use Rattle.ore_pairs.proofs.RowSums.{plus-zero_row}
 use Rattle.ore_pairs.proofs.Places.{place, entry-place_same, entry-place_other}
 
 abbrev pub weight : List Term → ℕ → Monomial → Term
@@ -119,7 +120,7 @@ pub record IsSubmodule (K : Domain) (s : Signature) (n : ℕ) (N : Row K → Typ
   pub has_multiple : (d : Operator K) (r : Row K) → OperatorOf K s d → N r → N (row_scale K s d r)
 
 -- z is a member of N and a row of the signature below t
-pub record IsNear (K : Domain) (s : Signature) (o : Order) (leads : List Term) (n : ℕ) (N : Row K → Type 0) (t : Term) (z : Row K) : Type 0 where
+pub record IsBelowModulo (K : Domain) (s : Signature) (o : Order) (leads : List Term) (n : ℕ) (N : Row K → Type 0) (t : Term) (z : Row K) : Type 0 where
   pub part : Row K
   pub rest : Row K
   pub member : N part
@@ -129,20 +130,20 @@ pub record IsNear (K : Domain) (s : Signature) (o : Order) (leads : List Term) (
   pub is : z ≡ row_plus K part rest
 
 module _ (K : Domain) (s : Signature) (lawful : IsLawful s) (o : Order) (leads : List Term) (n : ℕ) (N : Row K → Type 0) (sub : IsSubmodule K s n N) where
-  abbrev Near : Term → Row K → Type 0
-  Near t z = IsNear K s o leads n N t z
+  abbrev BelowModulo : Term → Row K → Type 0
+  BelowModulo t z = IsBelowModulo K s o leads n N t z
 
-  pub near_member : (t : Term) (z : Row K) → N z → Near t z
-  near_member t z h = record { part = z; rest = zero_row K n; member = h; long = Rows.length-zero_row K s lawful n; of = Rows.of_zero_row K s n; low = below-zero_row K s lawful o leads t n; is = sym (plus-zero_row K n z (sub.long z h)) }
+  pub below_modulo_member : (t : Term) (z : Row K) → N z → BelowModulo t z
+  below_modulo_member t z h = record { part = z; rest = zero_row K n; member = h; long = Rows.length-zero_row K s lawful n; of = Rows.of_zero_row K s n; low = below-zero_row K s lawful o leads t n; is = sym (plus-zero_row K n z (sub.long z h)) }
 
-  pub near_below : (t : Term) (z : Row K) → length z ≡ n → RowOf K s z → IsBelow K o leads t z → Near t z
-  near_below t z l oz h = record { part = zero_row K n; rest = z; member = sub.has_zero; long = l; of = oz; low = h; is = sym (Rows.zero_row_plus K n z l) }
+  pub below_modulo_below : (t : Term) (z : Row K) → length z ≡ n → RowOf K s z → IsBelow K o leads t z → BelowModulo t z
+  below_modulo_below t z l oz h = record { part = zero_row K n; rest = z; member = sub.has_zero; long = l; of = oz; low = h; is = sym (Rows.zero_row_plus K n z l) }
 
-  pub near_zero : (t : Term) → Near t (zero_row K n)
-  near_zero t = near_member t _ sub.has_zero
+  pub below_modulo_zero : (t : Term) → BelowModulo t (zero_row K n)
+  below_modulo_zero t = below_modulo_member t _ sub.has_zero
 
-  pub near-row_plus : (t : Term) (a b : Row K) → Near t a → Near t b → Near t (row_plus K a b)
-  near-row_plus t a b h g = record {
+  pub below_modulo-row_plus : (t : Term) (a b : Row K) → BelowModulo t a → BelowModulo t b → BelowModulo t (row_plus K a b)
+  below_modulo-row_plus t a b h g = record {
     part = row_plus K h.part g.part;
     rest = row_plus K h.rest g.rest;
     member = sub.has_sum h.part g.part h.member g.member;
@@ -152,8 +153,8 @@ module _ (K : Domain) (s : Signature) (lawful : IsLawful s) (o : Order) (leads :
     is = (λ i. row_plus K (h.is i) (g.is i)) ∙ Rows.row_swap K _ _ _ _;
   }
 
-  pub near-row_scale : (t : Term) (w : Monomial) (j : K.Number) (z : Row K) → MonomialOf s w → Near t z → Near (shift w t) (row_scale K s (single K plain_cmp w j) z)
-  near-row_scale t w j z ow h =
+  pub below_modulo-row_scale : (t : Term) (w : Monomial) (j : K.Number) (z : Row K) → MonomialOf s w → BelowModulo t z → BelowModulo (shift w t) (row_scale K s (single K plain_cmp w j) z)
+  below_modulo-row_scale t w j z ow h =
       let od : OperatorOf K s (single K plain_cmp w j) = of_single K s w j ow in
       record {
         part = row_scale K s (single K plain_cmp w j) h.part;
@@ -165,5 +166,5 @@ module _ (K : Domain) (s : Signature) (lawful : IsLawful s) (o : Order) (leads :
         is = ap (row_scale K s (single K plain_cmp w j)) h.is ∙ Rows.scale-row_plus K s _ h.part h.rest;
       }
 
-  pub near_number : (t : Term) (j : K.Number) (z : Row K) → Near t z → Near t (row_scale K s (single K plain_cmp unit j) z)
-  near_number t j z h = subst (λ t. Near t (row_scale K s (single K plain_cmp unit j) z)) (shift_unit K s lawful o leads t) (near-row_scale t unit j z (MonomialOf-unit s) h)
+  pub below_modulo_number : (t : Term) (j : K.Number) (z : Row K) → BelowModulo t z → BelowModulo t (row_scale K s (single K plain_cmp unit j) z)
+  below_modulo_number t j z h = subst (λ t. BelowModulo t (row_scale K s (single K plain_cmp unit j) z)) (shift_unit K s lawful o leads t) (below_modulo-row_scale t unit j z (MonomialOf-unit s) h)
