@@ -17,9 +17,9 @@ use Rattle.std.specs.declared.option.Option.{Option}
 use Rattle.std.specs.declared.option.Option.TheVariants.{None, Some}
 use mathlib.Core.List.{reverse_aux}
 use Rattle.ore_expr.specs.Tokens.{Token, Number, Close}
-use Rattle.ore_expr.specs.Grammar.{Expression, Single, Negated, Sum, Difference, Alone, Product, Factor, Bare, Power, Whole, Quotient, Variable, Group, expression_tokens, IsSentence, Begins}
+use Rattle.ore_expr.specs.Grammar.{Expression, Single, Negated, Sum, Difference, Alone, Product, Factor, Bare, Power, Whole, Quotient, Variable, Group, expression_tokens, IsSentence, IsSentencePrefix}
 use Rattle.ore_expr.proofs.PartialTrees.{Outer, outer, Place, WantsOperand, Ended, WantsDenominator, WantsExponent, WantsPower, Partial, partial, first, atom_of, factor_of, term_of, expression_of, whole_of, expression_before, factor_before, sum_before, product_before, place_before, outside_before, before, moves, where_some, run}
-use Rattle.ore_expr.proofs.Moves.{whole_before, Stands, moves-before, behind, ended, ended-behind, run-expression, turned-expression}
+use Rattle.ore_expr.proofs.Moves.{whole_before, TakesToken, moves-before, behind, ended, ended-behind, run-expression, turned-expression}
 
 -- ---- lists turned round
 
@@ -90,7 +90,7 @@ tree-before (partial cs s p d) =
 turned_whole : (e : Expression) → reverse_aux (expression_before e []) [] ≡ expression_tokens e
 turned_whole e = turned-expression e [] [] ∙ append-nil (expression_tokens e)
 
-pub begun : (z : Partial) → Begins (reverse (before z))
+pub begun : (z : Partial) → IsSentencePrefix (reverse (before z))
 begun z = (
   reverse_aux (left z) [],
   (
@@ -105,10 +105,10 @@ pub turned-cons : (t : Token) (ts : List Token) → reverse (t ∷ ts) ≡ rever
 turned-cons t ts = sym (turned_onto ts (t ∷ []))
 
 pub stands_some : (z w : Partial) (t : Token) → moves z t ≡ Some w → before w ≡ t ∷ before z
-stands_some z w t e = subst (Stands z t) e (moves-before z t)
+stands_some z w t e = subst (TakesToken z t) e (moves-before z t)
 
-pub begins-moves : (z w : Partial) (t : Token) → moves z t ≡ Some w → Begins (reverse (before z) ++ t ∷ [])
-begins-moves z w t e = subst Begins (ap reverse (stands_some z w t e) ∙ turned-cons t (before z)) (begun w)
+pub begins-moves : (z w : Partial) (t : Token) → moves z t ≡ Some w → IsSentencePrefix (reverse (before z) ++ t ∷ [])
+begins-moves z w t e = subst IsSentencePrefix (ap reverse (stands_some z w t e) ∙ turned-cons t (before z)) (begun w)
 
 abbrev pub Reached : Partial → Type 0
 Reached z = (ts : List Token) → run first (reverse_aux (before z) ts) ≡ run z ts
@@ -129,7 +129,7 @@ abbrev IsSomePartial : Option Partial → Type 0
 IsSomePartial None = ⊥
 IsSomePartial (Some z) = Unit {0}
 
-pub not_begun : (z : Partial) (t : Token) → Reached z → moves z t ≡ None → ¬ Begins (reverse (before z) ++ t ∷ [])
+pub not_begun : (z : Partial) (t : Token) → Reached z → moves z t ≡ None → ¬ IsSentencePrefix (reverse (before z) ++ t ∷ [])
 not_begun z t r e (more, (x, q)) =
     subst
     IsSomePartial

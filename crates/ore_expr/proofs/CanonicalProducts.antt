@@ -21,7 +21,9 @@ use Rattle.ore_algebra.proofs.DomainLaws.{zero_plus}
 use Rattle.ore_rational.specs.Gcd.{gcd, gcd_is}
 use Rattle.ore_rational.specs.Fraction.{Fraction, whole, add}
 use Rattle.ore_rational.specs.Within.{sum_fits, sum_within, fits, product_within}
-use Rattle.ore_rational.proofs.FractionLaws.{rationals, one_apart}
+use Rattle.ore_rational.specs.Field.{rationals}
+use Rattle.ore_rational.specs.FractionRing.{one_apart}
+use Rattle.ore_rational.proofs.Bounds.{Decides-within}
 use Rattle.ore_monomial.specs.Monomial.{Monomial, exponent, degree, unit, with_exponent, product, plain_cmp}
 use Rattle.ore_monomial.specs.Signature.{Signature, kind_at, coordinate_of}
 use Rattle.ore_monomial.specs.Numbers.{numbers, numbers_within}
@@ -31,17 +33,14 @@ use Rattle.ore_monomial.proofs.Signatures.{lawful}
 use Rattle.ore_monomial.proofs.Operators
 use Rattle.ore_ring.specs.Terms.{Terms}
 use Rattle.ore_ring.specs.Within.{add_term_within, degrees_fit, contribute, pair_within, row_within, times_within}
-use Rattle.ore_ring.proofs.AdjointParts.{MeetsNone}
+use Rattle.ore_ring.specs.Meets.{MeetsNone}
 use Rattle.ore_ring.proofs.PlainNumbers.{plain_numbers}
 use Rattle.ore_ring.proofs.Falls.{single_falling}
 
 -- ---- numbers
 
-within : (n : ℕ) → n < 2 ^ 127 → is_within program.magnitude n ≡ true
-within n h = le-leb n 170141183460469231731687303715884105727 (omega arith)
-
 within_abs : (x y : ℤ) → x ≡ y → nat_abs y < 2 ^ 127 → is_within program.magnitude (nat_abs x) ≡ true
-within_abs x y e h = ap (λ z. is_within program.magnitude (nat_abs z)) e ∙ within (nat_abs y) h
+within_abs x y e h = ap (λ z. is_within program.magnitude (nat_abs z)) e ∙ (Decides-within (nat_abs y)).1 h
 
 all_four : (a b c d : Bool) → a ≡ true → b ≡ true → c ≡ true → d ≡ true → (a && (b && (c && d))) ≡ true
 all_four a b c d p q r s = λ i. p i && (q i && (r i && s i))
@@ -60,7 +59,7 @@ pub record IsSmallFraction (k : Fraction) : Type 0 where
 module _ (k : Fraction) (h : IsSmallFraction k) where
   fraction_fits : fits program k ≡ true
   unfolding fits
-  fraction_fits = λ i. within (nat_abs k.num) h.numerator i && within k.den h.denominator i
+  fraction_fits = λ i. (Decides-within (nat_abs k.num)).1 h.numerator i && (Decides-within k.den).1 h.denominator i
 
   none-times : (n : ℕ) → pos 0 *ℤ pos n ≡ pos 0
   none-times n = ap pos (zero-mul n)
@@ -82,7 +81,7 @@ module _ (k : Fraction) (h : IsSmallFraction k) where
       (within_abs (pos 0 *ℤ pos (k.den / 1)) (pos 0) (none-times (k.den / 1)) (omega arith))
       (within_abs (k.num *ℤ pos 1) k.num (times_one k.num) h.numerator)
       (within_abs ((pos 0 *ℤ pos (k.den / 1)) +ℤ (k.num *ℤ pos 1)) k.num (zero-plus (k.den / 1)) h.numerator)
-      (within (1 * (k.den / rest)) (once_less (k.den / rest) k.den less h.denominator))
+      ((Decides-within (1 * (k.den / rest))).1 (once_less (k.den / rest) k.den less h.denominator))
 
   product_one : product_within program k (whole (pos 1)) ≡ Ok k
   unfolding product_within
@@ -100,7 +99,7 @@ module _ (k : Fraction) (h : IsSmallFraction k) where
   unfolding contribute
   contributed p = ap (λ r. r >>= λ c. add_term_within program (empty_sum rationals plain_cmp) p c) product_one ∙ add_to_none p
 
-  module _ (s : Signature) (m n : Monomial) (meets : MeetsNone integers s m n) where
+  module _ (s : Signature) (m n : Monomial) (meets : MeetsNone s m n) where
     pair : pair_within program s (m, k) (empty_sum rationals plain_cmp) (n, whole (pos 1)) ≡ Ok (single rationals plain_cmp (product m n) k)
     unfolding pair_within numbers_within
     pair =
@@ -163,7 +162,7 @@ module _ (x : ℕ) (M m : Monomial) (e : ℕ) (l : x < 12) (eq : exponent M x �
   before : (y : ℕ) → exponent m y ≢ 0 → y < x
   before y n = ⊎_elim (λ c. absurd (n (p.above y c.1))) (λ c. c.1) (leb_tells x y)
 
-  meets_none : (s : Signature) → MeetsNone integers s m (with_exponent x e unit)
+  meets_none : (s : Signature) → MeetsNone s m (with_exponent x e unit)
   meets_none s y acts there = at_other (coordinate_of (kind_at s y)) (let c = (lawful s y acts).0 in let b = before y there in omega arith)
 
   degree_most : degree m + degree (with_exponent x e unit) ≤ degree M

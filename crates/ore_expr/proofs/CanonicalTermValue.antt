@@ -13,7 +13,9 @@ use Rattle.std.proofs.lemmas.Bool.Decides.{nat_tests}
 use Rattle.ore_algebra.specs.Free.{single}
 use Rattle.ore_algebra.specs.Limits.{Cause, program, ◌>>=◌}
 use Rattle.ore_rational.specs.Fraction.{Fraction, whole, reduce}
-use Rattle.ore_rational.proofs.FractionLaws.{rationals, one_apart, zero-num, same, is_self, reduce_is, same_parts}
+use Rattle.ore_rational.specs.Field.{rationals}
+use Rattle.ore_rational.specs.FractionRing.{one_apart, zero-num, same, is_self, reduce_is}
+use Rattle.ore_rational.proofs.FractionLaws.{same_parts}
 use Rattle.ore_monomial.specs.Monomial.{Monomial, exponent, degree, unit, with_exponent, product, plain_cmp}
 use Rattle.ore_monomial.specs.Signature.{Signature, MonomialOf}
 use Rattle.ore_monomial.specs.LetterRule.{Operator}

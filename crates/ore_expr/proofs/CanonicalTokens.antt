@@ -1,14 +1,15 @@
 -- The tokens of a text that is put together from numbers, names, symbols and spaces.
 --     Spells                  wherever a text stands, these are its tokens
---     Stops                   no number and no name goes on into what follows
+--     EndsName                no number and no name goes on into what follows
 --     Piece                   a text whose tokens come first, before any text that doesn't go on with it
 --     spells_none             no bytes spell no tokens
 --     spells_space, spells_token     a text with a space in front, with a token in front
 --     piece_number, piece_name       a number and a name
 --     piece_between           two pieces with a symbol between them
-use Rattle.std.proofs.Common.{◌≡◌, ℕ, suc, ◌-◌, ◌<◌, Bool, true, false, cond, ◌||◌, List, [], ◌∷◌, ◌++◌, length, refl, sym, ap, ◌∙◌, arith, append_assoc}
+use Rattle.ore_text.proofs.ByteTests.{letter_no_digit, digit_true}
+use Rattle.std.proofs.Common.{◌≡◌, ℕ, suc, ◌-◌, Bool, true, false, cond, ◌||◌, List, [], ◌∷◌, ◌++◌, length, refl, sym, ap, ◌∙◌, arith, append_assoc}
 use Rattle.std.specs.Prelude.{nat_eq, if◌then◌else◌, take_while}
-use Rattle.std.specs.Char.{digit_value, is_ascii_digit, is_ascii_alphabetic}
+use Rattle.std.specs.Char.{is_ascii_digit, is_ascii_alphabetic}
 use Rattle.std.specs.List.{AllByRecursion, AllPass}
 use Rattle.std.specs.Str.Parse.{AllDigits, IsNumeral}
 use Rattle.std.proofs.lemmas.Bool.Decides.{nat_tests}
@@ -19,12 +20,12 @@ use Rattle.ore_expr.specs.Tokens.{is_name_byte, IsName, Token, Number, Name, sym
 abbrev pub Spells : List ℕ → List Token → Type 0
 Spells text ts = (k : ℕ) → tokens_of (lexemes_from 0 k text) ≡ ts
 
-abbrev pub Stops : List ℕ → Type 0
-Stops [] = Unit {0}
-Stops (b ∷ bs) = is_name_byte b ≡ false
+abbrev pub EndsName : List ℕ → Type 0
+EndsName [] = Unit {0}
+EndsName (b ∷ bs) = is_name_byte b ≡ false
 
 abbrev pub Piece : List ℕ → List Token → Type 0
-Piece text ts = (rest : List ℕ) (us : List Token) → Stops rest → Spells rest us → Spells (text ++ rest) (ts ++ us)
+Piece text ts = (rest : List ℕ) (us : List Token) → EndsName rest → Spells rest us → Spells (text ++ rest) (ts ++ us)
 
 -- ---- one token
 
@@ -66,16 +67,13 @@ none_of false false true d e = cc
 none_of false true c d e = cc
 none_of true b c d e = cc
 
-no_digit : (rest : List ℕ) → Stops rest → Ends is_ascii_digit rest
+no_digit : (rest : List ℕ) → EndsName rest → Ends is_ascii_digit rest
 no_digit [] s = tt
 no_digit (b ∷ rest) s = (none_of _ _ _ _ s).0
 
-no_name : (rest : List ℕ) → Stops rest → Ends is_name_byte rest
+no_name : (rest : List ℕ) → EndsName rest → Ends is_name_byte rest
 no_name [] s = tt
 no_name (b ∷ rest) s = s
-
-digit_true : (c : ℕ) → digit_value c < 10 → is_ascii_digit c ≡ true
-digit_true c h = grind (arith, nat_tests)
 
 digits_true : (ds : List ℕ) → AllDigits 10 ds → AllByRecursion (λ c. is_ascii_digit c ≡ true) ds
 digits_true [] h = tt
@@ -86,9 +84,6 @@ digit_no_space c h = grind (arith, nat_tests)
 
 letter_no_space : (c : ℕ) → is_ascii_alphabetic c ≡ true → nat_eq c 32 ≡ false
 letter_no_space c h = grind (arith, nat_tests)
-
-letter_no_digit : (c : ℕ) → is_ascii_alphabetic c ≡ true → is_ascii_digit c ≡ false
-letter_no_digit c h = grind (arith, nat_tests)
 
 less_one : (n : ℕ) → suc n - 1 ≡ n
 less_one n = omega arith

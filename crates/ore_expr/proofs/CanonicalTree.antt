@@ -26,7 +26,7 @@ use Rattle.ore_expr.specs.Tokens.{IsName, Token, Number, Name, Plus, Minus, Star
 use Rattle.ore_expr.specs.Grammar.{Expression, Single, Negated, Sum, Difference, Term, Alone, Product, Factor, Bare, Power, Atom, Whole, Quotient, Variable, expression_tokens, term_tokens, factor_tokens, atom_tokens}
 use Rattle.ore_text.specs.CanonicalText.{factor_texts, magnitude_text, is_one, with_factors, sign_text, term_text, later_text, terms_text}
 use Rattle.ore_expr.specs.Laws.{IsStorableTerm}
-use Rattle.ore_expr.proofs.CanonicalTokens.{Spells, Stops, Piece, spells_none, spells_space, spells_token, piece_number, piece_name, piece_between}
+use Rattle.ore_expr.proofs.CanonicalTokens.{Spells, EndsName, Piece, spells_none, spells_space, spells_token, piece_number, piece_name, piece_between}
 
 -- ---- trees
 
@@ -179,11 +179,11 @@ module _ (names : List (List ℕ)) (form : AllByRecursion IsName names) where
   term_piece : (t : OneTerm) → IsStorableTerm t → Piece (term_text names t) (term_tokens (term_tree names t))
   term_piece t h = with_piece t.1 (factor_texts names t.0.exponents) (factor_trees names t.0.exponents) (magnitude_piece t.1 h.numerator h.denominator) (factor_pieces names t.0.exponents form (small_sum t h.degree))
 
-  later_stops : (ts : Terms) → Stops (flat_map (later_text names) ts)
+  later_stops : (ts : Terms) → EndsName (flat_map (later_text names) ts)
   later_stops [] = tt
   later_stops (t ∷ ts) = by t.1.num
     where
-      by : (z : ℤ) → Stops ((sign_text z (codes " + ") (codes " - ") ++ term_text names t) ++ flat_map (later_text names) ts)
+      by : (z : ℤ) → EndsName ((sign_text z (codes " + ") (codes " - ") ++ term_text names t) ++ flat_map (later_text names) ts)
       by (pos n) = refl
       by (negsuc n) = refl
 

@@ -20,7 +20,9 @@ use Rattle.ore_algebra.proofs.FreeLaws
 use Rattle.ore_algebra.proofs.DomainLaws.{zero_plus}
 use Rattle.ore_rational.specs.Fraction.{Fraction, whole, neg, add}
 use Rattle.ore_rational.specs.Within.{sum_fits}
-use Rattle.ore_rational.proofs.FractionLaws.{rationals, fraction_discrete, same_parts, neg-num, neg-den}
+use Rattle.ore_rational.specs.Field.{rationals}
+use Rattle.ore_rational.specs.FractionRing.{fraction_discrete}
+use Rattle.ore_rational.proofs.FractionLaws.{same_parts, neg-num, neg-den}
 use Rattle.ore_monomial.specs.Monomial.{Monomial, plain_cmp, order_cmp}
 use Rattle.ore_monomial.specs.declared.order.Order.{Order}
 use Rattle.ore_monomial.specs.Numbers.{back}

@@ -1,5 +1,5 @@
 -- The instructions that a text is read as are of the declared names, and their exponents within the limit.
---     IsDueOf, IsStateOf        a variable that is due to be used is declared; the instructions so far are such
+--     IsDueOf, IsParserStateOf  a variable that is due to be used is declared; the instructions so far are such
 --     takes_token-of            a token leaves that so
 --     parse-of                  so the instructions of a text are such
 --     Reads-ok                  a call that reads by a function answers with what holds of what the function gives
@@ -65,7 +65,7 @@ module _ (count : ℕ) where
   IsDueOf (Exponent x) = x < count
   IsDueOf due = Unit {0}
 
-  pub record IsStateOf (s : State) : Type 0 where
+  pub record IsParserStateOf (s : State) : Type 0 where
     pub due : IsDueOf s.due
     pub made : All (IsOf count) s.made
 
@@ -92,7 +92,7 @@ module _ (count : ℕ) where
   ends_sum-of waiting.Add = All-one code.Add tt
   ends_sum-of waiting.Subtract = All-one code.Subtract tt
 
-  module _ (s : State) (of : IsStateOf s) where
+  module _ (s : State) (of : IsParserStateOf s) where
     ends_product-of : All (IsOf count) (ends_product s)
     ends_product-of =
         All-append (IsOf count) s.made (ends_atom s.due ++ ends_factor s.level.product) of.made
@@ -101,32 +101,32 @@ module _ (count : ℕ) where
     ends_term-of : All (IsOf count) (ends_term s)
     ends_term-of = All-append (IsOf count) (ends_product s) (ends_sum s.level.sum) ends_product-of (ends_sum-of s.level.sum)
 
-    number_atom-of : (place n : ℕ) → IfOk (number_atom s place n) IsStateOf
-    number_atom-of place n = fault_where-ok IsStateOf _ _ (goes_on s (AfterNumber (pos n)) s.made) (λ small. record { due = tt; made = of.made })
+    number_atom-of : (place n : ℕ) → IfOk (number_atom s place n) IsParserStateOf
+    number_atom-of place n = fault_where-ok IsParserStateOf _ _ (goes_on s (AfterNumber (pos n)) s.made) (λ small. record { due = tt; made = of.made })
 
-    takes_number-of : (place n : ℕ) (due : Due) → IsDueOf due → IfOk (takes_number s place n due) IsStateOf
+    takes_number-of : (place n : ℕ) (due : Due) → IsDueOf due → IfOk (takes_number s place n due) IsParserStateOf
     takes_number-of place n Start h = number_atom-of place n
     takes_number-of place n Operand h = number_atom-of place n
     takes_number-of place n (Denominator m) h =
-        fault_where-ok IsStateOf _ _ (fault_where (nat_lt greatest_number n) (fault.NumberTooWide place) (goes_on s AfterAtom (s.made ++ code.Constant (reduce m n) ∷ [])))
-        (λ above. fault_where-ok IsStateOf _ _ (goes_on s AfterAtom (s.made ++ code.Constant (reduce m n) ∷ [])) (λ small. record { due = tt; made = All-push (IsOf count) s.made (code.Constant _) of.made tt }))
+        fault_where-ok IsParserStateOf _ _ (fault_where (nat_lt greatest_number n) (fault.NumberTooWide place) (goes_on s AfterAtom (s.made ++ code.Constant (reduce m n) ∷ [])))
+        (λ above. fault_where-ok IsParserStateOf _ _ (goes_on s AfterAtom (s.made ++ code.Constant (reduce m n) ∷ [])) (λ small. record { due = tt; made = All-push (IsOf count) s.made (code.Constant _) of.made tt }))
     takes_number-of place n (Exponent x) h =
-        fault_where-ok IsStateOf _ _ (goes_on s AfterFactor (s.made ++ code.Power x n ∷ []))
+        fault_where-ok IsParserStateOf _ _ (goes_on s AfterFactor (s.made ++ code.Power x n ∷ []))
         (λ small. record { due = tt; made = All-push (IsOf count) s.made (code.Power x n) of.made (h, nat_lt_false n greatest_exponent small) })
-    takes_number-of place n Power h = fault_where-ok IsStateOf _ _ (goes_on s AfterFactor (s.made ++ code.Raise n ∷ [])) (λ small. record { due = tt; made = All-push (IsOf count) s.made (code.Raise n) of.made tt })
+    takes_number-of place n Power h = fault_where-ok IsParserStateOf _ _ (goes_on s AfterFactor (s.made ++ code.Raise n ∷ [])) (λ small. record { due = tt; made = All-push (IsOf count) s.made (code.Raise n) of.made tt })
     takes_number-of place n (AfterNumber m) h = tt
     takes_number-of place n (AfterName x) h = tt
     takes_number-of place n AfterAtom h = tt
     takes_number-of place n AfterFactor h = tt
 
-    takes_name-of : (place : ℕ) (o : Option ℕ) → IfSome o (λ x. x < count) → IfOk (takes_name s place o) IsStateOf
+    takes_name-of : (place : ℕ) (o : Option ℕ) → IfSome o (λ x. x < count) → IfOk (takes_name s place o) IsParserStateOf
     takes_name-of place None h = tt
     takes_name-of place (Some x) h = record { due = h; made = of.made }
 
-    takes_sum-of : (sum : Waiting) → IfOk (takes_sum s sum) IsStateOf
+    takes_sum-of : (sum : Waiting) → IfOk (takes_sum s sum) IsParserStateOf
     takes_sum-of sum = record { due = tt; made = ends_term-of }
 
-    takes_minus-of : (place : ℕ) (due : Due) → IfOk (takes_minus s place due) IsStateOf
+    takes_minus-of : (place : ℕ) (due : Due) → IfOk (takes_minus s place due) IsParserStateOf
     takes_minus-of place Start = record { due = tt; made = All-push (IsOf count) s.made (code.Constant _) of.made tt }
     takes_minus-of place Operand = tt
     takes_minus-of place (AfterNumber n) = takes_sum-of waiting.Subtract
@@ -137,7 +137,7 @@ module _ (count : ℕ) where
     takes_minus-of place Power = tt
     takes_minus-of place AfterFactor = takes_sum-of waiting.Subtract
 
-    takes_slash-of : (place : ℕ) (due : Due) → IfOk (takes_slash s place due) IsStateOf
+    takes_slash-of : (place : ℕ) (due : Due) → IfOk (takes_slash s place due) IsParserStateOf
     takes_slash-of place (AfterNumber n) = record { due = tt; made = of.made }
     takes_slash-of place Start = tt
     takes_slash-of place Operand = tt
@@ -148,7 +148,7 @@ module _ (count : ℕ) where
     takes_slash-of place Power = tt
     takes_slash-of place AfterFactor = tt
 
-    takes_caret-of : (place : ℕ) (due : Due) → IsDueOf due → IfOk (takes_caret s place due) IsStateOf
+    takes_caret-of : (place : ℕ) (due : Due) → IsDueOf due → IfOk (takes_caret s place due) IsParserStateOf
     takes_caret-of place (AfterNumber n) h = record { due = tt; made = All-push (IsOf count) s.made (code.Constant _) of.made tt }
     takes_caret-of place (AfterName x) h = record { due = h; made = of.made }
     takes_caret-of place AfterAtom h = record { due = tt; made = of.made }
@@ -159,11 +159,11 @@ module _ (count : ℕ) where
     takes_caret-of place Power h = tt
     takes_caret-of place AfterFactor h = tt
 
-    takes_open-of : (place : ℕ) → IfOk (takes_open s place) IsStateOf
+    takes_open-of : (place : ℕ) → IfOk (takes_open s place) IsParserStateOf
     takes_open-of place =
-        fault_where-ok IsStateOf _ _ (Ok (record { due = Start; level = no_level; outside = s.level ∷ s.outside; made = s.made })) (λ room. record { due = tt; made = of.made })
+        fault_where-ok IsParserStateOf _ _ (Ok (record { due = Start; level = no_level; outside = s.level ∷ s.outside; made = s.made })) (λ room. record { due = tt; made = of.made })
 
-    takes_close-of : (place : ℕ) (outside : List Level) → IfOk (takes_close s place outside) IsStateOf
+    takes_close-of : (place : ℕ) (outside : List Level) → IfOk (takes_close s place outside) IsParserStateOf
     takes_close-of place [] = tt
     takes_close-of place (level ∷ outside) = record { due = tt; made = ends_term-of }
 
@@ -175,25 +175,25 @@ module _ (count : ℕ) where
         by false = tt
 
 module _ (names : List (List ℕ)) where
-  pub takes_token-of : (s : State) → IsStateOf (length names) s → (place : ℕ) (token : Token) → IfOk (takes_token names s place token) (IsStateOf (length names))
+  pub takes_token-of : (s : State) → IsParserStateOf (length names) s → (place : ℕ) (token : Token) → IfOk (takes_token names s place token) (IsParserStateOf (length names))
   takes_token-of s of place (Number digits) = takes_number-of (length names) s of place (digits_value 10 digits) s.due of.due
-  takes_token-of s of place (Name name) = taken_where-ok (IsStateOf (length names)) (wants_atom s.due) place _ (takes_name-of (length names) s of place (index_of names name) (index_of-below names name))
-  takes_token-of s of place Plus = taken_where-ok (IsStateOf (length names)) (has_value s.due) place _ (takes_sum-of (length names) s of waiting.Add)
+  takes_token-of s of place (Name name) = taken_where-ok (IsParserStateOf (length names)) (wants_atom s.due) place _ (takes_name-of (length names) s of place (index_of names name) (index_of-below names name))
+  takes_token-of s of place Plus = taken_where-ok (IsParserStateOf (length names)) (has_value s.due) place _ (takes_sum-of (length names) s of waiting.Add)
   takes_token-of s of place Minus = takes_minus-of (length names) s of place s.due
-  takes_token-of s of place Star = taken_where-ok (IsStateOf (length names)) (has_value s.due) place _ (record { due = tt; made = ends_product-of (length names) s of })
+  takes_token-of s of place Star = taken_where-ok (IsParserStateOf (length names)) (has_value s.due) place _ (record { due = tt; made = ends_product-of (length names) s of })
   takes_token-of s of place Slash = takes_slash-of (length names) s of place s.due
   takes_token-of s of place Caret = takes_caret-of (length names) s of place s.due of.due
-  takes_token-of s of place Open = taken_where-ok (IsStateOf (length names)) (wants_atom s.due) place _ (takes_open-of (length names) s of place)
-  takes_token-of s of place Close = taken_where-ok (IsStateOf (length names)) (has_value s.due) place _ (takes_close-of (length names) s of place s.outside)
+  takes_token-of s of place Open = taken_where-ok (IsParserStateOf (length names)) (wants_atom s.due) place _ (takes_open-of (length names) s of place)
+  takes_token-of s of place Close = taken_where-ok (IsParserStateOf (length names)) (has_value s.due) place _ (takes_close-of (length names) s of place s.outside)
   takes_token-of s of place (Stray b) = tt
 
-  follow-of : (xs : List Lexeme) (s : State) → IsStateOf (length names) s → IfOk (follow names s xs) (IsStateOf (length names))
+  follow-of : (xs : List Lexeme) (s : State) → IsParserStateOf (length names) s → IfOk (follow names s xs) (IsParserStateOf (length names))
   follow-of [] s of = of
-  follow-of (x ∷ xs) s of = bind-ok (IsStateOf (length names)) (IsStateOf (length names)) _ _ (takes_token-of s of x.place x.token) (λ t after. follow-of xs t after)
+  follow-of (x ∷ xs) s of = bind-ok (IsParserStateOf (length names)) (IsParserStateOf (length names)) _ _ (takes_token-of s of x.place x.token) (λ t after. follow-of xs t after)
 
   pub parse-of : (text : List ℕ) → IfOk (parse names text) (All (IsOf (length names)))
   parse-of text =
-      bind-ok (IsStateOf (length names)) (All (IsOf (length names))) _ _ (follow-of (lexemes text) start (record { due = tt; made = All-nil (IsOf (length names)) }))
+      bind-ok (IsParserStateOf (length names)) (All (IsOf (length names))) _ _ (follow-of (lexemes text) start (record { due = tt; made = All-nil (IsOf (length names)) }))
       (λ s of. ends-of (length names) s of (length text))
 
 -- what a call answers has what the function that it reads by gives

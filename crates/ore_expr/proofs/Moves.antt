@@ -1,6 +1,6 @@
 -- How partial trees go on.
 --     whole_before              the tokens of a tree that ends where its parts end
---     Stands, moves-before      a token that is taken stands before what follows
+--     TakesToken, moves-before  a token that is taken stands before what follows
 --     ending_of, behind_factor, behind_term, behind     the parts where a factor, a term, an expression ends
 --     ended, ended-behind       the expression that ends where its parts end; behind an expression it is this one
 --     run-expression            the tokens of an expression lead behind it
@@ -28,16 +28,16 @@ whole_before s p f others = expression_of-before s (term_of p f) others ∙ term
 
 -- ---- a token that is taken
 
-abbrev pub Stands : Partial → Token → Option Partial → Type 0
-Stands z t None = Unit {0}
-Stands z t (Some w) = before w ≡ t ∷ before z
+abbrev pub TakesToken : Partial → Token → Option Partial → Type 0
+TakesToken z t None = Unit {0}
+TakesToken z t (Some w) = before w ≡ t ∷ before z
 
-sign-before : (cs : List Outer) (p : ProductSide) (s : SumSide) → Stands (partial cs s p WantsOperand) Minus (moves_sign cs p s)
+sign-before : (cs : List Outer) (p : ProductSide) (s : SumSide) → TakesToken (partial cs s p WantsOperand) Minus (moves_sign cs p s)
 sign-before cs NoFactor NoTerm = refl
 sign-before cs NoFactor s = tt
 sign-before cs (ProductWith t) s = tt
 
-pub moves-before : (z : Partial) (t : Token) → Stands z t (moves z t)
+pub moves-before : (z : Partial) (t : Token) → TakesToken z t (moves z t)
 moves-before (partial cs s p WantsOperand) (Number digits) = refl
 moves-before (partial cs s p (WantsDenominator n)) (Number digits) = refl
 moves-before (partial cs s p (WantsExponent x)) (Number digits) = refl

@@ -7,12 +7,11 @@
 --     constant_pushed, power_pushed     one of these on top
 --     raise_none, raise_ok, raise_stops    the same of factors of the top
 --     power_next, power_stops           one factor more, and where it stops
---     sum-power, power_is               the exponents of a power of a variable
 --     unit_of, power_of                 the monomial 1, and a power of a declared variable, are of the signature
 --     term_belongs, zero_belongs        one term of such a monomial, and zero, belong to it
 --     last_stack, top_value, top_none               the operator on top in the end, where there is one and where there is none
-use Rattle.std.proofs.Common.{◌≡◌, ℕ, zero, suc, ◌+◌, ◌<◌, ◌≤◌, List, [], ◌∷◌, ◌++◌, length, drop, map, reverse, replicate, set, pos, refl, sym, ap, ◌∙◌, subst, append_assoc, arith}
-use Rattle.std.proofs.lemmas.List.{map-append, reverse-append, length-set, drop_all}
+use Rattle.std.proofs.Common.{◌≡◌, ℕ, zero, suc, ◌+◌, ◌<◌, ◌≤◌, List, [], ◌∷◌, ◌++◌, length, drop, map, reverse, pos, refl, sym, ap, ◌∙◌, subst, append_assoc, arith}
+use Rattle.std.proofs.lemmas.List.{map-append, reverse-append, drop_all}
 use Rattle.std.proofs.lemmas.List.Elements.{All-pop}
 use Rattle.std.specs.declared.option.Option.TheVariants.{Some}
 use native.Mathlib.Decide.{ℕ_discrete}
@@ -22,12 +21,12 @@ use Rattle.std.specs.List.{All, sum}
 use Rattle.ore_algebra.specs.Free.{single}
 use Rattle.ore_algebra.specs.Limits.{Limits, Cause, ◌>>=◌, fold_within}
 use Rattle.ore_rational.specs.Fraction.{Fraction, whole}
-use Rattle.ore_rational.proofs.FractionLaws.{rationals}
-use Rattle.ore_monomial.specs.Monomial.{Monomial, monomial_of, degree, unit, with_exponent, plain_cmp}
+use Rattle.ore_rational.specs.Field.{rationals}
+use Rattle.ore_monomial.specs.Monomial.{Monomial, unit, with_exponent, plain_cmp}
 use Rattle.ore_monomial.specs.declared.order.Order.{Order}
 use Rattle.ore_monomial.specs.Signature.{Signature, MonomialOf}
 use Rattle.ore_monomial.specs.LetterRule.{Operator}
-use Rattle.ore_monomial.proofs.Monomials.{same_list, twelve_numbers, with_own, exponent-unit, exponent-other, degree-raise, raise-with}
+use Rattle.ore_monomial.proofs.Monomials.{exponent-unit, exponent-other}
 use Rattle.ore_ring.specs.Belongs.{Belongs}
 use Rattle.ore_ring.specs.Ordered.{Ordered}
 use Rattle.ore_ring.specs.Within.{times_within}
@@ -152,22 +151,6 @@ module _ (l : Limits) (s : Signature) where
   unfolding values_of
   top_none is [] e h = ap (λ r. r >>= λ gs. Ok (top l s gs)) (sym h)
   top_none is (f ∷ fs) e h = absurd (omega arith)
-
-degree_unit : degree unit ≡ 0
-unfolding degree unit
-degree_unit = refl
-
-degree-power : (x e : ℕ) → x < 12 → degree (with_exponent x e unit) ≡ e
-degree-power x zero h = ap (λ n. degree (with_exponent x n unit)) (sym (exponent-unit x)) ∙ ap degree (with_own x unit) ∙ degree_unit
-degree-power x (suc e) h = ap degree (sym (raise-with x e unit h)) ∙ degree-raise x (with_exponent x e unit) h ∙ ap suc (degree-power x e h)
-
-pub sum-power : (x e : ℕ) → x < 12 → sum (set (replicate 12 0) x e) ≡ e
-unfolding degree with_exponent unit
-sum-power x e h = degree-power x e h
-
-pub power_is : (x e : ℕ) → monomial_of (set (replicate 12 0) x e) ≡ with_exponent x e unit
-unfolding with_exponent unit
-power_is x e = same_list _ (with_exponent x e unit) (twelve_numbers (set (replicate 12 0) x e) (length-set (replicate 12 0) x e))
 
 pub unit_of : (s : Signature) → MonomialOf s unit
 unit_of s y h = exponent-unit y

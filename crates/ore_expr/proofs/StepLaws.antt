@@ -14,7 +14,7 @@ use Rattle.ore_expr.specs.declared.fault.TextFault.TheVariants as fault
 use Rattle.ore_expr.specs.Tokens.{Token, token_at, more_bytes, lexemes_from, lexemes}
 use Rattle.ore_expr.specs.Parsing.{State, start, takes_token, follow, ends, parse}
 use Rattle.ore_algebra.specs.Results.{◌>>=◌}
-use Rattle.ore_expr.specs.Reading.{told, FaultReads}
+use Rattle.ore_expr.specs.Reading.{fault_in_text, FaultReads}
 use Rattle.ore_expr.specs.ReadStep.{rest_read}
 
 lexemes-skipped : (k place b : ℕ) (bs : List ℕ) → lexemes_from (suc k) place (b ∷ bs) ≡ lexemes_from k (suc place) bs
@@ -73,7 +73,7 @@ module _ (names : List (List ℕ)) (text : List ℕ) (place : ℕ) (within : pla
 
     -- a token has a fault
     pub rest-faulty : (f : TextFault) → FaultReads f (takes_token names s place token) → FaultReads f (rest_read names text s k place)
-    rest-faulty f faulty = subst (FaultReads f) (sym rest-token) (refused_on (Unit {0}) (told f) _ (λ t. rest_read names text t (more_bytes token) (place + 1)) faulty)
+    rest-faulty f faulty = subst (FaultReads f) (sym rest-token) (refused_on (Unit {0}) (fault_in_text f) _ (λ t. rest_read names text t (more_bytes token) (place + 1)) faulty)
 
 module _ (names : List (List ℕ)) (text : List ℕ) where
   pub parse-ends : (s : State) (skipped place : ℕ) → place ≡ length text → rest_read names text s skipped place ≡ follow names start (lexemes text) → parse names text ≡ ends (length text) s
@@ -83,4 +83,4 @@ module _ (names : List (List ℕ)) (text : List ℕ) where
       ap (λ r. r >>= ends (length text)) (sym read ∙ rest)
 
   pub parse-fault : (s : State) (skipped place : ℕ) (f : TextFault) → rest_read names text s skipped place ≡ follow names start (lexemes text) → FaultReads f (rest_read names text s skipped place) → FaultReads f (parse names text)
-  parse-fault s skipped place f read faulty = refused_on (Unit {0}) (told f) (follow names start (lexemes text)) (ends (length text)) (subst (FaultReads f) read faulty)
+  parse-fault s skipped place f read faulty = refused_on (Unit {0}) (fault_in_text f) (follow names start (lexemes text)) (ends (length text)) (subst (FaultReads f) read faulty)

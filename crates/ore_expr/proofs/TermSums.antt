@@ -12,28 +12,27 @@
 use Rattle.std.proofs.Common.{zero, suc, length, drop, zero-mul, one-mul, ◌≡◌, ◌≢◌, true≢false, ℕ, ◌+◌, ◌*◌, ◌/◌, ◌<◌, ◌^◌, Bool, true, false, ◌&&◌, [], ◌∷◌, nat_le, pos, refl, sym, ap, ◌∙◌, subst, arith}
 use Rattle.std.specs.declared.option.Option.TheVariants.{None, Some}
 use Rattle.std.specs.Prelude.{slice_get, ℤ, nat_abs, ◌+ℤ◌, ◌*ℤ◌}
-use Rattle.std.specs.Ordering.{eq_by_cmp, is_eq}
-use Rattle.std.specs.Cmp.{tied_itself}
+use Rattle.std.specs.Ordering.{eq_by_cmp}
 use Rattle.std.specs.declared.result.Result.{Result}
 use Rattle.std.specs.declared.result.Result.TheVariants.{Ok, Err}
-use Rattle.std.proofs.lemmas.Bool.Decides.{nat_tests}
 use Rattle.std.proofs.lemmas.Nat.Gcd.{same_from_IsGcd}
 use Rattle.std.proofs.Math.Nat.{div-one}
 use Rattle.std.proofs.Math.IntN.{one, *ℤ-one, +ℤ_idl}
 use native.Mathlib.Nat.{one-dvd}
 use Rattle.ore_algebra.specs.Free.{coefficient, empty_sum, plus, single, sum_at, terms}
-use Rattle.ore_algebra.specs.Limits.{Limits, Cause, Overflow, program, is_within, ◌>>=◌, guard}
+use Rattle.ore_algebra.specs.Limits.{Limits, Cause, Overflow, program, ◌>>=◌, guard}
 use Rattle.ore_algebra.proofs.FreeLaws
 use Rattle.ore_rational.specs.Fraction.{Fraction, whole, add}
 use Rattle.ore_rational.specs.Gcd.{gcd, gcd_is}
 use Rattle.ore_rational.specs.Within.{sum_num, sum_fits, sum_within}
-use Rattle.ore_rational.proofs.FractionLaws.{rationals}
+use Rattle.ore_rational.specs.Field.{rationals}
+use Rattle.ore_rational.proofs.Bounds.{Decides-within}
 use Rattle.ore_monomial.specs.Monomial.{Monomial, plain_cmp}
 use Rattle.ore_monomial.specs.declared.order.Order.{Order}
 use Rattle.ore_monomial.specs.declared.order.Order.TheVariants.{DegLex}
 use Rattle.ore_monomial.specs.Signature.{Signature}
 use Rattle.ore_monomial.specs.LetterRule.{Operator}
-use Rattle.ore_monomial.proofs.Monomials.{plain_cmp_total, plain_cmp_apart}
+use Rattle.ore_monomial.proofs.Monomials.{plain_cmp_total, plain_cmp_apart, same_key, own_key}
 use Rattle.ore_monomial.proofs.Operators
 use Rattle.ore_ring.specs.Belongs.{Belongs}
 use Rattle.ore_ring.specs.Ordered.{Ordered}
@@ -56,9 +55,6 @@ one_gcd n = same_from_IsGcd 1 n (gcd 1 n) 1 (gcd_is 1 n) (one-dvd 1, one-dvd n, 
 gcd_one : (n : ℕ) → gcd n 1 ≡ 1
 gcd_one n = same_from_IsGcd n 1 (gcd n 1) 1 (gcd_is n 1) (one-dvd n, one-dvd 1, λ d u v. v)
 
-in_range : (n : ℕ) → n < 2 ^ 127 → is_within program.magnitude n ≡ true
-in_range n h = grind (arith, nat_tests)
-
 times_one : (z : ℤ) → z *ℤ pos 1 ≡ z
 unfolding one
 times_one z = *ℤ-one z
@@ -75,9 +71,9 @@ fits_alone c n d =
     let last : (1 / g) * (c.den / gcd (nat_abs num) g) ≡ c.den =
     (λ i. (1 / e i) * (c.den / gcd (nat_abs num) (e i))) ∙ ap (λ k. 1 * (c.den / k)) (gcd_one (nat_abs num)) ∙ one-mul (c.den / 1) ∙ div-one c.den in
     let first_in : nat_le (0 * (c.den / g)) most ≡ true = ap (λ k. nat_le k most) empty_sum in
-    let second_in : nat_le (nat_abs (c.num *ℤ pos (1 / g))) most ≡ true = ap (λ z. nat_le (nat_abs z) most) product ∙ in_range (nat_abs c.num) n in
-    let third_in : nat_le (nat_abs num) most ≡ true = ap (λ z. nat_le (nat_abs z) most) total ∙ in_range (nat_abs c.num) n in
-    let last_in : nat_le ((1 / g) * (c.den / gcd (nat_abs num) g)) most ≡ true = ap (λ k. nat_le k most) last ∙ in_range c.den d in
+    let second_in : nat_le (nat_abs (c.num *ℤ pos (1 / g))) most ≡ true = ap (λ z. nat_le (nat_abs z) most) product ∙ (Decides-within (nat_abs c.num)).1 n in
+    let third_in : nat_le (nat_abs num) most ≡ true = ap (λ z. nat_le (nat_abs z) most) total ∙ (Decides-within (nat_abs c.num)).1 n in
+    let last_in : nat_le ((1 / g) * (c.den / gcd (nat_abs num) g)) most ≡ true = ap (λ k. nat_le k most) last ∙ (Decides-within c.den).1 d in
     (λ i. first_in i && (second_in i && (third_in i && last_in i)))
 
 -- ---- all terms in turn
@@ -111,12 +107,6 @@ module _ (l : Limits) where
 
   abbrev with_term : Operator rationals → Term → Operator rationals
   with_term f t = plus rationals plain_cmp f (single rationals plain_cmp t.0 t.1)
-
-  own_key : (m : Monomial) → eq_by_cmp plain_cmp m m ≡ true
-  own_key m = ap is_eq (tied_itself plain_cmp_total m)
-
-  same_key : (q m : Monomial) → eq_by_cmp plain_cmp q m ≡ true → q ≡ m
-  same_key q m e = FreeLaws.same_key rationals plain_cmp_total plain_cmp_apart q m e
 
   -- the fractions of all terms, at the first monomial and elsewhere
   here : (t : Term) (ts : Terms) → AreDistinct (t ∷ ts) → at (C (t ∷ ts)) t.0 ≡ t.1

@@ -18,7 +18,7 @@ use Rattle.ore_expr.specs.declared.fault.TextFault.{TextFault}
 use Rattle.ore_expr.specs.declared.fault.TextFault.TheVariants.{Syntax, UnknownName, NumberTooWide, ZeroDenominator, PowerTooLarge, TooDeep}
 pub use Rattle.ore_text.specs.Names.{index_of}
 use Rattle.ore_expr.specs.Tokens.{Token, Number, Name, Slash, Caret, Open, Close, Lexeme, lexemes, tokens_of}
-use Rattle.ore_expr.specs.Grammar.{Expression, expression_tokens, IsSentence, Begins}
+use Rattle.ore_expr.specs.Grammar.{Expression, expression_tokens, IsSentence, IsSentencePrefix}
 
 -- 2^127 - 1
 abbrev pub greatest_number : ℕ
@@ -70,14 +70,14 @@ own_fault names before place token = None
 module _ (names : List (List ℕ)) where
   -- an expression begins with the tokens up to this one, which has no fault of its own
   pub record IsSoundAt (before : List Token) (x : Lexeme) : Type 0 where
-    pub begins : Begins (reverse before ++ x.token ∷ [])
+    pub begins : IsSentencePrefix (reverse before ++ x.token ∷ [])
     pub own : own_fault names before x.place x.token ≡ None
 
   -- a syntax fault where no expression begins with the tokens up to this one, else the fault of its own
   abbrev pub IsFaultAt : List Token → Lexeme → TextFault → Type 0
   IsFaultAt before x fault =
-      ((¬ Begins (reverse before ++ x.token ∷ [])) × (fault ≡ Syntax x.place))
-      ⊎ (Begins (reverse before ++ x.token ∷ []) × (own_fault names before x.place x.token ≡ Some fault))
+      ((¬ IsSentencePrefix (reverse before ++ x.token ∷ [])) × (fault ≡ Syntax x.place))
+      ⊎ (IsSentencePrefix (reverse before ++ x.token ∷ []) × (own_fault names before x.place x.token ≡ Some fault))
 
   -- each of the lexemes that follow is without a fault of its own
   abbrev pub IsSound : List Token → List Lexeme → Type 0

@@ -6,7 +6,7 @@
 --     Atom             a number, a quotient of numbers, a name, or an expression in parentheses
 --     expression_tokens, term_tokens, factor_tokens, atom_tokens     the spelling of each
 --     IsSentence       these tokens spell an expression
---     Begins           more tokens may follow so that all spell an expression
+--     IsSentencePrefix  more tokens may follow so that all spell an expression
 use Rattle.std.specs.Prelude.{◌≡◌, ℕ, List, [], ◌∷◌, ◌++◌}
 use Rattle.ore_expr.specs.Tokens.{Token, Number, Name, Plus, Minus, Star, Slash, Caret, Open, Close}
 
@@ -65,5 +65,5 @@ abbrev pub IsSentence : List Token → Type 0
 IsSentence ts = (e : Expression) × (ts ≡ expression_tokens e)
 
 -- with more tokens behind them, or none, they spell an expression
-abbrev pub Begins : List Token → Type 0
-Begins ts = (more : List Token) × IsSentence (ts ++ more)
+abbrev pub IsSentencePrefix : List Token → Type 0
+IsSentencePrefix ts = (more : List Token) × IsSentence (ts ++ more)

@@ -1,5 +1,5 @@
 -- What reading a text of an operator answers.
---     told             a fault, but for want of memory
+--     fault_in_text    a fault, but for want of memory
 --     FaultReads       the fault that a call answers is that which is given
 --     Reads            a call answered what a reading function gives, unless memory ran out
 --     stop_of          a cause of a stop as a fault of a text
@@ -13,7 +13,7 @@ use Rattle.std.specs.declared.result.Result.TheVariants.{Ok, Err}
 use Rattle.ore_algebra.specs.Limits.{Cause, program}
 use Rattle.ore_algebra.specs.Limits as cause
 use Rattle.ore_algebra.specs.Results.{RefusedBy, GivesBy}
-use Rattle.ore_rational.proofs.FractionLaws.{rationals}
+use Rattle.ore_rational.specs.Field.{rationals}
 use Rattle.ore_monomial.specs.Signature.{Signature}
 use Rattle.ore_monomial.specs.LetterRule.{Operator}
 use Rattle.ore_monomial.specs.declared.stop.RingStop.TheVariants as stop
@@ -24,13 +24,13 @@ use Rattle.ore_expr.specs.Grammar.{Expression}
 use Rattle.ore_expr.specs.Faults.{IsExpression, IsFault}
 use Rattle.ore_expr.specs.Values.{expression_value}
 
-abbrev pub told : TextFault → Option TextFault
-told (fault.Stop stop.Memory) = None
-told f = Some f
+abbrev pub fault_in_text : TextFault → Option TextFault
+fault_in_text (fault.Stop stop.Memory) = None
+fault_in_text f = Some f
 
 -- of want of memory it says nothing
 abbrev pub FaultReads : {Y : Type 0} → TextFault → Result Y TextFault → Type 0
-FaultReads = RefusedBy told
+FaultReads = RefusedBy fault_in_text
 
 -- a value, seen through the view, is what is given, and so is a fault but want of memory
 abbrev pub Reads : {X Y : Type 0} → (X → Y) → Result X TextFault → Result Y TextFault → Type 0

@@ -5,7 +5,7 @@
 use Rattle.std.specs.Prelude.{List, map, reverse}
 use Rattle.std.specs.declared.result.Result.{Result}
 use Rattle.ore_algebra.specs.Limits.{Limits, Cause}
-use Rattle.ore_rational.proofs.FractionLaws.{rationals}
+use Rattle.ore_rational.specs.Field.{rationals}
 use Rattle.ore_monomial.specs.Signature.{Signature}
 use Rattle.ore_monomial.specs.LetterRule.{Operator}
 use Rattle.ore_ring.specs.Ordered.{Ordered}

@@ -33,7 +33,24 @@ enum Operation {
 ///
 /// # Errors
 /// The stop of the first operation that stops, and want of memory.
+#[tactic(auto, unfolding(crate::specs::Evaluation::applied))]
 pub fn evaluate<R: OreRing>(
+    ring: &R,
+    alloc: Global,
+    instructions: &[Instruction],
+) -> Result<Op, RingStop>
+    requires { All (IsOf (length (R.sig ring.now).kinds)) instructions.now }
+    ensures gives { Gives (λ f. f.sum) result (value_of program (R.sig ring.now) instructions.now) }
+    ensures of { IfOk result (Belongs (R.sig ring.now)) }
+{
+    match instructions {
+        [Instruction::Constant(number)] => constant(ring, alloc, *number),
+        _ => evaluate_on_stack(ring, alloc, instructions),
+    }
+}
+
+// The same, on a stack; most entries are one number, which needs none.
+fn evaluate_on_stack<R: OreRing>(
     ring: &R,
     alloc: Global,
     instructions: &[Instruction],
@@ -184,12 +201,17 @@ fn raise<R: OreRing>(
     ensures of { IfOk result (λ _. AllBelong (R.sig ring.now) stack.new.items) }
 {
     let Some(f) = stack.pop() else { return Ok(()) };
-    stack.push(raised(ring, alloc, f, count)?)?;
+    stack.push(operand_power(ring, alloc, f, count)?)?;
     Ok(())
 }
 
 // The product of so many factors.
-fn raised<R: OreRing>(ring: &R, alloc: Global, f: Operand, count: u16) -> Result<Operand, RingStop>
+fn operand_power<R: OreRing>(
+    ring: &R,
+    alloc: Global,
+    f: Operand,
+    count: u16,
+) -> Result<Operand, RingStop>
     requires { Belongs (R.sig ring.now) f }
     ensures gives { Gives (λ f. f.sum) result (power_within program (R.sig ring.now) count f.sum) }
     ensures of { IfOk result (Belongs (R.sig ring.now)) }

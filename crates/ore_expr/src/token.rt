@@ -5,6 +5,8 @@ ghost use Rattle.std.specs.Char.{is_ascii_digit};
 ghost use Rattle.ore_expr.specs.Tokens.{is_name_byte as is_name_byte_of, symbol as symbol_of, token_at as token_from, more_bytes as more_bytes_of};
 ghost use Rattle.ore_expr.specs.TokenView.{token_of, IsNumeric};
 
+use ore_text::is_name_byte;
+
 /// A token, with its bytes where it is a number or a name.
 #[derive(Clone, Copy, Drop)]
 pub(crate) enum Token<'a> {
@@ -74,12 +76,6 @@ fn name_byte_count(text: &[u8]) -> usize
     ensures { result ≡ length (take_while is_name_byte_of text.now) }
 {
     text.iter().take_while(|b| is_name_byte(**b)).count()
-}
-
-fn is_name_byte(b: u8) -> bool
-    ensures { result ≡ is_name_byte_of b }
-{
-    b.is_ascii_alphanumeric() || b == b'_'
 }
 
 // The token of one byte.

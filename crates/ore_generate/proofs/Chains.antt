@@ -19,7 +19,7 @@ use Rattle.std.proofs.lemmas.List.FromFn.{length-map-range_with_len}
 use Rattle.ore_algebra.specs.Free.{single, coefficient}
 use Rattle.ore_algebra.proofs.FreeLaws
 use Rattle.ore_rational.specs.Fraction.{Fraction, whole, abs-neg}
-use Rattle.ore_rational.proofs.FractionLaws.{rationals}
+use Rattle.ore_rational.specs.Field.{rationals}
 use Rattle.ore_monomial.specs.declared.order.Order.{Order}
 use Rattle.ore_monomial.specs.Monomial.{Monomial, degree, unit, with_exponent, plain_cmp}
 use Rattle.ore_monomial.specs.LetterRule.{Operator}

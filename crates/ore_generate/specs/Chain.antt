@@ -10,7 +10,7 @@
 use Rattle.std.specs.Prelude.{ℕ, ◌+◌, ◌%◌, Bool, ◌&&◌, nat_eq, if◌then◌else◌, List, [], ◌∷◌, map, codes, pos, neg_ℤ, refl}
 use Rattle.std.specs.List.{range_with_len}
 use Rattle.ore_rational.specs.Fraction.{whole}
-use Rattle.ore_rational.proofs.FractionLaws.{rationals}
+use Rattle.ore_rational.specs.Field.{rationals}
 use Rattle.ore_monomial.specs.declared.order.Order.TheVariants.{DegRevLex}
 use Rattle.ore_monomial.specs.declared.signature.VarKind.TheVariants.{Coordinate, Differential}
 use Rattle.ore_monomial.specs.Signature.{Signature}

@@ -24,6 +24,7 @@ use Rattle.std.specs.Str.{bytes_eq}
 use Rattle.std.specs.Str.Parse.{digits_value}
 use Rattle.std.proofs.lemmas.Slice.Eq.{bytes_eq-Decides}
 use Rattle.std.proofs.lemmas.Bool.Decides.{nat_tests}
+use Rattle.std.proofs.lemmas.Option.{same_Some}
 use Rattle.ore_monomial.specs.declared.order.Order.{Order}
 use Rattle.ore_monomial.specs.Signature.{Signature, coordinate_of, step_of, is_acting, kind_at, first_fault, fault_after, or_else}
 use Rattle.ore_monomial.specs.Signature as kinds
@@ -32,7 +33,7 @@ use Rattle.ore_monomial.specs.declared.signature.VarKind.{VarKind}
 use Rattle.ore_monomial.specs.declared.signature.VarKind.TheVariants.{Coordinate, Constant, Plain, Differential, Shift, Delay}
 use Rattle.ore_monomial.specs.declared.signature.SignatureFault.{SignatureFault}
 use Rattle.ore_monomial.specs.declared.signature.SignatureFault.TheVariants.{TooMany}
-use Rattle.ore_monomial.proofs.Signatures.{lawful, step_in_range}
+use Rattle.ore_monomial.proofs.Signatures.{lawful, step_in_range, or_else_none}
 use Rattle.ore_ring.proofs.Falls.{right_true}
 use Rattle.ore_expr.specs.Tokens.{IsName}
 use Rattle.ore_expr.specs.Faults.{index_of}
@@ -41,19 +42,16 @@ use Rattle.ore_text.proofs.NameLemmas.{AreNames-push}
 use Rattle.ore_problem.specs.declared.fault.ProblemReason.{ProblemReason}
 use Rattle.ore_problem.specs.declared.fault.ProblemReason.TheVariants as reason
 use Rattle.ore_problem.specs.Lines.{Cursor, content, is_comment, words}
-use Rattle.ore_problem.specs.Declarations.{Declared, is_name, is_digits, no_coordinate, coordinate_index, step_value, named, two_words, three_words, four_words, declared_by, fault_of}
+use Rattle.ore_problem.specs.Declarations.{Declared, is_name, is_digits, no_coordinate, coordinate_index, step_value, named, two_words, three_words, four_words, declared_by, declaration_fault}
 use Rattle.ore_problem.specs.Problems.{Read, found_or, fault_or, Frame, with_declared, declared_frame, is_matrix, Declarations, declarations_of}
 use Rattle.ore_algebra.specs.Results.{◌>>=◌}
 use Rattle.ore_problem.specs.Accepted.{Declares, AllDeclare}
 use Rattle.ore_problem.proofs.AcceptedLines.{Goes, GoesFrom, cursor}
-use Rattle.ore_problem.proofs.AcceptedWords.{same_some, name_test, name_tested}
+use Rattle.ore_problem.proofs.AcceptedWords.{name_test}
+use Rattle.ore_problem.proofs.WordLemmas.{is_name_form}
 use Rattle.ore_algebra.proofs.ResultLaws.{same_ok}
 
 -- ---- faults of kinds
-
-or_else_none : (a b : Option SignatureFault) → or_else a b ≡ None → (a ≡ None) × (b ≡ None)
-or_else_none None b e = (refl, e)
-or_else_none (Some f) b e = absurd (cc)
 
 or_else_assoc : (a b c : Option SignatureFault) → or_else a (or_else b c) ≡ or_else (or_else a b) c
 or_else_assoc None b c = refl
@@ -125,7 +123,7 @@ module _ (before : List (List ℕ)) where
     where
       by : (a b : Bool) → is_name name ≡ a → (b ≡ true → Limited kind → Declares before ws name kind) → (if a && b then Some (record { name = name; kind = kind }) else None) ≡ Some d → Shows ws d
       by true true f h e =
-          let same : record { name = name; kind = kind } ≡ d = same_some (record { name = name; kind = kind }) d e in
+          let same : record { name = name; kind = kind } ≡ d = same_Some (record { name = name; kind = kind }) d e in
           subst (Shows ws) same (h refl (subst Limited (sym (ap (λ (x : Declared). x.kind) same)) l), f)
       by true false f h e = cc
       by false b f h e = cc
@@ -223,8 +221,8 @@ record IsFine (f : Frame) (d : Declared) : Type 0 where
   new : index_of f.names d.name ≡ None
   kinds_fit : first_fault (f.signature.kinds ++ d.kind ∷ []) ≡ None
 
-is_fine : (f : Frame) (d : Declared) → fault_of f.names f.signature.kinds d ≡ None → IsFine f d
-unfolding fault_of
+is_fine : (f : Frame) (d : Declared) → declaration_fault f.names f.signature.kinds d ≡ None → IsFine f d
+unfolding declaration_fault
 is_fine f d e = by (nat_le 12 (length f.signature.kinds)) (index_of f.names d.name) (first_fault (f.signature.kinds ++ d.kind ∷ [])) refl refl refl e
   where
     by : (b : Bool) (o : Option ℕ) (m : Option SignatureFault) → nat_le 12 (length f.signature.kinds) ≡ b → index_of f.names d.name ≡ o → first_fault (f.signature.kinds ++ d.kind ∷ []) ≡ m
@@ -234,8 +232,8 @@ is_fine f d e = by (nat_le 12 (length f.signature.kinds)) (index_of f.names d.na
     by false (Some x) m g h i e = cc
     by true o m g h i e = cc
 
-no_fault : (f : Frame) (d : Declared) → IsFine f d → fault_of f.names f.signature.kinds d ≡ None
-unfolding fault_of
+no_fault : (f : Frame) (d : Declared) → IsFine f d → declaration_fault f.names f.signature.kinds d ≡ None
+unfolding declaration_fault
 no_fault f d h = rw (h.few_before, h.new, h.kinds_fit) refl
 
 pub record OneMore (f g : Frame) (ws : List (List ℕ)) : Type 0 where
@@ -249,17 +247,17 @@ pub frame_back : (f : Frame) (line : ℕ) (ws : List (List ℕ)) (g : Frame) →
 unfolding declared_frame
 frame_back f line ws g a e = by (declared_by f.names ws) refl e
   where
-    grown : (d : Declared) → declared_by f.names ws ≡ Some d → (o : Option ProblemReason) → fault_of f.names f.signature.kinds d ≡ o → fault_or o line (with_declared f d) ≡ Ok g → OneMore f g ws
+    grown : (d : Declared) → declared_by f.names ws ≡ Some d → (o : Option ProblemReason) → declaration_fault f.names f.signature.kinds d ≡ o → fault_or o line (with_declared f d) ≡ Ok g → OneMore f g ws
     grown d h (Some r) k e = cc
     grown d h None k e =
         let fine = is_fine f d k in
         let shown = declares f.names ws d h (limited f.signature.kinds d.kind fine.few_before fine.kinds_fit f.signature.order) in
         subst (λ (x : Frame). OneMore f x ws) (same_ok (with_declared f d) g e)
-        (record { name = d.name; kind = d.kind; declared = shown.0; grows = with_declared_grows f d fine.kinds_fit; are = AreNames-push f.names d.name a (name_tested d.name shown.1) fine.new })
+        (record { name = d.name; kind = d.kind; declared = shown.0; grows = with_declared_grows f d fine.kinds_fit; are = AreNames-push f.names d.name a (is_name_form d.name shown.1) fine.new })
 
-    by : (o : Option Declared) → declared_by f.names ws ≡ o → (found_or o line reason.BadDeclaration >>= λ d. fault_or (fault_of f.names f.signature.kinds d) line (with_declared f d)) ≡ Ok g → OneMore f g ws
+    by : (o : Option Declared) → declared_by f.names ws ≡ o → (found_or o line reason.BadDeclaration >>= λ d. fault_or (declaration_fault f.names f.signature.kinds d) line (with_declared f d)) ≡ Ok g → OneMore f g ws
     by None h e = cc
-    by (Some d) h e = grown d h (fault_of f.names f.signature.kinds d) refl e
+    by (Some d) h e = grown d h (declaration_fault f.names f.signature.kinds d) refl e
 
 -- ---- all declarations
 

@@ -3,7 +3,7 @@
 --     header_back, header_due      the first line
 --     order_back, order_due        the second line
 --     end_back, end_due            the last line
---     Stands                       from a cursor to another the lines of a problem stand
+--     HasProblemLines              from a cursor to another the lines of a problem stand
 --     prefix_stands                they stand where a problem is read at the front
 --     stands_prefix                and where they stand, it is read
 --     lines_accepted               the lines of a problem are those of an accepted text
@@ -13,7 +13,7 @@ use Rattle.std.proofs.Common.{◌≡◌, ℕ, suc, ◌+◌, List, [], ◌∷◌,
 use Rattle.std.specs.Prelude.{codes}
 use Rattle.std.specs.declared.result.Result.TheVariants.{Ok}
 use Rattle.std.specs.List.{AllZip}
-use Rattle.ore_rational.proofs.FractionLaws.{rationals}
+use Rattle.ore_rational.specs.Field.{rationals}
 use Rattle.ore_monomial.specs.declared.order.Order.{Order}
 use Rattle.ore_monomial.specs.SignatureCode.{signature_of}
 use Rattle.ore_text.specs.Names.{AreNames}
@@ -21,7 +21,7 @@ use Rattle.ore_rows.specs.Rows.{Row}
 use Rattle.ore_problem.specs.declared.fault.ProblemReason.TheVariants as reason
 use Rattle.ore_problem.specs.Lines.{Cursor, at_start, raw_lines, words}
 use Rattle.ore_problem.specs.ProblemText.{order_word}
-use Rattle.ore_problem.specs.Problems.{System, Read, Frame, accepted_where, found_or, are_words, line_due, header_after, order_of, order_after, is_matrix, Declarations, declarations_after, sizes_of, rows_after, end_after, prefix_of, ends_there, problem_of}
+use Rattle.ore_problem.specs.Problems.{System, Read, Frame, accepted_where, found_or, are_words, line_due, header_after, order_named, order_after, is_matrix, Declarations, declarations_after, sizes_of, rows_after, end_after, prefix_of, ends_there, problem_of}
 use Rattle.ore_algebra.specs.Results.{◌>>=◌}
 use Rattle.ore_problem.specs.Accepted.{counted, LastCounts, AllDeclare, IsRow, Accepted}
 use Rattle.ore_problem.specs.Laws.{IsReadExactly}
@@ -61,10 +61,10 @@ end_due c l ls goal w g = let a = due c l ls goal g in (a.0, rw (a.1, w) refl, a
 order_back : (c : Cursor) (x : Order × Cursor) (ls : List (List ℕ)) (goal : Cursor) → order_after c ≡ Ok x → GoesFrom x.1 ls goal → (l : List ℕ) × (words l ≡ codes "order" ∷ order_word x.0 ∷ []) × GoesFrom c (l ∷ ls) goal
 unfolding order_after
 order_back c x ls goal e g =
-    let a = bound (line_due c) (λ y. found_or (order_of (words y.0)) y.1.line reason.Header >>= λ o. Ok (o, y.1)) x e in
-    let b = bound (found_or (order_of (words a.0.0)) a.0.1.line reason.Header) (λ o. Ok (o, a.0.1)) x a.2 in
+    let a = bound (line_due c) (λ y. found_or (order_named (words y.0)) y.1.line reason.Header >>= λ o. Ok (o, y.1)) x e in
+    let b = bound (found_or (order_named (words a.0.0)) a.0.1.line reason.Header) (λ o. Ok (o, a.0.1)) x a.2 in
     let same = same_ok (b.0, a.0.1) x b.2 in
-    let o = found (order_of (words a.0.0)) a.0.1.line reason.Header b.0 b.1 in (
+    let o = found (order_named (words a.0.0)) a.0.1.line reason.Header b.0 b.1 in (
       a.0.0,
       order_words (words a.0.0) b.0 o ∙ ap (λ (y : Order × Cursor). codes "order" ∷ order_word y.0 ∷ []) same,
       due_back c a.0.0 a.0.1 ls goal a.1 (goes_same b.0 a.0.1 x ls goal same g),
@@ -72,12 +72,12 @@ order_back c x ls goal e g =
 
 order_due : (c : Cursor) (l : List ℕ) (o : Order) (ls : List (List ℕ)) (goal : Cursor) → words l ≡ codes "order" ∷ order_word o ∷ [] → GoesFrom c (l ∷ ls) goal → (d : Cursor) × (order_after c ≡ Ok (o, d)) × GoesFrom d ls goal
 unfolding order_after
-order_due c l o ls goal w g = let a = due c l ls goal g in let k = ap order_of w ∙ order_of-words o in (a.0, rw (a.1, k) refl, a.2)
+order_due c l o ls goal w g = let a = due c l ls goal g in let k = ap order_named w ∙ order_of-words o in (a.0, rw (a.1, k) refl, a.2)
 
 -- ---- a problem
 
 -- from a cursor these lines lead to another, and they are those of a problem
-pub record Stands (c : Cursor) (p : System) (goal : Cursor) : Type 0 where
+pub record HasProblemLines (c : Cursor) (p : System) (goal : Cursor) : Type 0 where
   pub first : List ℕ
   pub order : List ℕ
   pub declarations : List (List ℕ)
@@ -188,7 +188,7 @@ module _ (p : System) (goal : Cursor) where
       let b = bound (sizes_of a.0.cursor.line a.0.sizes) (λ n. rows_read a.0.frame n a.0.cursor) (p, goal) a.2 in
       body_found o c a.0 b.0 a.1 b.1 b.2
 
-  front_stands : (text : List ℕ) (c : Cursor) (o : Order × Cursor) → header_after (at_start text) ≡ Ok c → order_after c ≡ Ok o → BodyStands o.0 o.1 p → Stands (at_start text) p goal
+  front_stands : (text : List ℕ) (c : Cursor) (o : Order × Cursor) → header_after (at_start text) ≡ Ok c → order_after c ≡ Ok o → BodyStands o.0 o.1 p → HasProblemLines (at_start text) p goal
   front_stands text c o e f rest =
       let lines = rest.declarations ++ rest.matrix ∷ (rest.rows ++ rest.last ∷ []) in
       let second = order_back c o lines goal f rest.goes in
@@ -210,7 +210,7 @@ module _ (p : System) (goal : Cursor) where
         last_words = rest.last_words;
       }
 
-  pub prefix_stands : (text : List ℕ) → prefix_of text ≡ Ok (p, goal) → Stands (at_start text) p goal
+  pub prefix_stands : (text : List ℕ) → prefix_of text ≡ Ok (p, goal) → HasProblemLines (at_start text) p goal
   unfolding prefix_of
   prefix_stands text e =
       let a = bound (header_after (at_start text)) order_read (p, goal) e in
@@ -245,7 +245,7 @@ module _ (p : System) (goal : Cursor) where
       ap (λ r. r >>= sizes_read) b.reads
       ∙ sizes_go (record { frame = b.frame; sizes = words matrix; cursor = b.behind }) rows last same h z w b.goes
 
-  pub stands_prefix : (text : List ℕ) → Stands (at_start text) p goal → prefix_of text ≡ Ok (p, goal)
+  pub stands_prefix : (text : List ℕ) → HasProblemLines (at_start text) p goal → prefix_of text ≡ Ok (p, goal)
   unfolding prefix_of
   stands_prefix text h =
       let body = h.declarations ++ h.matrix ∷ (h.rows ++ h.last ∷ []) in
@@ -257,7 +257,7 @@ module _ (p : System) (goal : Cursor) where
 
 -- ---- whole texts
 
-accepted_stands : (text : List ℕ) (p : System) (rest : List (List ℕ)) (c : Cursor) → c.left ≡ raw_lines text ++ rest → Accepted text p → Stands c p (over c.line c.used (raw_lines text) rest)
+accepted_stands : (text : List ℕ) (p : System) (rest : List (List ℕ)) (c : Cursor) → c.left ≡ raw_lines text ++ rest → Accepted text p → HasProblemLines c p (over c.line c.used (raw_lines text) rest)
 accepted_stands text p rest c e h = record {
   first = h.header;
   order = h.order;
@@ -277,7 +277,7 @@ accepted_stands text p rest c e h = record {
 }
 
 -- what stands between two cursors is accepted as the text that has these lines
-pub lines_accepted : (text : List ℕ) (p : System) (c goal : Cursor) (h : Stands c p goal) → counted (raw_lines text) ≡ h.first ∷ h.order ∷ (h.declarations ++ h.matrix ∷ (h.rows ++ h.last ∷ [])) → LastCounts (raw_lines text) → Accepted text p
+pub lines_accepted : (text : List ℕ) (p : System) (c goal : Cursor) (h : HasProblemLines c p goal) → counted (raw_lines text) ≡ h.first ∷ h.order ∷ (h.declarations ++ h.matrix ∷ (h.rows ++ h.last ∷ [])) → LastCounts (raw_lines text) → Accepted text p
 lines_accepted text p c goal h lines last = record {
   header = h.first;
   order = h.order;
@@ -299,7 +299,7 @@ lines_accepted text p c goal h lines last = record {
   last_words = h.last_words;
 }
 
-stands_accepted : (text : List ℕ) (p : System) (goal : Cursor) → goal.left ≡ [] → Stands (at_start text) p goal → Accepted text p
+stands_accepted : (text : List ℕ) (p : System) (goal : Cursor) → goal.left ≡ [] → HasProblemLines (at_start text) p goal → Accepted text p
 stands_accepted text p goal e h =
     let all = goes_all 0 0 (raw_lines text) (h.first ∷ h.order ∷ (h.declarations ++ h.matrix ∷ (h.rows ++ h.last ∷ []))) goal h.goes e in
     lines_accepted text p (at_start text) goal h all.0 all.1

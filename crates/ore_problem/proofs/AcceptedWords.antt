@@ -1,29 +1,29 @@
 -- What the tests of the reader show, one at a time.
---     same_some                           values that are equal under Some are equal
 --     passed_test, found                  a test that was passed; a value that was found
 --     same_words                          words that pass the test are these
 --     deg_lex_words, deg_rev_lex_words    the words of the second line, for each order
 --     order_words, order_of-words         the words of an order, from the reader's and to it
---     name_test, name_tested              a name passes the test of names, and nothing else does
+--     name_test                           a name passes the test of names
 --     decimal_count, decimal_value        a number up to 64, as a text, is a count; the digits of a number have its
 --                                         value
 --     AreSizes, size_words, sizes_of-words    the words of a matrix line
 use Rattle.std.proofs.Common.{◌≡◌, ℕ, zero, suc, ◌<◌, ◌≤◌, ◌^◌, Bool, true, false, ◌&&◌, not, List, [], ◌∷◌, length, refl, sym, ap, ◌∙◌, subst, arith}
-use Rattle.std.specs.Prelude.{if◌then◌else◌, nat_eq, nat_lt, nat_le, codes, decimal}
+use Rattle.std.specs.Prelude.{if◌then◌else◌, nat_eq, nat_lt, codes, decimal}
 use Rattle.std.specs.declared.option.Option.{Option}
 use Rattle.std.specs.declared.option.Option.TheVariants.{None, Some}
 use Rattle.std.specs.declared.result.Result.TheVariants.{Ok, Err}
-use Rattle.std.specs.Char.{is_ascii_digit, is_ascii_alphabetic, digit_value}
+use Rattle.std.specs.Char.{is_ascii_digit, digit_value}
 use Rattle.std.specs.List.{list_all}
 use Rattle.std.specs.Fmt.{digits}
 use Rattle.std.specs.Str.{bytes_eq}
 use Rattle.std.specs.Str.Parse.{AllDigits, digits_value}
 use Rattle.std.proofs.lemmas.Slice.Eq.{bytes_eq-Decides}
-use Rattle.std.proofs.lemmas.List.Sums.{AllPass-from_list_all, list_all-from_AllPass}
-use Rattle.std.proofs.lemmas.Bool.{le-leb, leb-true}
+use Rattle.std.proofs.lemmas.List.Sums.{list_all-from_AllPass}
+use Rattle.std.proofs.lemmas.Bool.{le-leb}
 use Rattle.std.proofs.lemmas.Bool.Decides.{nat_tests}
 use Rattle.std.proofs.lemmas.Fmt.{decimal-digits_value, decimal_is_IsNumeral}
 use Rattle.std.proofs.lemmas.Str.Parse.{numerals_by_value, tells_digits}
+use Rattle.std.proofs.lemmas.Option.{same_Some}
 use Rattle.ore_algebra.proofs.ResultLaws.{same_ok}
 use Rattle.ore_monomial.specs.declared.order.Order.{Order}
 use Rattle.ore_monomial.specs.declared.order.Order.TheVariants.{DegLex, DegRevLex}
@@ -33,14 +33,11 @@ use Rattle.ore_problem.specs.declared.fault.ProblemReason.{ProblemReason}
 use Rattle.ore_problem.specs.declared.fault.ProblemReason.TheVariants as reason
 use Rattle.ore_problem.specs.Lines.{Cursor}
 use Rattle.ore_problem.specs.Declarations.{is_name, is_digits, is_count}
-use Rattle.ore_problem.specs.Problems.{Read, accepted_where, fault_at, found_or, are_words, order_of, is_matrix, sizes_of}
+use Rattle.ore_problem.specs.Problems.{Read, accepted_where, fault_at, found_or, are_words, order_named, is_matrix, sizes_of}
 use Rattle.ore_algebra.specs.Results.{◌>>=◌}
 use Rattle.ore_problem.specs.ProblemText.{order_word}
 
 -- ---- readings
-
-pub same_some : {A : Type 0} (x y : A) → Some x ≡ Some y → x ≡ y
-same_some x y e = cc
 
 pub passed_test : {A : Type 0} (b : Bool) (c : Cursor) (r : ProblemReason) (x y : A) → accepted_where b c r x ≡ Ok y → (b ≡ true) × (x ≡ y)
 passed_test true c r x y e = (refl, same_ok x y e)
@@ -64,18 +61,18 @@ deg_lex_words = codes "order" ∷ codes "deglex" ∷ []
 abbrev pub deg_rev_lex_words : List (List ℕ)
 deg_rev_lex_words = codes "order" ∷ codes "degrevlex" ∷ []
 
-pub order_words : (ws : List (List ℕ)) (o : Order) → order_of ws ≡ Some o → ws ≡ codes "order" ∷ order_word o ∷ []
+pub order_words : (ws : List (List ℕ)) (o : Order) → order_named ws ≡ Some o → ws ≡ codes "order" ∷ order_word o ∷ []
 order_words ws o e = by (are_words ws deg_lex_words) (are_words ws deg_rev_lex_words) (same_words ws deg_lex_words) (same_words ws deg_rev_lex_words) e
   where
     spelled : (u : Order) → Some u ≡ Some o → ws ≡ codes "order" ∷ order_word u ∷ [] → ws ≡ codes "order" ∷ order_word o ∷ []
-    spelled u e f = f ∙ ap (λ x. codes "order" ∷ order_word x ∷ []) (same_some u o e)
+    spelled u e f = f ∙ ap (λ x. codes "order" ∷ order_word x ∷ []) (same_Some u o e)
 
     by : (b c : Bool) → (b ≡ true → ws ≡ deg_lex_words) → (c ≡ true → ws ≡ deg_rev_lex_words) → (if b then Some DegLex else if c then Some DegRevLex else None) ≡ Some o → ws ≡ codes "order" ∷ order_word o ∷ []
     by true c f g e = spelled DegLex e (f refl)
     by false true f g e = spelled DegRevLex e (g refl)
     by false false f g e = cc
 
-pub order_of-words : (o : Order) → order_of (codes "order" ∷ order_word o ∷ []) ≡ Some o
+pub order_of-words : (o : Order) → order_named (codes "order" ∷ order_word o ∷ []) ≡ Some o
 order_of-words DegLex = refl
 order_of-words DegRevLex = refl
 
@@ -84,14 +81,6 @@ order_of-words DegRevLex = refl
 pub name_test : (name : List ℕ) → IsName name → is_name name ≡ true
 name_test [] h = absurd h
 name_test (b ∷ bs) h = λ i. h.0 i && (le-leb (length bs) 15 h.1 i && list_all-from_AllPass is_name_byte bs h.2 i)
-
-pub name_tested : (name : List ℕ) → is_name name ≡ true → IsName name
-name_tested [] h = cc
-name_tested (b ∷ bs) h =
-    let short = nat_le (length bs) 15 in
-    let rest = list_all is_name_byte bs in
-    let more = right_true (is_ascii_alphabetic b) (short && rest) h in
-    (left_true (is_ascii_alphabetic b) (short && rest) h, leb-true (length bs) 15 (left_true short rest more), AllPass-from_list_all is_name_byte bs (right_true short rest more))
 
 -- ---- counts
 

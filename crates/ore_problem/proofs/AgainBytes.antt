@@ -3,7 +3,7 @@
 --     IsPlain, AllPlain       each byte of a text is plain; of each of some texts
 --     IsBare                  each byte of a text is of a name
 --     Lacks                   a byte stands nowhere in a text
---     list_all-weaker, all_append    a weaker test passes too; a fact of all of two lists
+--     all_append                     a fact of all of two lists
 --     plain_lacks, bare_lacks        so it is where the byte isn't plain; isn't of a name
 --     plain_bare              a text with bytes of names alone is plain
 --     plain_append, plain_cons    plain texts in a row, and a plain byte before one
@@ -13,21 +13,22 @@
 --     plain_operator          an operator is plain
 use Rattle.std.proofs.Common.{◌≡◌, ℕ, zero, suc, ◌/◌, ◌%◌, ◌<◌, Bool, true, false, not, ◌&&◌, ◌||◌, if◌then◌else◌, List, [], ◌∷◌, ◌++◌, refl, sym, ap, ◌∙◌, arith, ℤ, pos, negsuc, true≢false}
 use Rattle.std.specs.Prelude.{nat_eq, nat_abs, decimal, codes}
-use Rattle.std.specs.Char.{is_ascii_alphabetic}
 use Rattle.std.specs.Fmt.{digits, digits_onto, digit_glyph}
 use Rattle.std.specs.List.{list_all, join_with_byte, flat_map, AllByRecursion}
 use Rattle.std.proofs.lemmas.List.Folds.{list_all-append}
 use Rattle.std.proofs.lemmas.List.Sums.{list_all-from_AllPass}
 use Rattle.std.proofs.lemmas.Bool.Decides.{nat_tests}
+use Rattle.std.proofs.lemmas.Bool.{or_left}
+use Rattle.ore_algebra.proofs.ListLaws.{list_all-weaker}
 use Rattle.ore_rational.specs.Fraction.{Fraction}
-use Rattle.ore_rational.proofs.FractionLaws.{rationals}
+use Rattle.ore_rational.specs.Field.{rationals}
 use Rattle.ore_monomial.specs.declared.order.Order.{Order}
 use Rattle.ore_monomial.specs.LetterRule.{Operator}
 use Rattle.ore_ring.specs.Terms.{Term, Terms, falling}
-use Rattle.ore_ring.proofs.Falls.{left_true, right_true}
 use Rattle.ore_expr.specs.Tokens.{IsName, is_name_byte}
 use Rattle.ore_text.specs.Names.{AreNames}
 use Rattle.ore_text.specs.CanonicalText.{power_text, factor_texts, magnitude_text, is_one, with_factors, term_text, sign_text, later_text, terms_text, operator_text}
+use Rattle.ore_text.proofs.ByteTests.{letter_in_name}
 
 abbrev pub is_mark : ℕ → Bool
 is_mark b = nat_eq b 32 || (nat_eq b 42 || (nat_eq b 43 || (nat_eq b 45 || (nat_eq b 47 || nat_eq b 94))))
@@ -50,10 +51,6 @@ Lacks byte text = list_all (λ b. not (nat_eq b byte)) text ≡ true
 
 -- ---- tests of bytes
 
-pub list_all-weaker : (p q : ℕ → Bool) → ((b : ℕ) → p b ≡ true → q b ≡ true) → (xs : List ℕ) → list_all p xs ≡ true → list_all q xs ≡ true
-list_all-weaker p q w [] h = refl
-list_all-weaker p q w (x ∷ xs) h = λ i. w x (left_true (p x) (list_all p xs) h) i && list_all-weaker p q w xs (right_true (p x) (list_all p xs) h) i
-
 other_byte : (p : ℕ → Bool) (byte : ℕ) → p byte ≡ false → (b : ℕ) → p b ≡ true → not (nat_eq b byte) ≡ true
 other_byte p byte n b h = by (nat_eq b byte) refl
   where
@@ -67,13 +64,9 @@ plain_lacks byte n text h = list_all-weaker is_plain (λ b. not (nat_eq b byte))
 pub bare_lacks : (byte : ℕ) → is_name_byte byte ≡ false → (text : List ℕ) → IsBare text → Lacks byte text
 bare_lacks byte n text h = list_all-weaker is_name_byte (λ b. not (nat_eq b byte)) (other_byte is_name_byte byte n) text h
 
-either_true : (a b : Bool) → a ≡ true → (a || b) ≡ true
-either_true true b e = refl
-either_true false b e = absurd (true≢false (sym e))
-
 bare_byte : (b : ℕ) → is_name_byte b ≡ true → is_plain b ≡ true
 unfolding is_plain
-bare_byte b h = either_true (is_name_byte b) (is_mark b) h
+bare_byte b h = or_left (is_name_byte b) (is_mark b) h
 
 pub plain_bare : (text : List ℕ) → IsBare text → IsPlain text
 plain_bare text h = list_all-weaker is_name_byte is_plain bare_byte text h
@@ -130,12 +123,9 @@ plain_decimal n = plain_bare (decimal n) (bare_decimal n)
 
 -- ---- names
 
-letter_is_bare : (b : ℕ) → is_ascii_alphabetic b ≡ true → is_name_byte b ≡ true
-letter_is_bare b h = grind (arith, nat_tests)
-
 pub bare_name : (name : List ℕ) → IsName name → IsBare name
 bare_name [] h = absurd h
-bare_name (b ∷ bs) h = λ i. letter_is_bare b h.0 i && list_all-from_AllPass is_name_byte bs h.2 i
+bare_name (b ∷ bs) h = λ i. letter_in_name b h.0 i && list_all-from_AllPass is_name_byte bs h.2 i
 
 -- ---- operators
 

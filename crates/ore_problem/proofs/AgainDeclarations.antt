@@ -2,21 +2,20 @@
 --     index_of-get_or         a name is found by its index
 --     number_word, name_word  a number and a name are words
 --     words_of, line_of       the words of a declaration, and its line without its end
---     IsNext                  a name and its kind stand behind these in the signature
+--     IsDeclaredAt            a name and its kind stand behind these in the signature
 --     declares_words          the words declare the name and its kind
 --     all_declare             the lines declare all names and kinds, and the text has these lines
 use Rattle.std.proofs.Common.{◌≡◌, ◌≢◌, ℕ, zero, suc, ◌<◌, ◌≤◌, ◌^◌, Bool, true, false, List, [], ◌∷◌, ◌++◌, length, map, get_or, refl, sym, ap, ◌∙◌, subst, arith, append_assoc, length-append}
 use Rattle.std.specs.Prelude.{if◌then◌else◌, ◌&&◌, decimal}
 use Rattle.std.specs.declared.option.Option.TheVariants.{Some}
 use Rattle.std.specs.Option.{option_map}
-use Rattle.std.specs.Char.{is_ascii_digit, digit_value}
+use Rattle.std.specs.Char.{is_ascii_digit}
 use Rattle.std.specs.List.{AllByRecursion, list_all, join_with_byte, zip}
 use Rattle.std.specs.Str.{bytes_eq}
 use Rattle.std.specs.Str.Parse.{AllDigits, IsNumeral}
 use Rattle.std.proofs.Math.Seq.{get_or-append_seam}
 use Rattle.std.proofs.lemmas.List.{get_or_append_left}
 use Rattle.std.proofs.lemmas.Slice.Eq.{bytes_eq-Decides}
-use Rattle.std.proofs.lemmas.Bool.Decides.{nat_tests}
 use Rattle.std.proofs.lemmas.Fmt.{decimal_is_IsNumeral}
 use Rattle.ore_monomial.specs.Signature.{Signature, kind_at, is_acting, coordinate_of, step_of}
 use Rattle.ore_monomial.specs.declared.signature.VarKind.{VarKind}
@@ -25,9 +24,10 @@ use Rattle.ore_monomial.proofs.Signatures.{lawful, step_in_range}
 use Rattle.ore_expr.specs.Tokens.{IsName}
 use Rattle.ore_expr.specs.Faults.{index_of}
 use Rattle.ore_text.specs.Names.{IsDistinct, AreNames}
+use Rattle.ore_text.proofs.ByteTests.{digit_true}
 use Rattle.ore_problem.specs.Lines.{is_some_byte}
 use Rattle.ore_problem.specs.Declarations.{is_digits}
-use Rattle.ore_problem.specs.ProblemText.{kind_word, kind_words, declaration_text}
+use Rattle.ore_problem.specs.ProblemText.{declaration_word, declaration_words, declaration_text}
 use Rattle.ore_problem.specs.Accepted.{Declares, AllDeclare}
 use Rattle.ore_problem.proofs.AcceptedDeclarations.{all_front}
 use Rattle.ore_problem.proofs.AgainBytes.{bare_decimal, bare_name}
@@ -55,12 +55,9 @@ distinct_front (x ∷ xs) y ys h = ((all_front (λ m. m ≢ x) xs y ys h.0).0, d
 
 -- ---- steps
 
-digit_test : (c : ℕ) → digit_value c < 10 → is_ascii_digit c ≡ true
-digit_test c h = grind (arith, nat_tests)
-
 all_tests : (ds : List ℕ) → AllDigits 10 ds → list_all is_ascii_digit ds ≡ true
 all_tests [] h = refl
-all_tests (c ∷ cs) h = λ i. digit_test c h.0 i && all_tests cs h.1 i
+all_tests (c ∷ cs) h = λ i. digit_true c h.0 i && all_tests cs h.1 i
 
 numeral_test : (ds : List ℕ) → IsNumeral 10 ds → is_digits ds ≡ true
 numeral_test [] h = absurd (omega arith)
@@ -81,13 +78,13 @@ name_word (b ∷ bs) h = (refl, bare_name (b ∷ bs) h)
 
 module _ (s : Signature) (all : List (List ℕ)) (are : AreNames all) where
   abbrev words_of : List ℕ × VarKind → List (List ℕ)
-  words_of d = kind_word d.1 ∷ d.0 ∷ kind_words all d.1
+  words_of d = declaration_word d.1 ∷ d.0 ∷ declaration_words all d.1
 
   abbrev pub line_of : List ℕ × VarKind → List ℕ
   line_of d = join_with_byte 32 (words_of d)
 
   -- what stands before the name and its kind, and what behind them
-  record IsNext (before : List (List ℕ)) (kbefore : List VarKind) (name : List ℕ) (kind : VarKind) (names : List (List ℕ)) (ks : List VarKind) : Type 0 where
+  record IsDeclaredAt (before : List (List ℕ)) (kbefore : List VarKind) (name : List ℕ) (kind : VarKind) (names : List (List ℕ)) (ks : List VarKind) : Type 0 where
     names_stand : all ≡ before ++ name ∷ names
     kinds_stand : s.kinds ≡ kbefore ++ kind ∷ ks
     same_count : length before ≡ length kbefore
@@ -98,7 +95,7 @@ module _ (s : Signature) (all : List (List ℕ)) (are : AreNames all) where
     index : is_acting kind ≡ true → index_of before (get_or all (coordinate_of kind) []) ≡ Some (coordinate_of kind)
     within : is_acting kind ≡ true → coordinate_of kind < length all
 
-  keeps : (before : List (List ℕ)) (kbefore : List VarKind) (name : List ℕ) (kind : VarKind) (names : List (List ℕ)) (ks : List VarKind) → IsNext before kbefore name kind names ks → Keeps before kind
+  keeps : (before : List (List ℕ)) (kbefore : List VarKind) (name : List ℕ) (kind : VarKind) (names : List (List ℕ)) (ks : List VarKind) → IsDeclaredAt before kbefore name kind names ks → Keeps before kind
   keeps before kbefore name kind names ks h =
       let here : kind_at s (length kbefore) ≡ kind = ap (λ ms. get_or ms (length kbefore) Constant) h.kinds_stand ∙ get_or-append_seam kbefore kind ks Constant in
       let count = h.same_count in
@@ -140,7 +137,7 @@ module _ (s : Signature) (all : List (List ℕ)) (are : AreNames all) where
   are_words before name (Shift on step) n k = ((refl, refl), (name_word name n, (other_word on (k.within refl), (number_word step (less_64 step k.step), tt))))
   are_words before name (Delay on step) n k = ((refl, refl), (name_word name n, (other_word on (k.within refl), (number_word step (less_64 step k.step), tt))))
 
-  name_at : (before : List (List ℕ)) (kbefore : List VarKind) (name : List ℕ) (kind : VarKind) (names : List (List ℕ)) (ks : List VarKind) → IsNext before kbefore name kind names ks → IsName name
+  name_at : (before : List (List ℕ)) (kbefore : List VarKind) (name : List ℕ) (kind : VarKind) (names : List (List ℕ)) (ks : List VarKind) → IsDeclaredAt before kbefore name kind names ks → IsName name
   name_at before kbefore name kind names ks h = (all_front IsName before name names (subst (AllByRecursion IsName) h.names_stand are.form)).1
 
   -- ---- all declarations
@@ -154,11 +151,11 @@ module _ (s : Signature) (all : List (List ℕ)) (are : AreNames all) where
   all_declare before kbefore [] (k ∷ ks) e f g h = absurd (omega arith)
   all_declare before kbefore (n ∷ names) [] e f g h = absurd (omega arith)
   all_declare before kbefore (n ∷ names) (k ∷ ks) e f g h =
-      let next : IsNext before kbefore n k names ks = record { names_stand = e; kinds_stand = f; same_count = g } in
+      let next : IsDeclaredAt before kbefore n k names ks = record { names_stand = e; kinds_stand = f; same_count = g } in
       let kept = keeps before kbefore n k names ks next in
       let ws = are_words before n k (name_at before kbefore n k names ks next) kept in
       let longer : length (before ++ n ∷ []) ≡ length (kbefore ++ k ∷ []) = omega (arith, length-append before (n ∷ []), length-append kbefore (k ∷ [])) in
       let more = all_declare (before ++ n ∷ []) (kbefore ++ k ∷ []) names ks (e ∙ sym (append_assoc before (n ∷ []) names)) (f ∙ sym (append_assoc kbefore (k ∷ []) ks)) longer (omega arith) in (
-        (subst (λ vs. Declares before vs n k) (sym (words_joined (kind_word k) (n ∷ kind_words all k) ws)) (declares_words before n k kept), more.0),
+        (subst (λ vs. Declares before vs n k) (sym (words_joined (declaration_word k) (n ∷ declaration_words all k) ws)) (declares_words before n k kept), more.0),
         (prints_line (line_of (n, k)) (plain_line (line_of (n, k)) (plain_joined (words_of (n, k)) ws)), more.1),
       )

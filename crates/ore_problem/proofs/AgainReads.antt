@@ -7,7 +7,7 @@ use Rattle.std.proofs.Common.{◌≡◌, ℕ, ◌+◌, ◌<◌, ◌≤◌, ◌^�
 use Rattle.std.specs.Prelude.{codes, decimal}
 use Rattle.std.specs.declared.result.Result.TheVariants.{Ok}
 use Rattle.std.specs.List.{AllByRecursion, AllZip, join_with_byte, flat_map, zip}
-use Rattle.ore_rational.proofs.FractionLaws.{rationals}
+use Rattle.ore_rational.specs.Field.{rationals}
 use Rattle.ore_monomial.specs.declared.order.Order.{Order}
 use Rattle.ore_monomial.specs.declared.order.Order.TheVariants.{DegLex, DegRevLex}
 use Rattle.ore_text.specs.RowText.{row_text}
@@ -17,7 +17,7 @@ use Rattle.ore_problem.specs.ProblemText.{order_word, declaration_text, matrix_t
 use Rattle.ore_problem.specs.Problems.{System}
 use Rattle.ore_problem.specs.Stored.{IsPrintableSystem}
 use Rattle.ore_problem.specs.Accepted.{counted, LastCounts, AllDeclare, IsRow, Accepted}
-use Rattle.ore_problem.specs.Laws.{behind, PrintedIsRead}
+use Rattle.ore_problem.specs.Laws.{behind, PrintedProblemIsRead}
 use Rattle.ore_problem.proofs.AcceptedLines.{cursor, over}
 use Rattle.ore_problem.proofs.FrontReads.{byte_count, over-all, byte_count-raw_lines}
 use Rattle.ore_problem.proofs.AcceptedReads.{accepted_prefix, accepted_read}
@@ -124,7 +124,7 @@ over-behind p rest =
 
 -- ---- the law
 
-pub printed_is_read : PrintedIsRead
+pub printed_is_read : PrintedProblemIsRead
 printed_is_read =
     record {
       alone = λ p h. accepted_read (problem_text p) p (printed_accepted p h);

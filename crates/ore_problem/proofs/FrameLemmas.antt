@@ -20,7 +20,7 @@ use Rattle.ore_monomial.specs.Signature.{Signature, first_fault}
 use Rattle.ore_monomial.specs.SignatureCode.{signature_of, signature_again}
 use Rattle.ore_expr.specs.Faults.{index_of}
 use Rattle.ore_text.specs.Names.{IsAdded}
-use Rattle.ore_problem.specs.Declarations.{Declared, declared_by, fault_of}
+use Rattle.ore_problem.specs.Declarations.{Declared, declared_by, declaration_fault}
 use Rattle.ore_problem.specs.Problems.{Frame, fault_or, with_declared}
 use Rattle.ore_problem.specs.Reader.{IsExtended}
 
@@ -57,13 +57,13 @@ declared_by_longer names (u ∷ v ∷ w ∷ []) h = absurd (omega (arith, h))
 declared_by_longer names (u ∷ v ∷ w ∷ x ∷ []) h = absurd (omega (arith, h))
 declared_by_longer names (u ∷ v ∷ w ∷ x ∷ y ∷ ws) h = refl
 
-sound : (names : List (List ℕ)) (kinds : List VarKind) (d : Declared) → length kinds < 12 → is_some (index_of names d.name) ≡ false → first_fault (kinds ++ d.kind ∷ []) ≡ None → fault_of names kinds d ≡ None
-unfolding fault_of
+sound : (names : List (List ℕ)) (kinds : List VarKind) (d : Declared) → length kinds < 12 → is_some (index_of names d.name) ≡ false → first_fault (kinds ++ d.kind ∷ []) ≡ None → declaration_fault names kinds d ≡ None
+unfolding declaration_fault
 sound names kinds d few new none = let small : nat_le 12 (length kinds) ≡ false = grind (arith, nat_tests) in rw (small, new, none) refl
 
 pub frame_added : (E : Type 0) (f : Frame) (d : Declared) (line : ℕ) (b : Bool) (names : List (List ℕ)) (s : Signature)
     → length f.signature.kinds < 12 → is_some (index_of f.names d.name) ≡ false → IsExtended (Ok s) f.signature d.kind → IsAdded {E = E} (Ok b) f.names names d.name
-    → fault_or (fault_of f.names f.signature.kinds d) line (with_declared f d) ≡ Ok (record { names = names; signature = s })
+    → fault_or (declaration_fault f.names f.signature.kinds d) line (with_declared f d) ≡ Ok (record { names = names; signature = s })
 frame_added E f d line false names s few new extended added = absurd (true≢false (sym added.0 ∙ new))
 frame_added E f d line true names s few new extended added =
     ap (λ r. fault_or r line (with_declared f d)) (sound f.names f.signature.kinds d few new extended.0)

@@ -18,7 +18,7 @@ use Rattle.std.specs.declared.result.Result.TheVariants.{Ok, Err}
 use Rattle.std.specs.List.{AllByRecursion, list_all}
 use Rattle.ore_algebra.proofs.ResultLaws.{same_err}
 use Rattle.ore_algebra.specs.Limits.{Cause, program}
-use Rattle.ore_rational.proofs.FractionLaws.{rationals}
+use Rattle.ore_rational.specs.Field.{rationals}
 use Rattle.ore_rational.specs.Fraction.{whole}
 use Rattle.ore_monomial.specs.Signature.{Signature}
 use Rattle.ore_monomial.specs.SignatureCode.{signature_of}
@@ -37,8 +37,8 @@ use Rattle.ore_problem.specs.declared.fault.ProblemFault.{ProblemFault}
 use Rattle.ore_problem.specs.declared.fault.ProblemReason.{ProblemReason}
 use Rattle.ore_problem.specs.declared.fault.ProblemReason.TheVariants as reason
 use Rattle.ore_problem.specs.Lines.{split_at, is_comment, words}
-use Rattle.ore_problem.specs.Declarations.{declared_by, fault_of, is_count}
-use Rattle.ore_problem.specs.Problems.{System, Read, Frame, fault_at, found_or, fault_or, are_words, order_of, is_matrix, declared_frame, with_declared, sizes_of, is_space, is_row, text_read, value_read, parsed, evaluated, entries_of}
+use Rattle.ore_problem.specs.Declarations.{declared_by, declaration_fault, is_count}
+use Rattle.ore_problem.specs.Problems.{System, Read, Frame, fault_at, found_or, fault_or, are_words, order_named, is_matrix, declared_frame, with_declared, sizes_of, is_space, is_row, text_read, value_read, parsed, evaluated, entries_of}
 use Rattle.ore_algebra.specs.Results.{◌>>=◌}
 use Rattle.ore_problem.proofs.AgainBytes.{Lacks}
 use Rattle.ore_problem.proofs.AcceptedReads.{header, system}
@@ -77,7 +77,7 @@ declaring_read false f line ws = declared_frame f line ws >>= λ g. Ok (Due (Dec
 
 abbrev pub step : Need → ℕ → List ℕ → Read Stage
 step First line x = header_read (are_words (words x) header) line
-step Second line x = found_or (order_of (words x)) line reason.Header >>= λ o. Ok (Due (Declaring (no_names o)))
+step Second line x = found_or (order_named (words x)) line reason.Header >>= λ o. Ok (Due (Declaring (no_names o)))
 step (Declaring f) line x = declaring_read (is_matrix (words x)) f line (words x)
 step (InRows f cols zero rows) line x = ended_read (are_words (words x) (codes "end" ∷ [])) f cols rows line
 step (InRows f cols (suc n) rows) line x = row_read (is_row x) f cols n rows line (drop 3 x)
@@ -113,9 +113,9 @@ line_fault_or {A} (Some r) line x = line_at {A = A} line r
 
 line_declared : (g : Frame) (line : ℕ) (ws : List (List ℕ)) → HasLine (declared_frame g line ws) line
 unfolding declared_frame
-line_declared g line ws = line_then (found_or (declared_by g.names ws) line reason.BadDeclaration) (λ d. fault_or (fault_of g.names g.signature.kinds d) line (with_declared g d)) line
+line_declared g line ws = line_then (found_or (declared_by g.names ws) line reason.BadDeclaration) (λ d. fault_or (declaration_fault g.names g.signature.kinds d) line (with_declared g d)) line
     (line_found (declared_by g.names ws) line reason.BadDeclaration)
-    (λ d. line_fault_or (fault_of g.names g.signature.kinds d) line (with_declared g d))
+    (λ d. line_fault_or (declaration_fault g.names g.signature.kinds d) line (with_declared g d))
 
 line_if : {A : Type 0} (b : Bool) (x y : Read A) (line : ℕ) → HasLine x line → HasLine y line → HasLine (if b then x else y) line
 line_if true x y line h k = h
@@ -184,7 +184,7 @@ line_row false f cols n rows line rest = line_at {A = Stage} line reason.BadRow
 
 step_line : (s : Need) (line : ℕ) (x : List ℕ) → HasLine (step s line x) line
 step_line First line x = line_header (are_words (words x) header) line
-step_line Second line x = line_then (found_or (order_of (words x)) line reason.Header) (λ o. Ok (Due (Declaring (no_names o)))) line (line_found (order_of (words x)) line reason.Header) (λ o. line_ok (Due (Declaring (no_names o))) line)
+step_line Second line x = line_then (found_or (order_named (words x)) line reason.Header) (λ o. Ok (Due (Declaring (no_names o)))) line (line_found (order_named (words x)) line reason.Header) (λ o. line_ok (Due (Declaring (no_names o))) line)
 step_line (Declaring f) line x = line_declaring (is_matrix (words x)) f line (words x)
 step_line (InRows f cols zero rows) line x = line_ended (are_words (words x) (codes "end" ∷ [])) f cols rows line
 step_line (InRows f cols (suc n) rows) line x = line_row (is_row x) f cols n rows line (drop 3 x)

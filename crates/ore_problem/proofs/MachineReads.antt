@@ -11,12 +11,12 @@ use Rattle.std.specs.declared.option.Option.TheVariants.{None, Some}
 use Rattle.std.specs.declared.result.Result.TheVariants.{Ok, Err}
 use Rattle.std.proofs.lemmas.Bool.Decides.{nat_tests}
 use Rattle.ore_algebra.proofs.ResultLaws.{bind_assoc}
-use Rattle.ore_rational.proofs.FractionLaws.{rationals}
+use Rattle.ore_rational.specs.Field.{rationals}
 use Rattle.ore_monomial.specs.declared.order.Order.{Order}
 use Rattle.ore_rows.specs.Rows.{Row}
 use Rattle.ore_problem.specs.declared.fault.ProblemReason.TheVariants as reason
 use Rattle.ore_problem.specs.Lines.{Cursor, at_start, raw_lines, is_line_end, content, is_comment, words}
-use Rattle.ore_problem.specs.Problems.{System, Read, Frame, Declarations, found_or, accepted_where, line_due, are_words, header_after, order_of, order_after, is_matrix, declared_frame, declarations_of, sizes_of, is_row, entries_of, row_after, rows_after, end_after, prefix_of}
+use Rattle.ore_problem.specs.Problems.{System, Read, Frame, Declarations, found_or, accepted_where, line_due, are_words, header_after, order_named, order_after, is_matrix, declared_frame, declarations_of, sizes_of, is_row, entries_of, row_after, rows_after, end_after, prefix_of}
 use Rattle.ore_algebra.specs.Results.{◌>>=◌}
 use Rattle.ore_problem.proofs.AcceptedLines.{cursor}
 use Rattle.ore_problem.proofs.AcceptedReads.{header, system, end_read, rows_read, sizes_read, declarations_read, order_read}
@@ -167,7 +167,7 @@ module _ (K : Closing) (behind : System × Cursor → Read System) (Behind : (p 
   -- ---- the first two lines
 
   abbrev order_found : List ℕ × Cursor → Read (Order × Cursor)
-  order_found x = found_or (order_of (words x.0)) x.1.line reason.Header >>= λ o. Ok (o, x.1)
+  order_found x = found_or (order_named (words x.0)) x.1.line reason.Header >>= λ o. Ok (o, x.1)
 
   abbrev order_then : Order × Cursor → Read System
   order_then o = declarations_read o.0 o.1 >>= behind
@@ -177,7 +177,7 @@ module _ (K : Closing) (behind : System × Cursor → Read System) (Behind : (p 
   order_runs c =
       bind_assoc (order_after c) (λ o. declarations_read o.0 o.1) behind
       ∙ bind_assoc (line_due c) order_found order_then
-      ∙ due_runs Second (λ x. order_found x >>= order_then) (λ x d. by (order_of (words x)) d) c
+      ∙ due_runs Second (λ x. order_found x >>= order_then) (λ x d. by (order_named (words x)) d) c
     where
       by : (o : Option Order) (d : Cursor) → ((found_or o d.line reason.Header >>= λ o. with_cursor d o) >>= order_then) ≡ ((found_or o d.line reason.Header >>= λ o. Ok (Due (Declaring (no_names o)))) >>= λ t. run K t d.line (contents d))
       by None d = refl

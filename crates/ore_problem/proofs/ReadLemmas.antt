@@ -8,10 +8,10 @@ use Rattle.ore_problem.specs.declared.fault.ProblemReason.{ProblemReason}
 use Rattle.ore_algebra.proofs.ResultLaws.{refused_like, refused_on}
 use Rattle.ore_problem.specs.Problems.{Read}
 use Rattle.ore_algebra.specs.Results.{◌>>=◌}
-use Rattle.ore_problem.specs.Stored.{told, FaultReads}
+use Rattle.ore_problem.specs.Stored.{fault_in_problem, ProblemFaultReads}
 
-pub fault_reads_like : {X Y : Type 0} (line : ℕ) (r : ProblemReason) (g : Read X) (h : Read Y) → ((e : ProblemFault) → g ≡ Err e → h ≡ Err e) → FaultReads line r g → FaultReads line r h
-fault_reads_like line r = refused_like (line ≡ 0) (told line r)
+pub fault_reads_like : {X Y : Type 0} (line : ℕ) (r : ProblemReason) (g : Read X) (h : Read Y) → ((e : ProblemFault) → g ≡ Err e → h ≡ Err e) → ProblemFaultReads line r g → ProblemFaultReads line r h
+fault_reads_like line r = refused_like (line ≡ 0) (fault_in_problem line r)
 
-pub fault_reads_on : {X Y : Type 0} (line : ℕ) (r : ProblemReason) (g : Read X) (k : X → Read Y) → FaultReads line r g → FaultReads line r (g >>= k)
-fault_reads_on line r = refused_on (line ≡ 0) (told line r)
+pub fault_reads_on : {X Y : Type 0} (line : ℕ) (r : ProblemReason) (g : Read X) (k : X → Read Y) → ProblemFaultReads line r g → ProblemFaultReads line r (g >>= k)
+fault_reads_on line r = refused_on (line ≡ 0) (fault_in_problem line r)

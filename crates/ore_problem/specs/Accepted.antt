@@ -1,7 +1,7 @@
 -- Accepted problem texts, whichever way they are read.
 --     counted          the lines that are no comments, without their ends
 --     LastCounts       the last line is no comment
---     IsStep           the digits of a step
+--     IsStepNumber     the digits of a step
 --     Declares         words that declare a name and its kind, where these names are declared before
 --     AllDeclare       lines that declare names and kinds, one behind the other
 --     AreEntries       what stands behind `row`, for so many columns
@@ -13,7 +13,7 @@ use Rattle.std.specs.List.{AllZip, list_all}
 use Rattle.std.specs.Str.Parse.{digits_value}
 use Rattle.std.specs.declared.option.Option.TheVariants.{None, Some}
 use Rattle.std.specs.declared.result.Result.TheVariants.{Ok}
-use Rattle.ore_rational.proofs.FractionLaws.{rationals}
+use Rattle.ore_rational.specs.Field.{rationals}
 use Rattle.ore_monomial.specs.Signature.{first_fault}
 use Rattle.ore_monomial.specs.declared.signature.VarKind.{VarKind}
 use Rattle.ore_monomial.specs.declared.signature.VarKind.TheVariants.{Coordinate, Constant, Plain, Differential, Shift, Delay}
@@ -40,8 +40,8 @@ LastCounts (raw ∷ next ∷ left) = LastCounts (next ∷ left)
 -- ---- declarations
 
 -- one digit or more, with this value
-abbrev pub IsStep : List ℕ → ℕ → Type 0
-IsStep digits step = (is_digits digits ≡ true) × (digits_value 10 digits ≡ step)
+abbrev pub IsStepNumber : List ℕ → ℕ → Type 0
+IsStepNumber digits step = (is_digits digits ≡ true) × (digits_value 10 digits ≡ step)
 
 -- what an operator acts on is one of the names before it, and stands in the kind by its index
 abbrev pub Declares : List (List ℕ) → List (List ℕ) → List ℕ → VarKind → Type 0
@@ -49,8 +49,8 @@ Declares before ws name Coordinate = ws ≡ codes "coordinate" ∷ name ∷ []
 Declares before ws name Constant = ws ≡ codes "constant" ∷ name ∷ []
 Declares before ws name Plain = ws ≡ codes "plain" ∷ name ∷ []
 Declares before ws name (Differential on) = (other : List ℕ) × (ws ≡ codes "differential" ∷ name ∷ other ∷ []) × (index_of before other ≡ Some on)
-Declares before ws name (Shift on step) = (other : List ℕ) × (digits : List ℕ) × (ws ≡ codes "shift" ∷ name ∷ other ∷ digits ∷ []) × (index_of before other ≡ Some on) × IsStep digits step
-Declares before ws name (Delay on step) = (other : List ℕ) × (digits : List ℕ) × (ws ≡ codes "delay" ∷ name ∷ other ∷ digits ∷ []) × (index_of before other ≡ Some on) × IsStep digits step
+Declares before ws name (Shift on step) = (other : List ℕ) × (digits : List ℕ) × (ws ≡ codes "shift" ∷ name ∷ other ∷ digits ∷ []) × (index_of before other ≡ Some on) × IsStepNumber digits step
+Declares before ws name (Delay on step) = (other : List ℕ) × (digits : List ℕ) × (ws ≡ codes "delay" ∷ name ∷ other ∷ digits ∷ []) × (index_of before other ≡ Some on) × IsStepNumber digits step
 
 -- a line for each name and its kind
 abbrev pub AllDeclare : List (List ℕ) → List (List ℕ) → List (List ℕ) → List VarKind → Type 0

@@ -7,7 +7,7 @@
 --     step_value                the value of a step, which any number above 1000 stands for
 --     named                     a declaration where its name is one
 --     two_words, three_words, four_words, declared_by   the declaration that some words are
---     fault_of                  what is wrong with a declaration, if anything is
+--     declaration_fault         what is wrong with a declaration, if anything is
 use Rattle.std.specs.Prelude.{ℕ, Bool, true, false, ◌&&◌, not, nat_eq, nat_le, min, if◌then◌else◌, List, [], ◌∷◌, ◌++◌, length, codes}
 use Rattle.std.specs.Char.{is_ascii_digit, is_ascii_alphabetic}
 use Rattle.std.specs.List.{list_all}
@@ -90,8 +90,8 @@ module _ (names : List (List ℕ)) where
   declared_by others = None
 
 -- a 13th comes first, then a name that is there, then what is wrong with the kinds
-unfoldable pub fault_of : List (List ℕ) → List VarKind → Declared → Option ProblemReason
-fault_of names kinds d =
+unfoldable pub declaration_fault : List (List ℕ) → List VarKind → Declared → Option ProblemReason
+declaration_fault names kinds d =
     if nat_le 12 (length kinds) then Some (reason.Signature TooMany)
     else if is_some (index_of names d.name) then Some reason.NameTwice
     else option_map reason.Signature (first_fault (kinds ++ d.kind ∷ []))

@@ -6,7 +6,7 @@
 --     content          a line without its end
 --     is_comment       a line begins with `#`
 --     Cursor           how many lines and bytes were passed, and the lines that are left
---     at_start, passed        the cursor before a text, and behind one line more
+--     at_start, cursor_after  the cursor before a text, and behind one line more
 --     next_of, next    the content of the next line that is no comment, and the cursor behind it
 --     is_some_byte     a piece isn't empty
 --     words            what stands between the spaces of a line
@@ -44,8 +44,8 @@ abbrev pub at_start : List ℕ → Cursor
 at_start text = record { line = 0; used = 0; left = raw_lines text }
 
 -- raw is the line with its end, and left are the lines behind it
-abbrev pub passed : Cursor → List ℕ → List (List ℕ) → Cursor
-passed c raw left = record { line = suc c.line; used = c.used + length raw; left = left }
+abbrev pub cursor_after : Cursor → List ℕ → List (List ℕ) → Cursor
+cursor_after c raw left = record { line = suc c.line; used = c.used + length raw; left = left }
 
 -- the next line that is no comment, from a cursor by its parts; none where only comments are left
 unfoldable pub next_of : ℕ → ℕ → List (List ℕ) → Option (List ℕ × Cursor)

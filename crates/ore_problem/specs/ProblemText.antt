@@ -1,12 +1,12 @@
 -- The text of a problem: single spaces, no comments, the byte 10 after every line, and canonical entries.
 --     order_word         the word of an order
---     kind_word, kind_words    the word of a kind, before the name; the words behind the name
+--     declaration_word, declaration_words  the word of a kind, before the name; the words behind the name
 --     declaration_text   the line of one variable
 --     matrix_text        the sizes, and a line for each row
 --     problem_text       all lines
 use Rattle.std.specs.Prelude.{ℕ, List, [], ◌∷◌, ◌++◌, length, get_or, codes, decimal}
 use Rattle.std.specs.List.{flat_map, zip}
-use Rattle.ore_rational.proofs.FractionLaws.{rationals}
+use Rattle.ore_rational.specs.Field.{rationals}
 use Rattle.ore_monomial.specs.declared.order.Order.{Order}
 use Rattle.ore_monomial.specs.declared.order.Order.TheVariants.{DegLex, DegRevLex}
 use Rattle.ore_monomial.specs.declared.signature.VarKind.{VarKind}
@@ -22,24 +22,24 @@ order_word DegLex = codes "deglex"
 order_word DegRevLex = codes "degrevlex"
 
 -- the kind's word before the name, and the words behind it
-abbrev pub kind_word : VarKind → List ℕ
-kind_word Coordinate = codes "coordinate"
-kind_word Constant = codes "constant"
-kind_word Plain = codes "plain"
-kind_word (Differential on) = codes "differential"
-kind_word (Shift on step) = codes "shift"
-kind_word (Delay on step) = codes "delay"
+abbrev pub declaration_word : VarKind → List ℕ
+declaration_word Coordinate = codes "coordinate"
+declaration_word Constant = codes "constant"
+declaration_word Plain = codes "plain"
+declaration_word (Differential on) = codes "differential"
+declaration_word (Shift on step) = codes "shift"
+declaration_word (Delay on step) = codes "delay"
 
 -- of an operator that acts on a coordinate, the name of that; of a shift and a delay, the step too
-abbrev pub kind_words : List (List ℕ) → VarKind → List (List ℕ)
-kind_words names (Differential on) = get_or names on [] ∷ []
-kind_words names (Shift on step) = get_or names on [] ∷ decimal step ∷ []
-kind_words names (Delay on step) = get_or names on [] ∷ decimal step ∷ []
-kind_words names kind = []
+abbrev pub declaration_words : List (List ℕ) → VarKind → List (List ℕ)
+declaration_words names (Differential on) = get_or names on [] ∷ []
+declaration_words names (Shift on step) = get_or names on [] ∷ decimal step ∷ []
+declaration_words names (Delay on step) = get_or names on [] ∷ decimal step ∷ []
+declaration_words names kind = []
 
 -- the line of a variable with its name and kind, where all names are given
 abbrev pub declaration_text : List (List ℕ) → List ℕ × VarKind → List ℕ
-declaration_text names d = line (kind_word d.1 ∷ d.0 ∷ kind_words names d.1)
+declaration_text names d = line (declaration_word d.1 ∷ d.0 ∷ declaration_words names d.1)
 
 -- the sizes, and a line for each row
 abbrev pub matrix_text : List (List ℕ) → Order → ℕ → List (Row rationals) → List ℕ

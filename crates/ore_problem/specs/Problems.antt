@@ -6,7 +6,7 @@
 --     found_or                            the value where there is one, else a fault of a line
 --     line_due                            the next line, or none is left before the end
 --     are_words                           the words of a line are these
---     order_of                            the order that words name
+--     order_named                         the order that words name
 --     header_after, order_after           the first and the second line
 --     Frame                               the names and the signature so far
 --     fault_or                            the fault where there is one, else the value
@@ -35,7 +35,7 @@ use Rattle.std.specs.declared.result.Result.{Result}
 use Rattle.std.specs.declared.result.Result.TheVariants.{Ok, Err}
 use Rattle.ore_algebra.specs.Limits.{Cause, program}
 use Rattle.ore_algebra.specs.Results.{◌>>=◌}
-use Rattle.ore_rational.proofs.FractionLaws.{rationals}
+use Rattle.ore_rational.specs.Field.{rationals}
 use Rattle.ore_monomial.specs.declared.order.Order.{Order}
 use Rattle.ore_monomial.specs.declared.order.Order.TheVariants.{DegLex, DegRevLex}
 use Rattle.ore_monomial.specs.Signature.{Signature}
@@ -50,7 +50,7 @@ use Rattle.ore_problem.specs.declared.fault.ProblemFault.{ProblemFault}
 use Rattle.ore_problem.specs.declared.fault.ProblemReason.{ProblemReason}
 use Rattle.ore_problem.specs.declared.fault.ProblemReason.TheVariants as reason
 use Rattle.ore_problem.specs.Lines.{Cursor, at_start, split_at, content, is_comment, next, words}
-use Rattle.ore_problem.specs.Declarations.{Declared, declared_by, fault_of, is_count}
+use Rattle.ore_problem.specs.Declarations.{Declared, declared_by, declaration_fault, is_count}
 
 -- the names are in the order of the variables; the rows have cols entries each, which is also known without rows
 pub record System : Type 0 where
@@ -95,8 +95,8 @@ header_after c = do
   accepted_where (are_words (words x.0) (codes "ore" ∷ codes "1" ∷ [])) x.1 reason.Header x.1
 
 -- the words are `order` and `deglex`, or `order` and `degrevlex`
-abbrev pub order_of : List (List ℕ) → Option Order
-order_of ws =
+abbrev pub order_named : List (List ℕ) → Option Order
+order_named ws =
     if are_words ws (codes "order" ∷ codes "deglex" ∷ []) then Some DegLex
     else if are_words ws (codes "order" ∷ codes "degrevlex" ∷ []) then Some DegRevLex
     else None
@@ -105,7 +105,7 @@ order_of ws =
 unfoldable pub order_after : Cursor → Read (Order × Cursor)
 order_after c = do
   x ← line_due c
-  o ← found_or (order_of (words x.0)) x.1.line reason.Header
+  o ← found_or (order_named (words x.0)) x.1.line reason.Header
   Ok (o, x.1)
 
 -- ---- declarations
@@ -128,7 +128,7 @@ with_declared f d = record { names = f.names ++ d.name ∷ []; signature = signa
 unfoldable pub declared_frame : Frame → ℕ → List (List ℕ) → Read Frame
 declared_frame f line ws = do
   d ← found_or (declared_by f.names ws) line reason.BadDeclaration
-  fault_or (fault_of f.names f.signature.kinds d) line (with_declared f d)
+  fault_or (declaration_fault f.names f.signature.kinds d) line (with_declared f d)
 
 -- the first word is `matrix`
 abbrev pub is_matrix : List (List ℕ) → Bool

@@ -2,7 +2,7 @@
 --     line_length      the number of bytes of the first line of a text, with its end
 --     Position         a text, and how many of its lines and bytes were passed
 --     cursor_of        the cursor there
---     shown            a declaration that was read, with the bytes of its name
+--     declaration_view  a declaration that was read, with the bytes of its name
 --     size_pair        the sizes that two words are
 --     spaces_read      the entries of a row without columns
 --     text_fault       a fault of an entry of a line; want of memory has line 0
@@ -16,7 +16,7 @@ use Rattle.ore_monomial.specs.declared.signature.SignatureFault.{SignatureFault}
 use Rattle.ore_monomial.specs.declared.signature.VarKind.{VarKind}
 use Rattle.ore_monomial.specs.Signature.{Signature, first_fault}
 use Rattle.ore_monomial.specs.SignatureCode.{signature_of}
-use Rattle.ore_rational.proofs.FractionLaws.{rationals}
+use Rattle.ore_rational.specs.Field.{rationals}
 use Rattle.ore_rows.specs.Rows.{Row}
 use Rattle.ore_monomial.specs.declared.order.Order.TheVariants.{DegLex}
 use Rattle.ore_monomial.specs.declared.stop.RingStop.TheVariants as out_of
@@ -46,8 +46,8 @@ abbrev pub cursor_of : Position → Cursor
 cursor_of p = record { line = p.line; used = p.used; left = raw_lines (drop p.used p.text) }
 
 -- the bytes of the name, and the kind
-abbrev pub shown : Declaration → Declared
-shown d = record { name = d.name.now; kind = d.kind }
+abbrev pub declaration_view : Declaration → Declared
+declaration_view d = record { name = d.name.now; kind = d.kind }
 
 -- what is made has all the kinds in the order of s; a refusal is the fault that they have
 abbrev pub IsExtended : Result Signature SignatureFault → Signature → VarKind → Type 0

@@ -2,9 +2,9 @@
 --     system_of         the names, the signature and the matrix, without the orders that its operators carry
 --     IsProblem         the names fit the signature, and the matrix belongs to it
 --     IsPrintableSystem        a problem that can be printed and read again
---     told              a fault, but for want of memory
---     FaultReads        the fault that a call answers is that which is given
---     Reads             a call answered what a reading function gives, unless memory ran out
+--     fault_in_problem  a fault, but for want of memory
+--     ProblemFaultReads  the fault that a call answers is that which is given
+--     ReadsProblem      a call answered what a reading function gives, unless memory ran out
 use Rattle.std.specs.Prelude.{◌≡◌, ◌≤◌, ℕ, length}
 use Rattle.std.specs.List.{All, AllByRecursion}
 use Rattle.std.specs.declared.option.Option.{Option}
@@ -39,14 +39,14 @@ pub record IsPrintableSystem (p : System) : Type 0 where
   pub lengths : AllByRecursion (λ r. length r ≡ p.cols) p.rows
   pub entries : AllByRecursion (AllByRecursion (IsPrintable p.signature p.names)) p.rows
 
-abbrev pub told : ℕ → ProblemReason → Option ProblemFault
-told line Memory = None
-told line r = Some (record { line = line; reason = r })
+abbrev pub fault_in_problem : ℕ → ProblemReason → Option ProblemFault
+fault_in_problem line Memory = None
+fault_in_problem line r = Some (record { line = line; reason = r })
 
 -- of want of memory it says only that line 0 is named
-abbrev pub FaultReads : {Y : Type 0} → ℕ → ProblemReason → Result Y ProblemFault → Type 0
-FaultReads line r given = IsRefusal (line ≡ 0) (told line r) given
+abbrev pub ProblemFaultReads : {Y : Type 0} → ℕ → ProblemReason → Result Y ProblemFault → Type 0
+ProblemFaultReads line r given = IsRefusal (line ≡ 0) (fault_in_problem line r) given
 
 -- a value, seen through the view, is what is given, and so is a fault but want of memory
-abbrev pub Reads : {X Y : Type 0} → (X → Y) → Result X ProblemFault → Result Y ProblemFault → Type 0
-Reads = GivesBy (λ e given. FaultReads e.line e.reason given)
+abbrev pub ReadsProblem : {X Y : Type 0} → (X → Y) → Result X ProblemFault → Result Y ProblemFault → Type 0
+ReadsProblem = GivesBy (λ e given. ProblemFaultReads e.line e.reason given)

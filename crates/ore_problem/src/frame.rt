@@ -3,12 +3,13 @@
 ghost use Rattle.std.specs.Prelude.{◌≡◌, ◌≤◌, [], true, length, map, option_map, IfOk, IfSome};
 ghost use Rattle.ore_monomial.specs.SignatureCode.{signature_of};
 ghost use Rattle.ore_expr.specs.Tokens.{IsName};
-ghost use Rattle.ore_problem.specs.Declarations.{named as named_of, two_words as two_words_of, three_words as three_words_of, four_words as four_words_of, declared_by as declared_by_of, is_digits as is_digits_of, coordinate_index as coordinate_index_of, step_value as step_value_of, fault_of};
+ghost use Rattle.ore_problem.specs.Declarations.{named as named_of, two_words as two_words_of, three_words as three_words_of, four_words as four_words_of, declared_by as declared_by_of, is_digits as is_digits_of, coordinate_index as coordinate_index_of, step_value as step_value_of, declaration_fault};
 ghost use Rattle.ore_problem.specs.Problems.{declared_frame, fault_or, with_declared};
-ghost use Rattle.ore_problem.specs.Reader.{shown, IsExtended};
-ghost use Rattle.ore_problem.specs.Stored.{Reads};
+ghost use Rattle.ore_problem.specs.Reader.{declaration_view, IsExtended};
+ghost use Rattle.ore_problem.specs.Stored.{ReadsProblem};
 
 use crate::fault::{ProblemFault, ProblemReason};
+use crate::print::kind_word;
 use crate::problem::Problem;
 use crate::word::{is_digits, is_name, is_word, value_up_to};
 use ore_monomial::{Order, Signature, SignatureFault, VarKind};
@@ -103,7 +104,7 @@ impl Frame {
         line: usize,
         words: &[&[u8]],
     ) -> Result<(), ProblemFault>
-        ensures { Reads (λ _. self.new) result (declared_frame self.old line (map (λ w. w.now) words.now)) }
+        ensures { ReadsProblem (λ _. self.new) result (declared_frame self.old line (map (λ w. w.now) words.now)) }
     {
         let Some(declaration) = declared_by(&self.names, words) else {
             return Err(ProblemFault::at(line, ProblemReason::BadDeclaration))
@@ -111,7 +112,7 @@ impl Frame {
         self.add(alloc, line, declaration)
     }
 
-    #[tactic(auto, unfolding(crate::specs::Declarations::fault_of))]
+    #[tactic(auto, unfolding(crate::specs::Declarations::declaration_fault))]
     fn add(
         &mut self,
         alloc: Global,
@@ -119,7 +120,7 @@ impl Frame {
         declaration: Declaration,
     ) -> Result<(), ProblemFault>
         requires { IsName declaration.name.now }
-        ensures { Reads (λ _. self.new) result (fault_or (fault_of self.old.names self.old.signature.kinds (shown declaration.entry)) line (with_declared self.old (shown declaration.entry))) }
+        ensures { ReadsProblem (λ _. self.new) result (fault_or (declaration_fault self.old.names self.old.signature.kinds (declaration_view declaration.entry)) line (with_declared self.old (declaration_view declaration.entry))) }
     {
         if self.signature.count() >= MOST_VARIABLES {
             let fault = ProblemReason::Signature(SignatureFault::TooMany);
@@ -174,7 +175,7 @@ fn kinds_of(alloc: Global, signature: &Signature) -> Result<Vec<VarKind>, AllocE
 #[tactic(auto, unfolding(crate::specs::Declarations::declared_by))]
 pub(crate) fn declared_by<'a>(names: &Names, words: &[&'a [u8]]) -> Option<Declaration<'a>>
     requires { length names.now ≤ 12 }
-    ensures value { option_map shown result ≡ declared_by_of names.now (map (λ w. w.now) words.now) }
+    ensures value { option_map declaration_view result ≡ declared_by_of names.now (map (λ w. w.now) words.now) }
     ensures form { IfSome result (λ d. IsName d.name.now) }
 {
     match words {
@@ -188,16 +189,16 @@ pub(crate) fn declared_by<'a>(names: &Names, words: &[&'a [u8]]) -> Option<Decla
 }
 
 fn two_words<'a>(word: &[u8], name: &'a [u8]) -> Option<Declaration<'a>>
-    ensures value { option_map shown result ≡ two_words_of [] word.now name.now }
+    ensures value { option_map declaration_view result ≡ two_words_of [] word.now name.now }
     ensures form { IfSome result (λ d. IsName d.name.now) }
 {
-    if is_word(word, b"coordinate") {
+    if is_word(word, kind_word(VarKind::Coordinate)) {
         return named(name, true, VarKind::Coordinate);
     }
-    if is_word(word, b"constant") {
+    if is_word(word, kind_word(VarKind::Constant)) {
         return named(name, true, VarKind::Constant);
     }
-    if is_word(word, b"plain") {
+    if is_word(word, kind_word(VarKind::Plain)) {
         return named(name, true, VarKind::Plain);
     }
     None
@@ -205,12 +206,14 @@ fn two_words<'a>(word: &[u8], name: &'a [u8]) -> Option<Declaration<'a>>
 
 fn three_words<'a>(names: &Names, word: &[u8], name: &'a [u8], on: &[u8]) -> Option<Declaration<'a>>
     requires { length names.now ≤ 12 }
-    ensures value { option_map shown result ≡ three_words_of names.now word.now name.now on.now }
+    ensures value { option_map declaration_view result ≡ three_words_of names.now word.now name.now on.now }
     ensures form { IfSome result (λ d. IsName d.name.now) }
 {
-    if is_word(word, b"differential") {
-        let on_index = coordinate_index(names, on);
-        return named(name, is_name(on), VarKind::Differential { on: on_index });
+    let fits = is_name(on);
+    let on = coordinate_index(names, on);
+    let kind = VarKind::Differential { on };
+    if is_word(word, kind_word(kind)) {
+        return named(name, fits, kind);
     }
     None
 }
@@ -223,7 +226,7 @@ fn four_words<'a>(
     step: &[u8],
 ) -> Option<Declaration<'a>>
     requires { length names.now ≤ 12 }
-    ensures value { option_map shown result ≡ four_words_of names.now word.now name.now on.now step.now }
+    ensures value { option_map declaration_view result ≡ four_words_of names.now word.now name.now on.now step.now }
     ensures form { IfSome result (λ d. IsName d.name.now) }
 {
     if !is_digits(step) {
@@ -232,17 +235,19 @@ fn four_words<'a>(
     let fits = is_name(on);
     let on = coordinate_index(names, on);
     let step = step_value(step);
-    if is_word(word, b"shift") {
-        return named(name, fits, VarKind::Shift { on, step });
+    let shift = VarKind::Shift { on, step };
+    let delay = VarKind::Delay { on, step };
+    if is_word(word, kind_word(shift)) {
+        return named(name, fits, shift);
     }
-    if is_word(word, b"delay") {
-        return named(name, fits, VarKind::Delay { on, step });
+    if is_word(word, kind_word(delay)) {
+        return named(name, fits, delay);
     }
     None
 }
 
 fn named(name: &[u8], fits: bool, kind: VarKind) -> Option<Declaration>
-    ensures value { option_map shown result ≡ named_of name.now fits kind }
+    ensures value { option_map declaration_view result ≡ named_of name.now fits kind }
     ensures form { IfSome result (λ d. IsName d.name.now) }
 {
     if is_name(name) && fits {

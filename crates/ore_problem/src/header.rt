@@ -2,13 +2,14 @@
 
 ghost use Rattle.std.specs.Prelude.{◌≡◌, ◌≤◌, ◌&&◌, map, IfOk};
 ghost use Rattle.ore_problem.specs.Declarations.{is_count as is_count_of};
-ghost use Rattle.ore_problem.specs.Problems.{header_after, order_of as order_of_words, order_after, is_matrix as is_matrix_line, declarations_of, sizes_of, end_after};
+ghost use Rattle.ore_problem.specs.Problems.{header_after, order_named as order_of_words, order_after, is_matrix as is_matrix_line, declarations_of, sizes_of, end_after};
 ghost use Rattle.ore_problem.specs.Reader.{cursor_of, size_pair as size_pair_of};
-ghost use Rattle.ore_problem.specs.Stored.{Reads};
+ghost use Rattle.ore_problem.specs.Stored.{ReadsProblem};
 
 use crate::fault::{ProblemFault, ProblemReason};
 use crate::frame::Frame;
 use crate::lines::Lines;
+use crate::print::order_word;
 use crate::word::{are_two, is_alone, is_count, is_word, split_words, value_up_to};
 use ore_monomial::Order;
 use std::alloc::Global;
@@ -22,7 +23,7 @@ const MOST_SIZE: u32 = 64;
 /// It isn't `ore 1`, or there is none; and want of memory.
 #[tactic(auto, using(crate::proofs::ReadLemmas::fault_reads_on), unfolding(crate::specs::Problems::header_after))]
 pub(crate) fn header(alloc: Global, lines: &mut Lines) -> Result<(), ProblemFault>
-    ensures reads { Reads (λ _. cursor_of lines.new) result (header_after (cursor_of lines.old)) }
+    ensures reads { ReadsProblem (λ _. cursor_of lines.new) result (header_after (cursor_of lines.old)) }
     ensures same { lines.new.text ≡ lines.old.text }
 {
     let line = lines.due()?;
@@ -39,7 +40,7 @@ pub(crate) fn header(alloc: Global, lines: &mut Lines) -> Result<(), ProblemFaul
 /// It names none, or there is no line; and want of memory.
 #[tactic(auto, using(crate::proofs::ReadLemmas::fault_reads_on), unfolding(crate::specs::Problems::order_after))]
 pub(crate) fn order(alloc: Global, lines: &mut Lines) -> Result<Order, ProblemFault>
-    ensures reads { Reads (λ o. (o, cursor_of lines.new)) result (order_after (cursor_of lines.old)) }
+    ensures reads { ReadsProblem (λ o. (o, cursor_of lines.new)) result (order_after (cursor_of lines.old)) }
     ensures same { lines.new.text ≡ lines.old.text }
 {
     let line = lines.due()?;
@@ -53,10 +54,10 @@ pub(crate) fn order(alloc: Global, lines: &mut Lines) -> Result<Order, ProblemFa
 fn order_of(words: &[&[u8]]) -> Option<Order>
     ensures { result ≡ order_of_words (map (λ w. w.now) words.now) }
 {
-    if are_two(words, b"order", b"deglex") {
+    if are_two(words, b"order", order_word(Order::DegLex)) {
         return Some(Order::DegLex);
     }
-    if are_two(words, b"order", b"degrevlex") {
+    if are_two(words, b"order", order_word(Order::DegRevLex)) {
         return Some(Order::DegRevLex);
     }
     None
@@ -71,7 +72,7 @@ pub(crate) fn declarations<'a>(
     lines: &mut Lines<'a>,
     frame: &mut Frame,
 ) -> Result<Vec<&'a [u8]>, ProblemFault>
-    ensures reads { Reads (λ ws. record { frame = frame.new; sizes = map (λ w. w.now) ws.items; cursor = cursor_of lines.new }) result
+    ensures reads { ReadsProblem (λ ws. record { frame = frame.new; sizes = map (λ w. w.now) ws.items; cursor = cursor_of lines.new }) result
         (declarations_of frame.old (cursor_of lines.old).line (cursor_of lines.old).used (cursor_of lines.old).left) }
     ensures same { lines.new.text ≡ lines.old.text }
 {
@@ -100,7 +101,7 @@ fn is_matrix(words: &[&[u8]]) -> bool
 /// The words aren't two numbers behind the first, or a number is too great, that of the rows first.
 #[tactic(auto, unfolding(crate::specs::Problems::sizes_of))]
 pub(crate) fn sizes(line: usize, words: &[&[u8]]) -> Result<(usize, usize), ProblemFault>
-    ensures reads { Reads (λ n. n) result (sizes_of line (map (λ w. w.now) words.now)) }
+    ensures reads { ReadsProblem (λ n. n) result (sizes_of line (map (λ w. w.now) words.now)) }
     ensures few { IfOk result (λ n. n.1 ≤ 64) }
 {
     match words {
@@ -110,7 +111,7 @@ pub(crate) fn sizes(line: usize, words: &[&[u8]]) -> Result<(usize, usize), Prob
 }
 
 fn size_pair(line: usize, rows: &[u8], cols: &[u8]) -> Result<(usize, usize), ProblemFault>
-    ensures reads { Reads (λ n. n) result (size_pair_of line rows.now cols.now) }
+    ensures reads { ReadsProblem (λ n. n) result (size_pair_of line rows.now cols.now) }
     ensures few { IfOk result (λ n. n.1 ≤ 64) }
 {
     if !are_counts(rows, cols) {
@@ -139,7 +140,7 @@ fn are_counts(rows: &[u8], cols: &[u8]) -> bool
 /// It isn't `end`, or there is none; and want of memory.
 #[tactic(auto, using(crate::proofs::ReadLemmas::fault_reads_on), unfolding(crate::specs::Problems::end_after))]
 pub(crate) fn end(alloc: Global, lines: &mut Lines) -> Result<(), ProblemFault>
-    ensures reads { Reads (λ _. cursor_of lines.new) result (end_after (cursor_of lines.old)) }
+    ensures reads { ReadsProblem (λ _. cursor_of lines.new) result (end_after (cursor_of lines.old)) }
     ensures same { lines.new.text ≡ lines.old.text }
 {
     let line = lines.due()?;

@@ -4,7 +4,7 @@ ghost use Rattle.std.specs.Prelude.{◌≡◌, ◌+◌, ◌≤◌, ◌∷◌, []
 ghost use Rattle.ore_problem.specs.Lines.{content as content_of, is_comment as is_comment_line};
 ghost use Rattle.ore_problem.specs.Reader.{line_length as length_of, cursor_of};
 ghost use Rattle.ore_problem.specs.Problems.{line_due};
-ghost use Rattle.ore_problem.specs.Stored.{Reads};
+ghost use Rattle.ore_problem.specs.Stored.{ReadsProblem};
 
 use crate::fault::{ProblemFault, ProblemReason};
 use std::marker::Model;
@@ -60,7 +60,7 @@ impl<'a> Lines<'a> {
     /// # Errors
     /// No such line is left: the text lacks its end, behind its last line.
     pub fn due(&mut self) -> Result<&'a [u8], ProblemFault>
-        ensures reads { Reads (λ line. (line.now, cursor_of self.new)) result (line_due (cursor_of self.old)) }
+        ensures reads { ReadsProblem (λ line. (line.now, cursor_of self.new)) result (line_due (cursor_of self.old)) }
         ensures goes_on { IfOk result (λ _. suc self.old.used ≤ self.new.used) }
         ensures within { IfOk result (λ _. self.new.used ≤ length self.new.text) }
         ensures same { self.new.text ≡ self.old.text }

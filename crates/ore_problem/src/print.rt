@@ -5,7 +5,7 @@ ghost use Rattle.std.specs.List.{All, flat_map, zip};
 ghost use Rattle.ore_ring.specs.Belongs.{AllBelong};
 ghost use Rattle.ore_rows.specs.Stored.{rows_of};
 ghost use Rattle.ore_text.specs.Lines.{line};
-ghost use Rattle.ore_problem.specs.ProblemText.{order_word as order_word_of, kind_word as kind_word_of, kind_words, declaration_text, matrix_text, problem_text};
+ghost use Rattle.ore_problem.specs.ProblemText.{order_word as order_word_of, declaration_word as kind_word_of, declaration_words, declaration_text, matrix_text, problem_text};
 ghost use Rattle.ore_problem.specs.Stored.{system_of, IsProblem};
 
 use crate::problem::Problem;
@@ -52,7 +52,7 @@ fn append_order(text: &mut Vec<u8>, order: Order) -> Result<(), NoMemory>
     Ok(())
 }
 
-fn order_word(order: Order) -> &'static [u8]
+pub(crate) fn order_word(order: Order) -> &'static [u8]
     ensures { result.now ≡ order_word_of order }
 {
     match order {
@@ -87,7 +87,7 @@ fn append_declaration(
     Ok(())
 }
 
-fn kind_word(kind: VarKind) -> &'static [u8]
+pub(crate) fn kind_word(kind: VarKind) -> &'static [u8]
     ensures { result.now ≡ kind_word_of kind }
 {
     match kind {
@@ -102,7 +102,7 @@ fn kind_word(kind: VarKind) -> &'static [u8]
 
 // The words behind the name, each with a space before it.
 fn append_kind(text: &mut Vec<u8>, names: &Names, kind: VarKind) -> Result<(), NoMemory>
-    ensures { OnOk result (text.new.items ≡ text.old.items ++ flat_map (λ w. 32 ∷ w) (kind_words names.now kind)) }
+    ensures { OnOk result (text.new.items ≡ text.old.items ++ flat_map (λ w. 32 ∷ w) (declaration_words names.now kind)) }
 {
     match kind {
         VarKind::Coordinate => Ok(()),

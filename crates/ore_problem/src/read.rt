@@ -3,7 +3,7 @@
 ghost use Rattle.std.specs.Prelude.{◌≡◌, ◌≤◌, length, IfOk};
 ghost use Rattle.ore_problem.specs.Problems.{prefix_sizes, problem_of};
 ghost use Rattle.ore_problem.specs.Reader.{cursor_of, problem_after};
-ghost use Rattle.ore_problem.specs.Stored.{system_of, IsProblem, Reads};
+ghost use Rattle.ore_problem.specs.Stored.{system_of, IsProblem, ReadsProblem};
 
 use crate::fault::{ProblemFault, ProblemReason};
 use crate::frame::Frame;
@@ -19,7 +19,7 @@ use std::alloc::Global;
 /// # Errors
 /// The first faulty line, from 1, with what is wrong there, and want of memory, with line 0.
 pub fn read_problem(alloc: Global, text: &[u8]) -> Result<Problem, ProblemFault>
-    ensures reads { Reads system_of result (problem_of text.now) }
+    ensures reads { ReadsProblem system_of result (problem_of text.now) }
     ensures problem { IfOk result IsProblem }
 {
     let mut lines = Lines::new(text);
@@ -37,7 +37,7 @@ pub fn read_problem(alloc: Global, text: &[u8]) -> Result<Problem, ProblemFault>
 /// The first faulty line, from 1, with what is wrong there, and want of memory, with line 0. What follows the problem
 /// is no fault.
 pub fn read_prefix(alloc: Global, text: &[u8]) -> Result<(Problem, usize, usize), ProblemFault>
-    ensures reads { Reads (λ r. (system_of r.0, (r.1, r.2))) result (prefix_sizes text.now) }
+    ensures reads { ReadsProblem (λ r. (system_of r.0, (r.1, r.2))) result (prefix_sizes text.now) }
     ensures problem { IfOk result (λ r. IsProblem r.0) }
     ensures within { IfOk result (λ r. r.1 ≤ length text.now) }
 {
@@ -49,7 +49,7 @@ pub fn read_prefix(alloc: Global, text: &[u8]) -> Result<(Problem, usize, usize)
 // The problem whose first line is the next one.
 #[tactic(auto, using(crate::proofs::ReadLemmas::fault_reads_on), unfolding(crate::specs::Reader::problem_after))]
 fn problem_in(alloc: Global, lines: &mut Lines) -> Result<Problem, ProblemFault>
-    ensures reads { Reads (λ p. (system_of p, cursor_of lines.new)) result (problem_after (cursor_of lines.old)) }
+    ensures reads { ReadsProblem (λ p. (system_of p, cursor_of lines.new)) result (problem_after (cursor_of lines.old)) }
     ensures problem { IfOk result IsProblem }
     ensures same { lines.new.text ≡ lines.old.text }
 {

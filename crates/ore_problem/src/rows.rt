@@ -10,7 +10,7 @@ ghost use Rattle.ore_expr.specs.Parsing.{parse as parse_of};
 ghost use Rattle.ore_problem.specs.Lines.{split_at};
 ghost use Rattle.ore_problem.specs.Problems.{is_space, text_read, value_read, parsed, evaluated, is_row, entries_of, row_after, rows_after};
 ghost use Rattle.ore_problem.specs.Reader.{cursor_of, spaces_read, text_fault as text_fault_of};
-ghost use Rattle.ore_problem.specs.Stored.{Reads};
+ghost use Rattle.ore_problem.specs.Stored.{ReadsProblem};
 
 use crate::fault::{ProblemFault, ProblemReason};
 use crate::frame::Frame;
@@ -34,7 +34,7 @@ pub(crate) fn rows(
     cols: usize,
     count: usize,
 ) -> Result<Vec<Row>, ProblemFault>
-    ensures reads { Reads (λ rows. (map sums_of rows.items, cursor_of lines.new)) result (rows_after frame.now cols count (cursor_of lines.old)) }
+    ensures reads { ReadsProblem (λ rows. (map sums_of rows.items, cursor_of lines.new)) result (rows_after frame.now cols count (cursor_of lines.old)) }
     ensures of { IfOk result (λ rows. All (AllBelong frame.now.signature) rows.items) }
     ensures wide { IfOk result (λ rows. HasColumns cols rows.items) }
     ensures same { lines.new.text ≡ lines.old.text }
@@ -48,7 +48,7 @@ pub(crate) fn rows(
 
 #[tactic(auto, using(crate::proofs::ReadLemmas::fault_reads_on), unfolding(crate::specs::Problems::row_after))]
 fn row(alloc: Global, lines: &mut Lines, frame: &Frame, cols: usize) -> Result<Row, ProblemFault>
-    ensures reads { Reads (λ row. (sums_of row, cursor_of lines.new)) result (row_after frame.now cols (cursor_of lines.old)) }
+    ensures reads { ReadsProblem (λ row. (sums_of row, cursor_of lines.new)) result (row_after frame.now cols (cursor_of lines.old)) }
     ensures of { IfOk result (AllBelong frame.now.signature) }
     ensures wide { IfOk result (λ row. length row ≡ cols) }
     ensures same { lines.new.text ≡ lines.old.text }
@@ -83,7 +83,7 @@ fn entries(
     line: usize,
     rest: &[u8],
 ) -> Result<Vec<Op>, ProblemFault>
-    ensures reads { Reads (λ es. sums_of es.items) result (entries_of frame.now cols line rest.now) }
+    ensures reads { ReadsProblem (λ es. sums_of es.items) result (entries_of frame.now cols line rest.now) }
     ensures of { IfOk result (λ es. AllBelong frame.now.signature es.items) }
     ensures wide { IfOk result (λ es. length es.items ≡ cols) }
 {
@@ -101,7 +101,7 @@ fn entries(
 // The row without entries, where only spaces stand.
 #[tactic(auto, unfolding(crate::specs::Problems::entries_of))]
 fn no_entries(alloc: Global, line: usize, rest: &[u8]) -> Result<Vec<Op>, ProblemFault>
-    ensures reads { Reads (λ es. sums_of es.items) result (spaces_read line rest.now) }
+    ensures reads { ReadsProblem (λ es. sums_of es.items) result (spaces_read line rest.now) }
     ensures none { IfOk result (λ es. es.items ≡ []) }
 {
     if are_spaces(rest) {
@@ -130,7 +130,7 @@ fn parse_parts(
     line: usize,
     parts: &[&[u8]],
 ) -> Result<Vec<Vec<Instruction>>, ProblemFault>
-    ensures reads { Reads (λ ps. map (λ p. p.items) ps.items) result (parsed names.now line (map (λ w. w.now) parts.now)) }
+    ensures reads { ReadsProblem (λ ps. map (λ p. p.items) ps.items) result (parsed names.now line (map (λ w. w.now) parts.now)) }
     ensures of { IfOk result (λ ps. All (λ p. All (IsOf (length names.now)) p.items) ps.items) }
     ensures wide { IfOk result (λ ps. length ps.items ≡ length parts.now) }
 {
@@ -147,7 +147,7 @@ fn parse_part(
     line: usize,
     part: &[u8],
 ) -> Result<Vec<Instruction>, ProblemFault>
-    ensures reads { Reads (λ p. p.items) result (text_read line (parse_of names.now part.now)) }
+    ensures reads { ReadsProblem (λ p. p.items) result (text_read line (parse_of names.now part.now)) }
     ensures of { IfOk result (λ p. All (IsOf (length names.now)) p.items) }
 {
     match parse(alloc, names, part) {
@@ -172,7 +172,7 @@ fn evaluate_programs(
     programs: &[Vec<Instruction>],
 ) -> Result<Vec<Op>, ProblemFault>
     requires { All (λ p. All (IsOf (length signature.now.kinds)) p.items) programs.now }
-    ensures reads { Reads (λ es. sums_of es.items) result (evaluated signature.now line (map (λ p. p.items) programs.now)) }
+    ensures reads { ReadsProblem (λ es. sums_of es.items) result (evaluated signature.now line (map (λ p. p.items) programs.now)) }
     ensures of { IfOk result (λ es. AllBelong signature.now es.items) }
     ensures wide { IfOk result (λ es. length es.items ≡ length programs.now) }
 {
@@ -191,7 +191,7 @@ fn evaluate_program(
     instructions: &[Instruction],
 ) -> Result<Op, ProblemFault>
     requires { All (IsOf (length ring.now.kinds)) instructions.now }
-    ensures reads { Reads (λ f. f.sum) result (value_read line (value_of program ring.now instructions.now)) }
+    ensures reads { ReadsProblem (λ f. f.sum) result (value_read line (value_of program ring.now instructions.now)) }
     ensures of { IfOk result (Belongs ring.now) }
 {
     match evaluate(ring, alloc, instructions) {

@@ -10,6 +10,7 @@ ghost use Rattle.ore_problem.specs.Lines.{words as words_of};
 ghost use Rattle.ore_problem.specs.Declarations.{is_name as is_name_of, is_digits as is_digits_of, is_count as is_count_of};
 ghost use Rattle.ore_problem.specs.Problems.{are_words};
 
+use ore_text::is_name_byte;
 use std::alloc::{AllocError, Global};
 
 /// What stands between the spaces of a line, but for empty pieces.
@@ -69,9 +70,7 @@ pub(crate) fn is_name(word: &[u8]) -> bool
 fn are_name_bytes(bytes: &[u8]) -> bool
     ensures { result ≡ list_all is_name_byte_of bytes.now }
 {
-    bytes
-        .iter()
-        .all(|b| b.is_ascii_alphanumeric() || *b == b'_')
+    bytes.iter().all(|b| is_name_byte(*b))
 }
 
 /// One digit or more, and nothing else.

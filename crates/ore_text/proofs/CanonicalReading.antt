@@ -8,7 +8,7 @@
 --     TermEnd-FactorEnd                  where a term may end, so may a factor that others of the term follow
 --     front_at                           a word of name bytes has the length of the front
 --     take_front, drop_front             the word that so many bytes of a text are, and what follows it
---     Stops, GoesOn                      a byte that can't stand in a name, and one that can
+--     IsNoNameByte, IsNameByte           a byte that can't stand in a name, and one that can
 --     front_stops, front_goes_on         the length of the front, where the first byte can't, and where it can
 --     rest_at                            the text from a place on, as a slice
 --     rest_at-drop                       it is the text without the bytes before the place
@@ -83,16 +83,16 @@ take_front w tail text l f e = ap (take l) e ∙ take_at w tail l f
 pub drop_front : (w tail text : List ℕ) (l : ℕ) → length w ≡ l → text ≡ w ++ tail → drop l text ≡ tail
 drop_front w tail text l f e = ap (drop l) e ∙ drop_at w tail l f
 
-abbrev pub Stops : ℕ → Type 0
-Stops b = is_name_byte b ≡ false
+abbrev pub IsNoNameByte : ℕ → Type 0
+IsNoNameByte b = is_name_byte b ≡ false
 
-abbrev pub GoesOn : ℕ → Type 0
-GoesOn b = is_name_byte b ≡ true
+abbrev pub IsNameByte : ℕ → Type 0
+IsNameByte b = is_name_byte b ≡ true
 
-pub front_stops : (x : ℕ) (xs : List ℕ) → Stops x → front_length (x ∷ xs) ≡ 0
+pub front_stops : (x : ℕ) (xs : List ℕ) → IsNoNameByte x → front_length (x ∷ xs) ≡ 0
 front_stops x xs e = ap (λ c. cond (not (not c)) (1 + front_length xs) 0) e
 
-pub front_goes_on : (x : ℕ) (xs : List ℕ) → GoesOn x → front_length (x ∷ xs) ≡ front_length xs + 1
+pub front_goes_on : (x : ℕ) (xs : List ℕ) → IsNameByte x → front_length (x ∷ xs) ≡ front_length xs + 1
 front_goes_on x xs e = ap (λ c. cond (not (not c)) (1 + front_length xs) 0) e ∙ turned (front_length xs)
   where
     turned : (n : ℕ) → 1 + n ≡ n + 1

@@ -31,7 +31,7 @@ use Rattle.std.proofs.lemmas.Fmt.{decimal_is_IsNumeral_wide}
 use Rattle.ore_algebra.specs.Free.{collect}
 use Rattle.ore_rational.specs.Fraction.{Fraction, reduce, whole}
 use Rattle.ore_rational.specs.Reduced.{reduce-self}
-use Rattle.ore_rational.proofs.FractionLaws.{rationals}
+use Rattle.ore_rational.specs.Field.{rationals}
 use Rattle.ore_monomial.specs.Monomial.{Monomial, monomial_of, degree, plain_cmp}
 use Rattle.ore_monomial.specs.MonomialCode.{seen_again}
 use Rattle.ore_monomial.specs.Signature.{Signature, MonomialOf}
@@ -46,11 +46,12 @@ use Rattle.ore_text.specs.Laws.{CanonicalIsUnique}
 use Rattle.ore_text.specs.Printable.{IsStorableTerm}
 use Rattle.ore_text.specs.Names.{IsName, IsDistinct, AreNames, is_name_byte}
 use Rattle.ore_text.proofs.CanonicalReading.{AreNameBytes, front_length, front_length-append, decimal_in_name, decimal_first, small_decimal, take_front, drop_front, FactorEnd-WordEnd, TermEnd-FactorEnd}
-use Rattle.ore_text.proofs.Coefficients.{BeginsWithLetter, factors_of, term_front, denominator_end, one_parts, no_digit}
+use Rattle.ore_text.proofs.Coefficients.{BeginsWithLetter, factors_of, term_front, denominator_end, one_parts}
 use Rattle.ore_text.proofs.Powers.{IsOther, IsFront, name_bytes, exponent_end, power_front, star_at}
 use Rattle.ore_text.proofs.Printing.{exponent_is}
 use Rattle.ore_text.proofs.PrintableTerms.{printable_falling}
 use Rattle.ore_text.proofs.Walking.{term_first, later_end, later_filled, zero_term, zero_text, zero_good}
+use Rattle.ore_text.proofs.ByteTests.{letter_no_digit}
 
 -- ---- words and numbers
 
@@ -195,7 +196,7 @@ unfolding degree
 small_exponents m h = small_by_sum m.exponents h
 
 letter_or_digit : (b : ℕ) → is_ascii_digit b ≡ true → is_ascii_alphabetic b ≡ true → ⊥
-letter_or_digit b d l = true≢false (sym d ∙ no_digit b l)
+letter_or_digit b d l = true≢false (sym d ∙ letter_no_digit b l)
 
 -- a text doesn't begin both with a number and with a letter
 number_or_letter : (n : ℕ) (more text : List ℕ) → n < 2 ^ 127 → text ≡ decimal n ++ more → BeginsWithLetter text → ⊥

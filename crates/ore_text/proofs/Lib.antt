@@ -1,4 +1,5 @@
 pub mod Appending
+pub mod ByteTests
 pub mod CanonicalReading
 pub mod Coefficients
 pub mod Exponents

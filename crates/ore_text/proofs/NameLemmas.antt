@@ -2,7 +2,6 @@
 --     equal_bytes                  two texts pass the test of equal bytes exactly where they are the same
 --     index_of-position            the first place at which a stored key is the name is the index of the name
 --     is_some-index_of             whether a stored key is the name
---     AllByRecursion-at            what holds of all of a list holds of the item at a place
 --     AreNames-push                a name that isn't there may be added
 --     index_of-take                no name before a place is the one at the place
 --     IsAdded-insert_key           what inserting a key does to the names
@@ -16,6 +15,7 @@ use Rattle.std.proofs.lemmas.Iterator.Adapters.{position_from-zero}
 use Rattle.std.proofs.lemmas.List.{map-append, take_more}
 use Rattle.std.proofs.lemmas.Option.{get_or_from_slice_get, slice_get_within}
 use Rattle.std.proofs.lemmas.Slice.Eq.{bytes_eq-Decides}
+use Rattle.ore_algebra.proofs.ListLaws.{AllByRecursion-at}
 use Rattle.indexmap.specs.IndexSet.{insert_key}
 use Rattle.ore_text.specs.Names.{index_of}
 use Rattle.ore_text.specs.Names.{IsDistinct, AreNames, IsAdded}
@@ -63,11 +63,6 @@ module _ {K : Type 0} (f : K → List ℕ) (name : List ℕ) where
 AllByRecursion-push : {X : Type 0} (P : X → Type 0) (xs : List X) (y : X) → AllByRecursion P xs → P y → AllByRecursion P (xs ++ y ∷ [])
 AllByRecursion-push P [] y all here = (here, tt)
 AllByRecursion-push P (x ∷ xs) y all here = (all.0, AllByRecursion-push P xs y all.1 here)
-
-pub AllByRecursion-at : {X : Type 0} (P : X → Type 0) (xs : List X) (k : ℕ) (y : X) → AllByRecursion P xs → slice_get xs k ≡ Some y → P y
-AllByRecursion-at P [] k y all here = cc
-AllByRecursion-at P (x ∷ xs) zero y all here = let e : x ≡ y = cc in subst P e all.0
-AllByRecursion-at P (x ∷ xs) (suc k) y all here = AllByRecursion-at P xs k y all.1 here
 
 -- a name that isn't found is none of those before
 first_is_other : (n name : List ℕ) (b : Bool) (o : Option ℕ) → bytes_eq n name ≡ b → (if b then Some 0 else option_map suc o) ≡ None → (name ≢ n) × (o ≡ None)

@@ -17,17 +17,14 @@ use Rattle.std.specs.Char.{is_ascii_alphabetic}
 use Rattle.std.specs.Cmp.Lexicographic.{pointwise}
 use Rattle.std.proofs.lemmas.Bool.Decides.{nat_tests}
 use Rattle.std.proofs.Common.{drop-drop}
-use Rattle.std.proofs.lemmas.List.{drop_at}
+use Rattle.std.proofs.lemmas.List.{drop_at, append-nil}
 use Rattle.std.proofs.lemmas.List.Elements.{recursion_from_All}
 use Rattle.std.proofs.lemmas.Slice.Eq.{bytes_eq-Decides}
 use Rattle.ore_text.specs.CanonicalParts.{starred, stays_bare, exponent_text, IsWordEnd, IsFactorEnd, IsTermEnd}
 use Rattle.ore_text.specs.CanonicalText.{power_text, factor_texts}
 use Rattle.ore_text.specs.Names.{IsName, is_name_byte}
-use Rattle.ore_text.proofs.Printing.{append_nil}
 use Rattle.ore_text.proofs.CanonicalReading.{AreNameBytes, front_length, front_at, take_front, rest_at, rest_at-drop, FactorEnd-WordEnd, TermEnd-FactorEnd}
-
-letter_in_name : (b : ℕ) → is_ascii_alphabetic b ≡ true → is_name_byte b ≡ true
-letter_in_name b h = grind (arith, nat_tests)
+use Rattle.ore_text.proofs.ByteTests.{letter_in_name}
 
 pub name_bytes : (name : List ℕ) → IsName name → AreNameBytes name
 name_bytes [] h = absurd h
@@ -40,7 +37,7 @@ exponent_end (suc (suc e)) more h = refl
 
 power_text-exponent : (name : List ℕ) (e : ℕ) → 0 < e → power_text name e ≡ (name ++ exponent_text e) ∷ []
 power_text-exponent name zero h = absurd (omega arith)
-power_text-exponent name (suc zero) h = ap (λ x. x ∷ []) (sym (append_nil name))
+power_text-exponent name (suc zero) h = ap (λ x. x ∷ []) (sym (append-nil name))
 power_text-exponent name (suc (suc e)) h = ap (λ x. x ∷ []) (append_assoc name (94 ∷ []) (decimal (suc (suc e))))
 
 abbrev pub star_at : List ℕ → ℕ

@@ -7,18 +7,17 @@
 --     printable_falling            the falling terms of such an operator are in the variables and in range
 --     variables_of, storable_of    and an operator whose falling terms are so can be printed
 use Rattle.std.proofs.Common.{◌≡◌, ◌≢◌, ℕ, Bool, true, false, List, [], ◌∷◌, pos, refl, sym, ap, ◌∙◌, subst}
-use Rattle.std.specs.Ordering.{eq_by_cmp, is_eq}
-use Rattle.std.specs.Cmp.{tied_itself}
+use Rattle.std.specs.Ordering.{eq_by_cmp}
 use Rattle.std.specs.List.{AllByRecursion}
 use Rattle.ore_algebra.specs.Free.{terms, coefficient, sum_at}
 use Rattle.ore_algebra.proofs.FreeLaws
 use Rattle.ore_rational.specs.Fraction.{whole}
-use Rattle.ore_rational.proofs.FractionLaws.{rationals}
+use Rattle.ore_rational.specs.Field.{rationals}
 use Rattle.ore_monomial.specs.Monomial.{Monomial, plain_cmp}
 use Rattle.ore_monomial.specs.Signature.{Signature}
 use Rattle.ore_monomial.specs.declared.order.Order.{Order}
 use Rattle.ore_monomial.specs.LetterRule.{Operator}
-use Rattle.ore_monomial.proofs.Monomials.{plain_cmp_total, plain_cmp_apart}
+use Rattle.ore_monomial.proofs.Monomials.{plain_cmp_total, plain_cmp_apart, same_key, own_key}
 use Rattle.ore_ring.specs.Terms.{Term, Terms, falling, AreApart}
 use Rattle.ore_ring.specs.Belongs.{OperatorOf}
 use Rattle.ore_monomial.proofs.FallingTerms.{back_order, back_apart, sum_at-falling}
@@ -29,12 +28,6 @@ use Rattle.ore_text.specs.Printable.{IsStorableTerm, IsStorable, IsPrintable}
 module _ (P : Term → Type 0) where
   abbrev pub HoldsOf : Terms → Type 0
   HoldsOf ts = (q : Monomial) → at q ts ≢ whole (pos 0) → P (q, at q ts)
-
-  same_key : (q m : Monomial) → eq_by_cmp plain_cmp q m ≡ true → q ≡ m
-  same_key q m e = FreeLaws.same_key rationals plain_cmp_total plain_cmp_apart q m e
-
-  own_key : (m : Monomial) → eq_by_cmp plain_cmp m m ≡ true
-  own_key m = ap is_eq (tied_itself plain_cmp_total m)
 
   pub each_of_all : (ts : Terms) → AreDistinct ts → AllByRecursion P ts → HoldsOf ts
   unfolding sum_at

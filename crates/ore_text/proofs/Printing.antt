@@ -1,5 +1,4 @@
 -- The parts of a canonical text make it up.
---     append_nil                           a list with nothing behind it
 --     stays_false                          where something stands, something stands behind factors
 --     starred-append, stays_bare-append    of factors behind other factors
 --     factor_texts-drop, factor_texts-none
@@ -19,17 +18,13 @@
 use Rattle.std.proofs.Common.{◌≡◌, ℕ, zero, suc, ◌<◌, ◌≤◌, Bool, true, false, cond, List, [], ◌∷◌, ◌++◌, length, take, drop, get_or, slice_get, Some, None, refl, sym, ap, ◌∙◌, append_assoc, arith}
 use Rattle.std.specs.Prelude.{codes}
 use Rattle.std.specs.List.{flat_map, join_with_byte}
-use Rattle.std.proofs.lemmas.List.{drop_all}
+use Rattle.std.proofs.lemmas.List.{drop_all, append-nil}
 use Rattle.ore_rational.specs.Fraction.{Fraction}
 use Rattle.ore_text.proofs.Known.{same_some, not_none}
 use Rattle.ore_text.specs.CanonicalParts.{starred, stays_bare}
 use Rattle.ore_monomial.specs.Monomial.{Monomial, exponent}
 use Rattle.ore_ring.specs.Terms.{Term, Terms}
 use Rattle.ore_text.specs.CanonicalText.{power_text, factor_texts, magnitude_text, is_one, with_factors, sign_text, term_text, later_text, terms_text}
-
-pub append_nil : (xs : List ℕ) → xs ++ [] ≡ xs
-append_nil [] = refl
-append_nil (x ∷ xs) = ap (λ t. x ∷ t) (append_nil xs)
 
 pub stays_false : (fs : List (List ℕ)) → stays_bare false fs ≡ false
 stays_false [] = refl
@@ -85,16 +80,16 @@ flat_map-drop f zero (x ∷ xs) = sym (append_assoc (f x) [] (flat_map f xs))
 flat_map-drop f (suc k) (x ∷ xs) = flat_map-drop f k xs
 
 joined : (fs : List (List ℕ)) (f : List ℕ) → join_with_byte 42 (f ∷ fs) ≡ f ++ starred false fs
-joined [] f = sym (append_nil f)
+joined [] f = sym (append-nil f)
 joined (g ∷ fs) f = ap (λ t. f ++ 42 ∷ t) (joined fs g)
 
 -- the factors of a term whose magnitude is 1 or not, and the magnitude where the term is bare still
 pub term_text-starred : (q : Fraction) (fs : List (List ℕ)) (b : Bool) → is_one q ≡ b
     → with_factors q fs ≡ (cond b [] (magnitude_text q) ++ starred b fs) ++ cond (stays_bare b fs) (magnitude_text q) []
 term_text-starred q [] true e = refl
-term_text-starred q [] false e = sym (append_nil (magnitude_text q ++ []) ∙ append_nil (magnitude_text q))
-term_text-starred q (f ∷ fs) true e = rw e (joined fs f ∙ sym (append_nil (f ++ starred false fs)))
-term_text-starred q (f ∷ fs) false e = rw e (joined (f ∷ fs) (magnitude_text q) ∙ sym (append_nil (magnitude_text q ++ starred false (f ∷ fs))))
+term_text-starred q [] false e = sym (append-nil (magnitude_text q ++ []) ∙ append-nil (magnitude_text q))
+term_text-starred q (f ∷ fs) true e = rw e (joined fs f ∙ sym (append-nil (f ++ starred false fs)))
+term_text-starred q (f ∷ fs) false e = rw e (joined (f ∷ fs) (magnitude_text q) ∙ sym (append-nil (magnitude_text q ++ starred false (f ∷ fs))))
 
 pub factor_texts-none : (k : ℕ) (names : List (List ℕ)) (es : List ℕ) → length names ≤ k → factor_texts (drop k names) es ≡ []
 factor_texts-none k names es h = rw (drop_all k names h) refl
@@ -118,11 +113,11 @@ exponent_is m x = refl
 pub full_text : (q : Fraction) (fs : List (List ℕ)) (old mid new : List ℕ) → is_one q ≡ false → mid ≡ old ++ magnitude_text q → new ≡ mid ++ starred false fs → new ≡ old ++ with_factors q fs
 full_text q fs old mid new e f g =
     g ∙ ap (λ t. t ++ starred false fs) f ∙ append_assoc old (magnitude_text q) (starred false fs)
-    ∙ ap (λ t. old ++ t) (sym (term_text-starred q fs false e ∙ ap (λ b. (magnitude_text q ++ starred false fs) ++ cond b (magnitude_text q) []) (stays_false fs) ∙ append_nil (magnitude_text q ++ starred false fs)))
+    ∙ ap (λ t. old ++ t) (sym (term_text-starred q fs false e ∙ ap (λ b. (magnitude_text q ++ starred false fs) ++ cond b (magnitude_text q) []) (stays_false fs) ∙ append-nil (magnitude_text q ++ starred false fs)))
 
 -- a term whose magnitude is 1, where it has factors
 pub bare_text : (q : Fraction) (fs : List (List ℕ)) (old new : List ℕ) → is_one q ≡ true → new ≡ old ++ starred true fs → stays_bare true fs ≡ false → new ≡ old ++ with_factors q fs
-bare_text q fs old new e g b = g ∙ ap (λ t. old ++ t) (sym (term_text-starred q fs true e ∙ ap (λ b. starred true fs ++ cond b (magnitude_text q) []) b ∙ append_nil (starred true fs)))
+bare_text q fs old new e g b = g ∙ ap (λ t. old ++ t) (sym (term_text-starred q fs true e ∙ ap (λ b. starred true fs ++ cond b (magnitude_text q) []) b ∙ append-nil (starred true fs)))
 
 -- and where it has none
 pub one_text : (q : Fraction) (fs : List (List ℕ)) (old mid new : List ℕ) → is_one q ≡ true → mid ≡ old ++ starred true fs → stays_bare true fs ≡ true → new ≡ mid ++ magnitude_text q → new ≡ old ++ with_factors q fs
@@ -144,4 +139,4 @@ no_terms_written names (u ∷ ts) h = absurd (not_none refl h)
 
 -- the term at a place, if there is one
 pub later_written : (names : List (List ℕ)) (ts : Terms) (k : ℕ) (t : Term) (old new : List ℕ) → slice_get ts k ≡ Some t → new ≡ old ++ later_text names t → new ≡ old ++ flat_map (later_text names) (take 1 (drop k ts))
-later_written names ts k t old new h e = e ∙ ap (λ x. old ++ x) (sym (append_nil (later_text names t))) ∙ sym (ap (λ us. old ++ flat_map (later_text names) us) (take_one-some ts k t h))
+later_written names ts k t old new h e = e ∙ ap (λ x. old ++ x) (sym (append-nil (later_text names t))) ∙ sym (ap (λ us. old ++ flat_map (later_text names) us) (take_one-some ts k t h))

@@ -7,13 +7,14 @@ use Rattle.std.proofs.Common.{◌≡◌, ℕ, zero, suc, ◌/◌, ◌%◌, ◌<�
 use Rattle.std.specs.Prelude.{nat_eq, nat_abs, decimal, codes}
 use Rattle.std.specs.Char.{is_ascii_alphabetic}
 use Rattle.std.specs.Fmt.{digits, digits_onto, digit_glyph}
-use Rattle.std.specs.List.{list_all, join_with_byte, flat_map, AllByRecursion}
+use Rattle.std.specs.List.{join_with_byte, flat_map, AllByRecursion}
 use Rattle.std.proofs.lemmas.List.Folds.{list_all-append}
 use Rattle.std.proofs.lemmas.List.Sums.{list_all-from_AllPass}
 use Rattle.std.proofs.lemmas.Bool.{eqb-true}
 use Rattle.std.proofs.lemmas.Bool.Decides.{nat_tests}
+use Rattle.ore_algebra.proofs.ListLaws.{list_all-weaker}
 use Rattle.ore_rational.specs.Fraction.{Fraction}
-use Rattle.ore_rational.proofs.FractionLaws.{rationals}
+use Rattle.ore_rational.specs.Field.{rationals}
 use Rattle.ore_monomial.specs.declared.order.Order.{Order}
 use Rattle.ore_monomial.specs.LetterRule.{Operator}
 use Rattle.ore_ring.specs.Terms.{Term, Terms, falling}
@@ -60,15 +61,6 @@ passes_no_stop p comma end b h = by (nat_eq b 44) (nat_eq b 10) refl refl
     by true y e f = absurd (true≢false (sym h ∙ ap p (eqb-true b 44 e) ∙ comma))
     by false true e f = absurd (true≢false (sym h ∙ ap p (eqb-true b 10 f) ∙ end))
     by false false e f = λ i. not (e i || f i)
-
-list_all-weaker : (p q : ℕ → Bool) → ((b : ℕ) → p b ≡ true → q b ≡ true) → (xs : List ℕ) → list_all p xs ≡ true → list_all q xs ≡ true
-list_all-weaker p q w [] h = refl
-list_all-weaker p q w (x ∷ xs) h = by (p x) (list_all p xs) refl refl h (list_all-weaker p q w xs)
-  where
-    by : (a b : Bool) → p x ≡ a → list_all p xs ≡ b → (a && b) ≡ true → (list_all p xs ≡ true → list_all q xs ≡ true) → list_all q (x ∷ xs) ≡ true
-    by true true e f g more = λ i. w x e i && more f i
-    by true false e f g more = cc
-    by false b e f g more = cc
 
 pub LacksStops-name : (name : List ℕ) → IsName name → LacksStops name
 LacksStops-name [] is = absurd is

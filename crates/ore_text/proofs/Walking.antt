@@ -6,19 +6,18 @@
 --     IsTaken                  a term was added, and its text was passed
 --     zero_term, zero_text, zero_good
 --                              the term 0, whose text is `0`, and which may be printed
---     IsFirst, first_term      the walk begins with the first term, or with 0
---     IsNext, next_term        and goes on with the next
+--     HasFirstTerm, first_term  the walk begins with the first term, or with 0
+--     HasNextTerm, next_term   and goes on with the next
 --     no_others                to the end, where all terms are added
 --     same_operator            operators with the same falling terms are the same
 use Rattle.std.proofs.Common.{◌≡◌, ◌≢◌, inl, inr, ℕ, zero, suc, ◌<◌, ◌≤◌, ◌^◌, true, List, [], ◌∷◌, ◌++◌, length, drop, get_or, replicate, pos, negsuc, ℤ, nat_abs, refl, sym, ap, ◌∙◌, subst, append_assoc, arith}
 use Rattle.std.specs.Prelude.{codes}
 use Rattle.std.specs.List.{AllByRecursion, flat_map}
 use Rattle.std.specs.Char.{is_ascii_digit, is_ascii_alphabetic}
-use Rattle.std.proofs.lemmas.Bool.Decides.{nat_tests}
 use Rattle.std.proofs.lemmas.Fmt.{decimal_digit}
 use Rattle.ore_algebra.specs.Free.{collect}
 use Rattle.ore_rational.specs.Fraction.{whole}
-use Rattle.ore_rational.proofs.FractionLaws.{rationals}
+use Rattle.ore_rational.specs.Field.{rationals}
 use Rattle.ore_monomial.specs.Monomial.{unit, degree, plain_cmp}
 use Rattle.ore_monomial.specs.Signature.{Signature}
 use Rattle.ore_monomial.specs.declared.order.Order.{Order}
@@ -28,12 +27,13 @@ use Rattle.ore_ring.specs.Ordered.{Ordered}
 use Rattle.ore_ring.specs.Terms.{Term, Terms, falling, IsBelowLast, IsFalling}
 use Rattle.ore_ring.proofs.Falls.{falls_tail, first, less_of}
 use Rattle.ore_ring.proofs.TermLaws.{collect-falling}
-use Rattle.ore_text.specs.CanonicalParts.{IsTermEnd, terms_of, kept, IsPrintableTerm}
+use Rattle.ore_text.specs.CanonicalParts.{IsTermEnd, terms_of, term_unless_zero, IsPrintableTerm}
 use Rattle.ore_text.specs.CanonicalText.{factor_texts, with_factors, sign_text, term_text, later_text, terms_text}
 use Rattle.ore_text.specs.Names.{IsName, is_name_byte}
 use Rattle.ore_text.proofs.Appending.{kept-zero, kept-other}
 use Rattle.ore_text.proofs.CanonicalReading.{decimal_first}
 use Rattle.ore_text.proofs.Coefficients.{term_front}
+use Rattle.ore_text.proofs.ByteTests.{letter_in_name, digit_in_name}
 
 pub record Left (names : List (List ℕ)) (all done : Terms) (rest : List ℕ) : Type 0 where
   pub others : Terms
@@ -42,16 +42,10 @@ pub record Left (names : List (List ℕ)) (all done : Terms) (rest : List ℕ) :
 
 -- ---- what stands where a term begins and ends
 
-digit_byte : (b : ℕ) → is_ascii_digit b ≡ true → is_name_byte b ≡ true
-digit_byte b h = grind (arith, nat_tests)
-
-letter_byte : (b : ℕ) → is_ascii_alphabetic b ≡ true → is_name_byte b ≡ true
-letter_byte b h = grind (arith, nat_tests)
-
 pub term_first : (names : List (List ℕ)) (t : Term) (tail : List ℕ) → AllByRecursion IsName names → nat_abs t.1.num < 2 ^ 127 → is_name_byte (get_or (term_text names t ++ tail) 0 0) ≡ true
 term_first names t tail h n = elim (term_front names t tail h) [
-  | inl w ↦ digit_byte (get_or (term_text names t ++ tail) 0 0) (ap (λ x. is_ascii_digit (get_or x 0 0)) w ∙ decimal_first (nat_abs t.1.num) _ n)
-  | inr b ↦ letter_byte (get_or (term_text names t ++ tail) 0 0) (ap (λ x. is_ascii_alphabetic (get_or x 0 0)) b.1 ∙ b.2)
+  | inl w ↦ digit_in_name (get_or (term_text names t ++ tail) 0 0) (ap (λ x. is_ascii_digit (get_or x 0 0)) w ∙ decimal_first (nat_abs t.1.num) _ n)
+  | inr b ↦ letter_in_name (get_or (term_text names t ++ tail) 0 0) (ap (λ x. is_ascii_alphabetic (get_or x 0 0)) b.1 ∙ b.2)
 ]
 
 pub later_end : (names : List (List ℕ)) (ts : Terms) → IsTermEnd (flat_map (later_text names) ts)
@@ -94,24 +88,24 @@ append_nil_terms (x ∷ xs) = ap (λ us. x ∷ us) (append_nil_terms xs)
 
 -- a term was added, and its text was passed
 abbrev pub IsTaken : List ℕ → List ℕ → Terms → Terms → Term → ℕ → Type 0
-IsTaken text tail old new t next = (drop next text ≡ tail) × (new ≡ old ++ kept t)
+IsTaken text tail old new t next = (drop next text ≡ tail) × (new ≡ old ++ term_unless_zero t)
 
 -- ---- the next term
 
 -- what the next call reads: a term, and the text behind it
-pub record IsNext (s : Signature) (o : Order) (names : List (List ℕ)) (all done : Terms) (rest : List ℕ) : Type 0 where
+pub record HasNextTerm (s : Signature) (o : Order) (names : List (List ℕ)) (all done : Terms) (rest : List ℕ) : Type 0 where
   pub term : Term
   pub tail : List ℕ
   pub good : IsPrintableTerm s term
   pub end : IsTermEnd tail
   pub below : IsBelowLast o done term.0
   pub spelled : rest ≡ later_text names term ++ tail
-  pub goes_on : (next : Terms) (now : List ℕ) → now ≡ tail → next ≡ done ++ kept term → Left names all next now
+  pub goes_on : (next : Terms) (now : List ℕ) → now ≡ tail → next ≡ done ++ term_unless_zero term → Left names all next now
 
-pub next_term : (s : Signature) (o : Order) (names : List (List ℕ)) (all done : Terms) (rest : List ℕ) → IsFalling o all → AllByRecursion (IsPrintableTerm s) all → 0 < length rest → Left names all done rest → IsNext s o names all done rest
+pub next_term : (s : Signature) (o : Order) (names : List (List ℕ)) (all done : Terms) (rest : List ℕ) → IsFalling o all → AllByRecursion (IsPrintableTerm s) all → 0 < length rest → Left names all done rest → HasNextTerm s o names all done rest
 next_term s o names all done rest falls good filled h = by h.others h.all_are h.left
   where
-    by : (ts : Terms) → all ≡ done ++ ts → rest ≡ flat_map (later_text names) ts → IsNext s o names all done rest
+    by : (ts : Terms) → all ≡ done ++ ts → rest ≡ flat_map (later_text names) ts → HasNextTerm s o names all done rest
     by [] e l = absurd (none rest l filled)
       where
         none : (rest : List ℕ) → rest ≡ [] → 0 < length rest → ⊥
@@ -165,15 +159,15 @@ unit_degree = omega arith
 pub zero_good : (s : Signature) → IsPrintableTerm s zero_term
 zero_good s = record { variables = λ x l. exponent-unit x; storable = record { numerator = omega arith; denominator = omega arith; degree = unit_degree } }
 
-pub record IsFirst (s : Signature) (o : Order) (names : List (List ℕ)) (all : Terms) (text : List ℕ) : Type 0 where
+pub record HasFirstTerm (s : Signature) (o : Order) (names : List (List ℕ)) (all : Terms) (text : List ℕ) : Type 0 where
   pub term : Term
   pub tail : List ℕ
   pub good : IsPrintableTerm s term
   pub end : IsTermEnd tail
   pub spelled : text ≡ sign_text term.1.num [] (codes "-") ++ (term_text names term ++ tail)
-  pub goes_on : (next : Terms) (now : List ℕ) → now ≡ tail → next ≡ kept term → Left names all next now
+  pub goes_on : (next : Terms) (now : List ℕ) → now ≡ tail → next ≡ term_unless_zero term → Left names all next now
 
-pub first_term : (s : Signature) (o : Order) (names : List (List ℕ)) (all : Terms) (text : List ℕ) → IsFalling o all → AllByRecursion (IsPrintableTerm s) all → text ≡ terms_text names all → IsFirst s o names all text
+pub first_term : (s : Signature) (o : Order) (names : List (List ℕ)) (all : Terms) (text : List ℕ) → IsFalling o all → AllByRecursion (IsPrintableTerm s) all → text ≡ terms_text names all → HasFirstTerm s o names all text
 first_term s o names [] text falls good e = record {
   term = zero_term;
   tail = [];

@@ -6,10 +6,10 @@
 --     is_negative        whether a minus stands before a number
 --     IsWordEnd, IsFactorEnd, IsTermEnd     what may follow a name or a number, a factor, a term
 --     terms_of           the terms of a stored operator, falling
---     kept_unless, kept  a term as the list that it adds to others: 0 adds nothing
+--     term_unless, term_unless_zero  a term as the list that it adds to others: 0 adds nothing
 --     IsPrintableTerm    a term in the variables of a signature with numbers in range
 use Rattle.std.specs.Prelude.{◌≡◌, ◌⊎◌, ℕ, zero, suc, Bool, true, false, if◌then◌else◌, nat_eq, List, [], ◌∷◌, ◌++◌, ℤ, pos, negsuc, decimal}
-use Rattle.ore_rational.proofs.FractionLaws.{rationals}
+use Rattle.ore_rational.specs.Field.{rationals}
 use Rattle.ore_monomial.specs.Signature.{Signature, MonomialOf}
 use Rattle.ore_ring.specs.Ordered.{Ordered}
 use Rattle.ore_ring.specs.Terms.{Term, Terms, falling}
@@ -62,13 +62,13 @@ abbrev pub terms_of : Ordered → Terms
 terms_of f = falling f.by f.sum
 
 -- no term where P holds, else this one
-abbrev pub kept_unless : {P : Type 0} → Dec P → Term → Terms
-kept_unless (yes e) t = []
-kept_unless (no n) t = t ∷ []
+abbrev pub term_unless : {P : Type 0} → Dec P → Term → Terms
+term_unless (yes e) t = []
+term_unless (no n) t = t ∷ []
 
 -- no term where the coefficient is 0, else this one
-unfoldable pub kept : Term → Terms
-kept t = kept_unless (rationals.discrete t.1 rationals.zero) t
+unfoldable pub term_unless_zero : Term → Terms
+term_unless_zero t = term_unless (rationals.discrete t.1 rationals.zero) t
 
 -- its monomial is of the signature; its numbers and its degree are in the ranges of the program
 pub record IsPrintableTerm (s : Signature) (t : Term) : Type 0 where

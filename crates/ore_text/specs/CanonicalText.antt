@@ -11,7 +11,7 @@
 use Rattle.std.specs.Prelude.{ℕ, zero, suc, Bool, if◌then◌else◌, ◌&&◌, nat_eq, List, [], ◌∷◌, ◌++◌, ℤ, pos, negsuc, nat_abs, codes, decimal}
 use Rattle.std.specs.List.{join_with_byte, flat_map}
 use Rattle.ore_rational.specs.Fraction.{Fraction}
-use Rattle.ore_rational.proofs.FractionLaws.{rationals}
+use Rattle.ore_rational.specs.Field.{rationals}
 use Rattle.ore_monomial.specs.declared.order.Order.{Order}
 use Rattle.ore_monomial.specs.LetterRule.{Operator}
 use Rattle.ore_ring.specs.Terms.{Term, Terms, falling}

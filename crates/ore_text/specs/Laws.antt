@@ -1,7 +1,7 @@
 -- The law of canonical texts.
 --     CanonicalIsUnique    no text is the canonical text of two operators
 use Rattle.std.specs.Prelude.{◌≡◌, ℕ, List}
-use Rattle.ore_rational.proofs.FractionLaws.{rationals}
+use Rattle.ore_rational.specs.Field.{rationals}
 use Rattle.ore_monomial.specs.Signature.{Signature}
 use Rattle.ore_monomial.specs.LetterRule.{Operator}
 use Rattle.ore_text.specs.CanonicalText.{operator_text}

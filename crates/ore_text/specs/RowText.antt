@@ -2,7 +2,7 @@
 --     listed         pieces with a comma and a space between each two
 --     row_text       `row`, the canonical texts of the entries where there are some, and a line end
 use Rattle.std.specs.Prelude.{ℕ, List, [], ◌∷◌, ◌++◌, map, codes}
-use Rattle.ore_rational.proofs.FractionLaws.{rationals}
+use Rattle.ore_rational.specs.Field.{rationals}
 use Rattle.ore_monomial.specs.declared.order.Order.{Order}
 use Rattle.ore_monomial.specs.LetterRule.{Operator}
 use Rattle.ore_text.specs.CanonicalText.{operator_text}

@@ -11,7 +11,7 @@ ghost use Rattle.ore_monomial.specs.Monomial.{Monomial, degree};
 ghost use Rattle.ore_monomial.specs.Signature.{MonomialOf};
 ghost use Rattle.ore_ring.specs.Belongs.{Belongs};
 ghost use Rattle.ore_ring.specs.Terms.{Term, IsBelowLast};
-ghost use Rattle.ore_text.specs.CanonicalParts.{starred, stays_bare, exponent_text, denominator_text, is_negative as is_negative_of, IsWordEnd, IsFactorEnd, IsTermEnd, terms_of, kept, IsPrintableTerm};
+ghost use Rattle.ore_text.specs.CanonicalParts.{starred, stays_bare, exponent_text, denominator_text, is_negative as is_negative_of, IsWordEnd, IsFactorEnd, IsTermEnd, terms_of, term_unless_zero, IsPrintableTerm};
 ghost use Rattle.ore_text.specs.CanonicalText.{power_text, factor_texts, term_text, sign_text, later_text, operator_text};
 ghost use Rattle.ore_text.specs.Printable.{IsStorable, IsPrintable};
 ghost use Rattle.ore_text.specs.Names.{IsName, is_name_byte as name_byte};
@@ -116,7 +116,7 @@ fn take_later(
     ensures by { op.new.by ≡ op.old.by }
     ensures good { All (IsPrintableTerm algebra.now.signature.now) (terms_of op.old) → All (IsPrintableTerm algebra.now.signature.now) (terms_of op.new) }
     ensures only { IfOk result (λ o. (t : Term) (tail : List ℕ) → IsPrintableTerm algebra.now.signature.now t → IsTermEnd tail → IsBelowLast op.old.by (terms_of op.old) t.0 → drop at text.now ≡ later_text algebra.now.names.now t ++ tail
-        → MatchOption o ⊥ (λ next. (drop next text.now ≡ tail) × (terms_of op.new ≡ terms_of op.old ++ kept t))) }
+        → MatchOption o ⊥ (λ next. (drop next text.now ≡ tail) × (terms_of op.new ≡ terms_of op.old ++ term_unless_zero t))) }
 {
     let Some(is_negative) = later_sign(&text[at..]) else {
         return Ok(None)
@@ -137,7 +137,7 @@ fn take_term(
     ensures by { op.new.by ≡ op.old.by }
     ensures good { All (IsPrintableTerm algebra.now.signature.now) (terms_of op.old) → All (IsPrintableTerm algebra.now.signature.now) (terms_of op.new) }
     ensures only { IfOk result (λ o. (t : Term) (tail : List ℕ) → IsPrintableTerm algebra.now.signature.now t → IsTermEnd tail → is_negative ≡ is_negative_of t.1.num → (t.1 ≡ whole (pos 0)) ⊎ IsBelowLast op.old.by (terms_of op.old) t.0
-        → drop at text.now ≡ term_text algebra.now.names.now t ++ tail → MatchOption o ⊥ (λ next. (drop next text.now ≡ tail) × (terms_of op.new ≡ terms_of op.old ++ kept t))) }
+        → drop at text.now ≡ term_text algebra.now.names.now t ++ tail → MatchOption o ⊥ (λ next. (drop next text.now ≡ tail) × (terms_of op.new ≡ terms_of op.old ++ term_unless_zero t))) }
 {
     let Some((term, length)) = read_term(algebra, &text[at..], is_negative) else {
         return Ok(None)
@@ -152,8 +152,8 @@ fn take_term(
 // Adds a term below the others. False where it is not below them; 0 adds nothing.
 fn add_below(op: &mut Op, term: &(Exps, Rational)) -> Result<bool, NoMemory>
     ensures by { op.new.by ≡ op.old.by }
-    ensures added { (terms_of op.new ≡ terms_of op.old) ⊎ (terms_of op.new ≡ terms_of op.old ++ kept term.now) }
-    ensures only { IfOk result (λ b. (term.now.1 ≡ whole (pos 0)) ⊎ IsBelowLast op.old.by (terms_of op.old) term.now.0 → (b ≡ true) × (terms_of op.new ≡ terms_of op.old ++ kept term.now)) }
+    ensures added { (terms_of op.new ≡ terms_of op.old) ⊎ (terms_of op.new ≡ terms_of op.old ++ term_unless_zero term.now) }
+    ensures only { IfOk result (λ b. (term.now.1 ≡ whole (pos 0)) ⊎ IsBelowLast op.old.by (terms_of op.old) term.now.0 → (b ≡ true) × (terms_of op.new ≡ terms_of op.old ++ term_unless_zero term.now)) }
 {
     if term.1.is_zero() {
         return Ok(true);
@@ -399,7 +399,8 @@ fn word_length(text: &[u8]) -> usize
         .unwrap_or(text.len())
 }
 
-fn is_name_byte(b: u8) -> bool
+/// A letter, a digit or an underscore.
+pub fn is_name_byte(b: u8) -> bool
     ensures { result ≡ name_byte b }
 {
     b.is_ascii_alphanumeric() || b == b'_'

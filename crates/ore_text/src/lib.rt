@@ -21,7 +21,7 @@ pub mod print;
 pub mod row_text;
 
 pub use algebra::Algebra;
-pub use canonical::{operator_in, read_canonical};
+pub use canonical::{is_name_byte, operator_in, read_canonical};
 pub use names::Names;
 pub use print::{append_line, append_number, append_operator, print_operator};
 pub use row_text::{append_row, read_row};

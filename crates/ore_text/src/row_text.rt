@@ -2,7 +2,7 @@
 
 ghost use Rattle.std.specs.Prelude.{◌≡◌, ◌++◌, ℕ, List, length, map, IfOk, OnOk, IfSome, MatchOption};
 ghost use Rattle.std.specs.List.{AllByRecursion, position, position_or_len};
-ghost use Rattle.ore_rational.proofs.FractionLaws.{rationals};
+ghost use Rattle.ore_rational.specs.Field.{rationals};
 ghost use Rattle.ore_monomial.specs.LetterRule.{Operator};
 ghost use Rattle.ore_ring.specs.Belongs.{Belongs, AllBelong};
 ghost use Rattle.ore_text.specs.RowText.{row_text};

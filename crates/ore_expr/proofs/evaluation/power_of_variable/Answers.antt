@@ -1,7 +1,8 @@
 use Rattle.std.proofs.Common.{◌<◌, sym, ap, ◌∙◌, subst, rules, arith}
 use Rattle.ore_monomial.specs.Signature.{Signature, MonomialOf}
 use Rattle.ore_monomial.proofs.Signatures.{count_at_most_12}
-use Rattle.ore_expr.proofs.Stacks.{power_is, power_of, power_of_variable_is, term_belongs}
+use Rattle.ore_monomial.proofs.Monomials.{power_is}
+use Rattle.ore_expr.proofs.Stacks.{power_of, power_of_variable_is, term_belongs}
 use Rattle.ore_expr.proofs.evaluation.power_of_variable.Goals as goal
 
 pub offset_bounds-exponents-variable : goal.offset_bounds-exponents-variable

@@ -1,7 +1,8 @@
 use Rattle.std.proofs.Common.{refl, sym, ◌∙◌, subst, arith}
 use Rattle.ore_monomial.specs.Signature.{MonomialOf}
+use Rattle.ore_monomial.proofs.Monomials.{power_is}
 use Rattle.ore_expr.specs.Values.{power_of_variable}
-use Rattle.ore_expr.proofs.Stacks.{power_is, power_of}
+use Rattle.ore_expr.proofs.Stacks.{power_of}
 use Rattle.ore_rows.proofs.Dots.{term_belongs}
 use Rattle.ore_generate.specs.Chain.{signature}
 use Rattle.ore_generate.proofs.Chains.{term_sum, power_of_variable_is}

@@ -2,12 +2,12 @@ use Rattle.std.proofs.Common.{◌≡◌, ◌<◌, ◌≤◌, ◌++◌, inr, ℕ,
 use Rattle.std.specs.List.{All}
 use Rattle.std.proofs.lemmas.List.{length-drop}
 use Rattle.std.proofs.lemmas.List.Elements.{All-from_recursion}
-use Rattle.ore_rational.proofs.FractionLaws.{rationals}
+use Rattle.ore_rational.specs.Field.{rationals}
 use Rattle.ore_monomial.specs.LetterRule.{Operator}
 use Rattle.ore_monomial.specs.declared.order.Order.{Order}
 use Rattle.ore_ring.specs.Terms.{falling, IsBelowLast}
 use Rattle.ore_ring.proofs.AllTerms.{falls-falling}
-use Rattle.ore_text.specs.CanonicalParts.{terms_of, kept, IsPrintableTerm}
+use Rattle.ore_text.specs.CanonicalParts.{terms_of, term_unless_zero, IsPrintableTerm}
 use Rattle.ore_text.specs.CanonicalText.{term_text, terms_text, operator_text}
 use Rattle.ore_text.proofs.PrintableTerms.{printable_falling}
 use Rattle.ore_text.proofs.Walking.{IsTaken, first_term, next_term, term_first, no_others, same_operator}
@@ -49,7 +49,7 @@ loop-at-init c = record {
       let sign = c.first_sign-is_negative.ensures.only first.term.1.num (term_text names first.term ++ first.tail) (term_first names first.term first.tail c.args.algebra.now.form.form first.good.storable.numerator) first.spelled in
       let taken = at_some (IsTaken text first.tail (terms_of c.args.op.now) (terms_of c.take_term.new.op) first.term) c.in_ok-end.field-0 c.in-Some.end c.in-Some.is
       (c.in_ok-end.ensures.only first.term first.tail first.good first.end sign.0 (inr (subst (λ ts. IsBelowLast c.args.op.now.by ts first.term.0) (sym c.requires) tt)) sign.1) in
-      first.goes_on (terms_of c.take_term.new.op) (drop c.in-Some.end text) taken.0 (taken.1 ∙ ap (λ ts. ts ++ kept first.term) c.requires);
+      first.goes_on (terms_of c.take_term.new.op) (drop c.in-Some.end text) taken.0 (taken.1 ∙ ap (λ ts. ts ++ term_unless_zero first.term) c.requires);
 }
 
 filled : (text : List ℕ) (at : ℕ) → at < length text → 0 < length (drop at text)

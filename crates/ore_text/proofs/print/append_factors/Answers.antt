@@ -1,7 +1,8 @@
 use Rattle.std.proofs.Common.{◌≡◌, ◌<◌, ℕ, [], ◌++◌, length, drop, get_or, sym, ap, ◌∙◌, subst, arith, add-one}
+use Rattle.std.proofs.lemmas.List.{append-nil}
 use Rattle.ore_text.specs.CanonicalText.{power_text, factor_texts}
 use Rattle.ore_text.specs.CanonicalParts.{starred, stays_bare}
-use Rattle.ore_text.proofs.Printing.{factor_written, bare_after, factor_texts-none, append_nil, exponent_is}
+use Rattle.ore_text.proofs.Printing.{factor_written, bare_after, factor_texts-none, exponent_is}
 use Rattle.ore_text.proofs.print.append_factors.Goals as goal
 
 abbrev Written : goal.In_ok-is_bare → ℕ → Type 0
@@ -25,6 +26,6 @@ pub returns : goal.returns
 returns c =
     let none : factor_texts (drop c.loop-k.k c.args.algebra.now.names.now) (drop c.loop-k.k c.args.exps.now.exponents) ≡ [] = factor_texts-none c.loop-k.k c.args.algebra.now.names.now _ (omega (arith, c.args.algebra.now.count, c.loop-k-test.false, c.count-k-end.ensures.value)) in
     record {
-      text = sym (ap (λ fs. c.loop-k.text.items ++ starred c.loop-k.is_bare fs) none ∙ append_nil c.loop-k.text.items) ∙ c.loop-k.invariant.text;
+      text = sym (ap (λ fs. c.loop-k.text.items ++ starred c.loop-k.is_bare fs) none ∙ append-nil c.loop-k.text.items) ∙ c.loop-k.invariant.text;
       bare = sym (ap (λ fs. stays_bare c.loop-k.is_bare fs) none) ∙ c.loop-k.invariant.bare;
     }

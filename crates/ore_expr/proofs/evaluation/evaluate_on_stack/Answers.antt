@@ -9,7 +9,7 @@ use Rattle.ore_ring.specs.Ordered.{Ordered}
 use Rattle.ore_expr.specs.Evaluation.{applied}
 use Rattle.ore_expr.specs.Stack.{values_of}
 use Rattle.ore_expr.proofs.Stacks.{values_of-nil, last_stack, top_value, top_none, zero_belongs}
-use Rattle.ore_expr.proofs.evaluation.evaluate.Goals as goal
+use Rattle.ore_expr.proofs.evaluation.evaluate_on_stack.Goals as goal
 
 pub loop-instruction-init : goal.loop-instruction-init
 loop-instruction-init g c =

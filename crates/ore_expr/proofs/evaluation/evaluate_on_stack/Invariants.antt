@@ -4,7 +4,7 @@ use Rattle.ore_algebra.specs.Limits.{program, fold_within}
 use Rattle.ore_ring.specs.Belongs.{Belongs}
 use Rattle.ore_expr.specs.Evaluation.{applied}
 use Rattle.ore_expr.specs.Stack.{values_of}
-use Rattle.ore_expr.proofs.evaluation.evaluate.Given as goal
+use Rattle.ore_expr.proofs.evaluation.evaluate_on_stack.Given as goal
 
 abbrev pub invariant-loop-instruction : goal.invariant-loop-instruction
 invariant-loop-instruction g l = record {
