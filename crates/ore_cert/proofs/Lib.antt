@@ -2,7 +2,6 @@ pub mod KindLaws
 pub mod PrintedKinds
 pub mod ReportLaws
 pub mod RunsLaws
-pub mod MadeFormats
 pub mod WholeLaws
 pub mod ReadingLaws
 pub mod WrittenCertificates

@@ -1,18 +1,16 @@
 -- The lines of reports have one value each, and what follows the plan is a format.
---     same_places, two_lack, three_places_lack, two_same     places as they are written
---     plan_tag, plan_count, plan_with, plan_again     a plan by its number among plans and the number behind it
---     plan_tag_in, plan_tag_is, plan_count_in, plan_count_is     what the words of a plan say of these
---     plan_few, plan_same, plan_lacks                these may be written; the words of a plan tell it, and lack the line end
---     first_place, choice_same, choice_lacks         so do those of a choice
---     stop_first, stop_same, stop_lacks, line_same, line_lacks     and those of the last line, and of the line of a run
+--     read_plan, plan_again                          the plan that words tell; those of a plan that may be written tell it
+--     plan_lacks                                     the words of a plan lack the line end
+--     choice_same, choice_lacks                      those of a choice tell it, and lack the line end
+--     stop_first, stop_same, stop_lacks, line_same, line_lacks     so do those of the last line, and of the line of a run
 --     plan_words_are, choice_words_are, report_words_are     the words of lines differ
 --     plan_is, choice_is, report_line_is             so these lines are formats
 --     no_plan, no_choice, no_stop, no_report_line    words that are none of them
---     choices_behind, choices_of, choices_are        how many choices follow a line; these as a format
---     next_parts, next_from                          a run with its choices, or the last line, as a line and choices; and back
---     next_sequence, next_names, next_is             so it is a format
---     next_again, may_parts, may_next, choice_line, choice_lines, none_left, text_parts, text_next     what this owes
-use Rattle.std.proofs.Common.{◌≡◌, ℕ, suc, ◌<◌, if◌then◌else◌, List, [], ◌∷◌, ◌++◌, length, drop, refl, sym, ap, subst, ◌∙◌, append-nil, arith}
+--     choices_behind, choices_of                     how many choices follow a line; these as a format
+--     next_from, next_sequence, line_and_choices     a run with its choices, or the last line, from a line and choices, and back
+--     next_parts, next_is                            so it is two parts, and a format
+--     may_next, choice_line, choice_lines, text_next, next_makes     what this owes
+use Rattle.std.proofs.Common.{◌≡◌, ℕ, suc, ◌<◌, if◌then◌else◌, List, [], ◌∷◌, ◌++◌, length, refl, sym, ap, subst, ◌∙◌, append-nil}
 use Rattle.std.specs.Prelude.{◌≢◌, nat_eq, codes, decimal}
 use Rattle.std.specs.List.{flat_map}
 use Rattle.std.proofs.lemmas.List.{append_cancel_left}
@@ -33,106 +31,30 @@ use Rattle.ore_parts.specs.Formats.{Format, sequence, items}
 use Rattle.ore_parts.specs.Lines.{LacksByte}
 use Rattle.ore_cert.specs.ReportFormats.{plan_line, plan_format, choice_words, choice_format, stop_line, report_line_words, report_line_format, IsWrittenReportLine, next_text, next_format, IsNoPlainPlan}
 use Rattle.ore_cert.specs.WholeText.{choice_text, IsWrittenChoice, IsWrittenPlan, IsWrittenStop, IsLength}
-use Rattle.ore_parts.proofs.Bytes.{LacksByte-append, LacksByte-cons, LacksByte-decimal}
-use Rattle.ore_parts.proofs.FormatLaws.{IsFormat, AreWords, Renames, line_is, sequence_is, renamed_is, items_is}
-use Rattle.ore_cert.proofs.KindLaws.{byte_at, apart_at, counted_lacks, below}
-use Rattle.ore_parts.proofs.Numbers.{numbers_cancel, same_decimal}
-
--- ---- places
-
-same_places : (i j : ℕ) → is_place i → is_place j → place i ≡ place j → i ≡ j
-same_places i j h k e = let s = same_decimal (suc i) (suc j) h k e in omega (arith, s)
-
-two_lack : (a b : ℕ) → LacksByte 10 (decimal a ++ 32 ∷ decimal b)
-two_lack a b = LacksByte-append 10 (decimal a) (32 ∷ decimal b) (LacksByte-decimal 10 a (omega arith)) (LacksByte-cons 10 32 (decimal b) refl (LacksByte-decimal 10 b (omega arith)))
-
-three_places_lack : (a b c : ℕ) → LacksByte 10 (decimal a ++ 32 ∷ (decimal b ++ 32 ∷ decimal c))
-three_places_lack a b c = LacksByte-append 10 (decimal a) (32 ∷ (decimal b ++ 32 ∷ decimal c)) (LacksByte-decimal 10 a (omega arith)) (LacksByte-cons 10 32 (decimal b ++ 32 ∷ decimal c) refl (two_lack b c))
-
-two_same : (i j k l : ℕ) → is_place i × is_place j → is_place k × is_place l → place i ++ 32 ∷ place j ≡ place k ++ 32 ∷ place l → (i ≡ k) × (j ≡ l)
-two_same i j k l h g e =
-    let r = numbers_cancel (suc i) (suc k) (place j) (place l) e in
-    (same_places i k h.0 g.0 r.0, same_places j l h.1 g.1 r.1)
+use Rattle.ore_parts.proofs.Bytes.{LacksByte-append}
+use Rattle.ore_parts.proofs.FormatLaws.{IsFormat, AreWords, Makes, decoded, line_is, items_is, none_left}
+use Rattle.ore_cert.proofs.KindLaws.{byte_at, apart_at, number_behind, below}
+use Rattle.ore_parts.proofs.Numbers.{same_decimal}
+use Rattle.ore_parts.proofs.Places.{number_value, counted_lacks, two_lack, three_lack, place_rest, two_same, zero_is_place}
+use Rattle.ore_parts.proofs.TwoParts.{TwoParts, two_are}
 
 -- ---- plans
 
-plan_tag : Plan → ℕ
-plan_tag Analyse = 0
-plan_tag KernelLeft = 1
-plan_tag KernelRight = 2
-plan_tag InverseLeft = 3
-plan_tag InverseRight = 4
-plan_tag (Resolve k) = 5
-plan_tag (Ext k) = 6
-plan_tag Adjoint = 7
+read_plan : List ℕ → Plan
+read_plan t =
+    if nat_eq (byte_at 5 t) 97 then (if nat_eq (byte_at 6 t) 110 then Analyse else Adjoint) else if nat_eq (byte_at 5 t) 107 then (if nat_eq (byte_at 12 t) 108 then KernelLeft else KernelRight)
+    else if nat_eq (byte_at 5 t) 105 then (if nat_eq (byte_at 13 t) 108 then InverseLeft else InverseRight) else if nat_eq (byte_at 5 t) 114 then Resolve (number_behind 13 t) else Ext (number_behind 9 t)
 
-plan_count : Plan → ℕ
-plan_count (Resolve k) = k
-plan_count (Ext k) = k
-plan_count plan = 0
-
-plan_with : ℕ → ℕ → Plan
-plan_with t k =
-    if nat_eq t 0 then Analyse else if nat_eq t 1 then KernelLeft else if nat_eq t 2 then KernelRight else if nat_eq t 3 then InverseLeft else if nat_eq t 4 then InverseRight else if nat_eq t 5 then Resolve k else if nat_eq t 6 then Ext k else Adjoint
-
-plan_again : (p : Plan) → plan_with (plan_tag p) (plan_count p) ≡ p
-unfolding plan_with plan_tag plan_count
-plan_again Analyse = refl
-plan_again KernelLeft = refl
-plan_again KernelRight = refl
-plan_again InverseLeft = refl
-plan_again InverseRight = refl
-plan_again (Resolve k) = refl
-plan_again (Ext k) = refl
-plan_again Adjoint = refl
-
-plan_tag_in : List ℕ → ℕ
-plan_tag_in t =
-    if nat_eq (byte_at 5 t) 97 then (if nat_eq (byte_at 6 t) 110 then 0 else 7) else if nat_eq (byte_at 5 t) 107 then (if nat_eq (byte_at 12 t) 108 then 1 else 2)
-    else if nat_eq (byte_at 5 t) 105 then (if nat_eq (byte_at 13 t) 108 then 3 else 4) else if nat_eq (byte_at 5 t) 114 then 5 else 6
-
-plan_tag_is : (p : Plan) → plan_tag_in (plan_line p) ≡ plan_tag p
-unfolding plan_tag_in plan_tag
-plan_tag_is Analyse = refl
-plan_tag_is KernelLeft = refl
-plan_tag_is KernelRight = refl
-plan_tag_is InverseLeft = refl
-plan_tag_is InverseRight = refl
-plan_tag_is (Resolve k) = refl
-plan_tag_is (Ext k) = refl
-plan_tag_is Adjoint = refl
-
-plan_count_in : ℕ → List ℕ → List ℕ
-plan_count_in t text = if nat_eq t 5 then drop 13 text else if nat_eq t 6 then drop 9 text else decimal 0
-
-plan_count_is : (p : Plan) → plan_count_in (plan_tag p) (plan_line p) ≡ decimal (plan_count p)
-unfolding plan_count_in plan_tag plan_count
-plan_count_is Analyse = refl
-plan_count_is KernelLeft = refl
-plan_count_is KernelRight = refl
-plan_count_is InverseLeft = refl
-plan_count_is InverseRight = refl
-plan_count_is (Resolve k) = refl
-plan_count_is (Ext k) = refl
-plan_count_is Adjoint = refl
-
-plan_few : (p : Plan) → IsWrittenPlan p → plan_count p < number_bound
-unfolding plan_count
-plan_few Analyse h = omega arith
-plan_few KernelLeft h = omega arith
-plan_few KernelRight h = omega arith
-plan_few InverseLeft h = omega arith
-plan_few InverseRight h = omega arith
-plan_few (Resolve k) h = below k h.1
-plan_few (Ext k) h = below k h.1
-plan_few Adjoint h = omega arith
-
-plan_same : (p q : Plan) → IsWrittenPlan p → IsWrittenPlan q → plan_line p ≡ plan_line q → p ≡ q
-plan_same p q h k e =
-    let tags : plan_tag p ≡ plan_tag q = sym (plan_tag_is p) ∙ ap plan_tag_in e ∙ plan_tag_is q in
-    let counts : decimal (plan_count p) ≡ decimal (plan_count q) = sym (plan_count_is p) ∙ (λ i. plan_count_in (tags i) (e i)) ∙ plan_count_is q in
-    let same = same_decimal (plan_count p) (plan_count q) (plan_few p h) (plan_few q k) counts in
-    sym (plan_again p) ∙ (λ i. plan_with (tags i) (same i)) ∙ plan_again q
+plan_again : (p : Plan) → IsWrittenPlan p → read_plan (plan_line p) ≡ p
+unfolding read_plan
+plan_again Analyse h = refl
+plan_again KernelLeft h = refl
+plan_again KernelRight h = refl
+plan_again InverseLeft h = refl
+plan_again InverseRight h = refl
+plan_again (Resolve k) h = ap Resolve (number_value k (below k h.1))
+plan_again (Ext k) h = ap Ext (number_value k (below k h.1))
+plan_again Adjoint h = refl
 
 plan_lacks : (p : Plan) → LacksByte 10 (plan_line p)
 plan_lacks Analyse = refl
@@ -145,7 +67,7 @@ plan_lacks (Ext k) = counted_lacks (codes "plan ext ") k refl
 plan_lacks Adjoint = refl
 
 pub plan_words_are : AreWords plan_line IsWrittenPlan
-plan_words_are = record { some = (Analyse, tt); lacks = λ p h. plan_lacks p; same = plan_same }
+plan_words_are = record { some = (Analyse, tt); lacks = λ p h. plan_lacks p; same = decoded plan_line IsWrittenPlan read_plan plan_again }
 
 pub plan_is : IsFormat plan_format
 plan_is = line_is plan_line IsWrittenPlan plan_words_are
@@ -167,20 +89,16 @@ choice_same (choice.Treat i j) (choice.Treat k l) h g e = let r = two_same i j k
 choice_same (choice.Treat i j) (choice.Skip k l m) h g e = absurd (apart_at 0 116 115 (choice_words (choice.Treat i j)) (choice_words (choice.Skip k l m)) e refl refl refl)
 choice_same (choice.Skip k l m) (choice.Treat i j) h g e = absurd (apart_at 0 115 116 (choice_words (choice.Skip k l m)) (choice_words (choice.Treat i j)) e refl refl refl)
 choice_same (choice.Skip i j v) (choice.Skip k l w) h g e =
-    let r = numbers_cancel (suc i) (suc k) (place j ++ 32 ∷ place v) (place l ++ 32 ∷ place w) (append_cancel_left (codes "skip ") (place i ++ 32 ∷ (place j ++ 32 ∷ place v)) (place k ++ 32 ∷ (place l ++ 32 ∷ place w)) e) in
-    let first = same_places i k h.0 g.0 r.0 in
+    let r = place_rest i k (place j ++ 32 ∷ place v) (place l ++ 32 ∷ place w) h.0 g.0 (append_cancel_left (codes "skip ") (place i ++ 32 ∷ (place j ++ 32 ∷ place v)) (place k ++ 32 ∷ (place l ++ 32 ∷ place w)) e) in
     let rest = two_same j v l w (h.1, h.2) (g.1, g.2) r.1 in
-    λ x. choice.Skip (first x) (rest.0 x) (rest.1 x)
+    λ x. choice.Skip (r.0 x) (rest.0 x) (rest.1 x)
 
 choice_lacks : (c : Choice) → LacksByte 10 (choice_words c)
 choice_lacks (choice.Treat i j) = LacksByte-append 10 (codes "treat ") (place i ++ 32 ∷ place j) refl (two_lack (suc i) (suc j))
-choice_lacks (choice.Skip i j v) = LacksByte-append 10 (codes "skip ") (place i ++ 32 ∷ (place j ++ 32 ∷ place v)) refl (three_places_lack (suc i) (suc j) (suc v))
-
-first_place : is_place 0
-first_place = omega arith
+choice_lacks (choice.Skip i j v) = LacksByte-append 10 (codes "skip ") (place i ++ 32 ∷ (place j ++ 32 ∷ place v)) refl (three_lack (suc i) (suc j) (suc v))
 
 pub choice_words_are : AreWords choice_words IsWrittenChoice
-choice_words_are = record { some = (choice.Treat 0 0, (first_place, first_place)); lacks = λ c h. choice_lacks c; same = choice_same }
+choice_words_are = record { some = (choice.Treat 0 0, (zero_is_place, zero_is_place)); lacks = λ c h. choice_lacks c; same = choice_same }
 
 pub choice_is : IsFormat choice_format
 choice_is = line_is choice_words IsWrittenChoice choice_words_are
@@ -240,36 +158,21 @@ no_report_line text r s (StopLine t) h e = s t h e
 
 -- ---- a run with its choices, or the last line
 
-unfoldable pub choices_behind : ReportLine → ℕ
+abbrev choices_behind : ReportLine → ℕ
 choices_behind (RunLine count) = count
 choices_behind (StopLine stop) = 0
 
-abbrev pub choices_of : ReportLine → Format (List Choice)
+abbrev choices_of : ReportLine → Format (List Choice)
 choices_of k = items choice_format (choices_behind k)
 
-unfoldable pub next_parts : Next → ReportLine × List Choice
-next_parts (Run choices) = (RunLine (length choices), choices)
-next_parts (End stop) = (StopLine stop, [])
-
-unfoldable pub next_from : ReportLine → List Choice → Next
+abbrev next_from : ReportLine → List Choice → Next
 next_from (RunLine count) choices = Run choices
 next_from (StopLine stop) choices = End stop
 
-pub next_again : (n : Next) → next_from (next_parts n).0 (next_parts n).1 ≡ n
-unfolding next_parts next_from
-next_again (Run choices) = refl
-next_again (End stop) = refl
-
-abbrev pub next_sequence : Format (ReportLine × List Choice)
+abbrev next_sequence : Format (ReportLine × List Choice)
 next_sequence = sequence report_line_format choices_of
 
-pub may_parts : (n : Next) → next_format.may n → next_sequence.may (next_parts n)
-unfolding next_parts choices_behind
-may_parts (Run choices) h = (h.few, (refl, h.all))
-may_parts (End stop) h = (h, (refl, All-nil IsWrittenChoice))
-
-pub may_next : (k : ReportLine) (choices : List Choice) → IsWrittenReportLine k → (choices_of k).may choices → next_format.may (next_from k choices)
-unfolding next_from choices_behind
+may_next : (k : ReportLine) (choices : List Choice) → IsWrittenReportLine k → (choices_of k).may choices → next_format.may (next_from k choices)
 may_next (RunLine count) choices h g = record { few = subst (λ n. n < number_bound) (sym g.0) h; all = g.1 }
 may_next (StopLine stop) choices h g = h
 
@@ -280,33 +183,27 @@ choice_line (choice.Skip i j v) = refl
 choice_lines : (cs : List Choice) → flat_map choice_text cs ≡ flat_map choice_format.text cs
 choice_lines cs = λ i. flat_map (λ c. choice_line c i) cs
 
-pub text_parts : (n : Next) → next_text n ≡ next_sequence.text (next_parts n)
-unfolding next_parts
-text_parts (Run choices) = ap (λ t. (report_line_words (RunLine (length choices)) ++ 10 ∷ []) ++ t) (choice_lines choices)
-text_parts (End stop) = sym (append-nil (stop_line stop ++ 10 ∷ []))
-
-none_left : (cs : List Choice) → length cs ≡ 0 → [] ≡ flat_map choice_format.text cs
-none_left [] h = refl
-none_left (c ∷ cs) h = absurd (let z : ⊥ = omega arith in z)
-
-pub text_next : (k : ReportLine) (choices : List Choice) → (choices_of k).may choices → next_text (next_from k choices) ≡ next_sequence.text (k, choices)
-unfolding next_from choices_behind
+text_next : (k : ReportLine) (choices : List Choice) → (choices_of k).may choices → next_text (next_from k choices) ≡ next_sequence.text (k, choices)
 text_next (RunLine count) choices h = ap (λ t. (report_line_words (RunLine (length choices)) ++ 10 ∷ []) ++ t) (choice_lines choices) ∙ ap (λ n. (report_line_words (RunLine n) ++ 10 ∷ []) ++ flat_map choice_format.text choices) h.0
-text_next (StopLine stop) choices h = sym (append-nil (stop_line stop ++ 10 ∷ [])) ∙ ap (λ t. (stop_line stop ++ 10 ∷ []) ++ t) (none_left choices h.0)
+text_next (StopLine stop) choices h = sym (append-nil (stop_line stop ++ 10 ∷ [])) ∙ ap (λ t. (stop_line stop ++ 10 ∷ []) ++ t) (none_left choice_format choices h.0)
 
-unfoldable pub next_names : Renames next_sequence next_format
-next_names = record {
-  from = next_parts;
+line_and_choices : (n : Next) → next_format.may n → (p : ReportLine × List Choice) × next_sequence.may p × (next_from p.0 p.1 ≡ n)
+line_and_choices (Run choices) h = ((RunLine (length choices), choices), (h.few, (refl, h.all)), refl)
+line_and_choices (End stop) h = ((StopLine stop, []), (h, (refl, All-nil IsWrittenChoice)), refl)
+
+pub next_makes : Makes next_sequence next_format (λ p. next_from p.0 p.1)
+next_makes = record { may_to = λ p h. may_next p.0 p.1 h.0 h.1; text_to = λ p h. text_next p.0 p.1 h.1; from = line_and_choices }
+
+abbrev pub next_parts : TwoParts ReportLine (List Choice) Next
+next_parts = record {
+  first = report_line_format;
+  second = choices_of;
+  whole = next_format;
   to = λ p. next_from p.0 p.1;
-  again = λ n h. next_again n;
-  may_from = may_parts;
-  may_to = λ p h. may_next p.0 p.1 h.0 h.1;
-  text_from = λ n h. text_parts n;
-  text_to = λ p h. text_next p.0 p.1 h.1;
+  first_is = report_line_is;
+  second_is = λ k h. items_is choice_format choice_is (choices_behind k);
+  makes = next_makes;
 }
 
-pub choices_are : (k : ReportLine) → IsFormat (choices_of k)
-choices_are k = items_is choice_format choice_is (choices_behind k)
-
 pub next_is : IsFormat next_format
-next_is = renamed_is next_sequence next_format next_names (sequence_is report_line_format choices_of report_line_is (λ k h. choices_are k))
+next_is = two_are next_parts

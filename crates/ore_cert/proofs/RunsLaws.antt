@@ -2,6 +2,7 @@
 --     run_item, run_is         a run with its choices
 --     finds_run                what follows is a run
 --     runs_is                  the runs and the last line
+--     report_parts             the plan, and then these
 --     runs_found, runs_fault   what a reader answers that reads one run after the other
 --     shorter                  a run takes some bytes
 --     same_run, same_end, apart     runs and last lines
@@ -17,6 +18,7 @@ use Rattle.std.proofs.lemmas.List.Elements.{All-nil, All-cons, All-head, All-tai
 use Rattle.ore_rows.specs.declared.choices.Choice.{Choice}
 use Rattle.ore_parts.specs.declared.fault.CertFault.{CertFault}
 use Rattle.ore_parts.specs.declared.fault.CertFault.TheVariants.{Malformed, Memory}
+use Rattle.ore_cert.specs.declared.report.Plan.{Plan}
 use Rattle.ore_cert.specs.declared.report.Stop.{Stop}
 use Rattle.ore_cert.specs.declared.report.Stop.TheVariants.{Forced}
 use Rattle.ore_cert.specs.declared.report_lines.Next.{Next}
@@ -25,13 +27,14 @@ use Rattle.ore_parts.specs.FaultyLine.{IsFaultyLine, FollowedBy}
 use Rattle.ore_parts.specs.Formats.{Format, IsTextOf, line_count, Finds, items}
 use Rattle.ore_parts.specs.Lines.{Unread, raw_lines}
 use Rattle.ore_parts.specs.Reading.{IsStartFault}
-use Rattle.ore_cert.specs.ReportFormats.{stop_line, next_text, next_format, runs_format}
+use Rattle.ore_cert.specs.ReportFormats.{stop_line, plan_format, next_text, next_format, runs_format}
 use Rattle.ore_cert.specs.WholeText.{run_text, IsWrittenChoice, IsWrittenRun, IsWrittenStop}
 use Rattle.ore_parts.proofs.FaultyLines.{IsWhole, whole_append, stray_faulty, faulty_stray, stray_behind, stray_same}
 use Rattle.ore_parts.proofs.FormatFaults.{Strays, strays_faulty, faulty_strays, front_lines}
 use Rattle.ore_parts.proofs.FormatLaws.{IsFormat, line_count-append, whole_text, items_is}
 use Rattle.ore_parts.proofs.FormatReads.{finds}
-use Rattle.ore_cert.proofs.ReportLaws.{next_is}
+use Rattle.ore_parts.proofs.TwoParts.{TwoParts, both}
+use Rattle.ore_cert.proofs.ReportLaws.{plan_is, next_is}
 
 -- ---- one run
 
@@ -100,6 +103,10 @@ runs_is = record {
   whole = λ p h. whole_text (line_count (flat p.0) + line_count (end_text p.1)) (flat p.0 ++ end_text p.1) (whole_append (line_count (flat p.0)) (line_count (end_text p.1)) (flat p.0) (end_text p.1) (whole_runs p.0 h.0) (next_is.whole (End p.1) h.1));
   cancel = λ p q h k u v e. let r = runs_cancel p.0 q.0 p.1 q.1 h.0 k.0 h.1 k.1 u v e in (λ i. (r.0 i, r.1 i), r.2);
 }
+
+-- the plan, and then the runs and the last line
+abbrev pub report_parts : TwoParts Plan (Runs × Stop) (Plan × (Runs × Stop))
+report_parts = both plan_format (λ _. runs_format) plan_is (λ p h. runs_is)
 
 pub runs_found : (old mid new : Unread) (k : ℕ) (rs : Runs) (s : Stop) → Finds (items run_item k) old rs mid → Finds next_format mid (End s) new → Finds runs_format old (rs, s) new
 runs_found old mid new k rs s a b =

@@ -1,6 +1,6 @@
 -- What reading a certificate answers, and what follows from it.
 --     IsAnswer          the answer is a certificate whose text it is, or a fault that names the faulty line
---     PrintedIsRead     the text of a certificate is read as that certificate, where there is memory
+--     PrintedCertificateIsRead  the text of a certificate is read as that certificate, where there is memory
 --     TextIsOfOne       no text is that of two certificates
 use Rattle.std.specs.Prelude.{◌≡◌, ℕ, List, length, IfOk, IfErr}
 use Rattle.std.specs.declared.result.Result.{Result}
@@ -20,8 +20,8 @@ pub record IsAnswer (s : Signature) (names : List (List ℕ)) (text : List ℕ) 
 
 -- what is answered of the text of a certificate that may be written is that certificate, or want of memory; there is a
 -- name for each variable
-abbrev pub PrintedIsRead : Type 0
-PrintedIsRead = (s : Signature) (names : List (List ℕ)) → AreNames names → length names ≡ length s.kinds → (c : Certificate) (answer : Result Certificate CertFault) → IsWrittenCertificate s names c
+abbrev pub PrintedCertificateIsRead : Type 0
+PrintedCertificateIsRead = (s : Signature) (names : List (List ℕ)) → AreNames names → length names ≡ length s.kinds → (c : Certificate) (answer : Result Certificate CertFault) → IsWrittenCertificate s names c
     → IsAnswer s names (certificate_text names s.order c) answer → IfOk answer (λ d. d ≡ c) × IfErr answer (λ e. e ≡ Memory)
 
 -- two certificates that may be written and have one text are the same, where there is a name for each variable

@@ -7,7 +7,7 @@
 --     IsStorableCertificate                a certificate; of a report nothing is said
 use Rattle.std.specs.Prelude.{◌<◌, List, length}
 use Rattle.std.specs.List.{All}
-use Rattle.ore_rational.proofs.FractionLaws.{rationals}
+use Rattle.ore_rational.specs.Field.{rationals}
 use Rattle.ore_ring.specs.Ordered.{Ordered}
 use Rattle.ore_text.specs.Printable.{IsStorableTerm, IsStorable}
 use Rattle.ore_rows.specs.Reduction.{Step}

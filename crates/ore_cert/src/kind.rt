@@ -8,6 +8,7 @@ ghost use Rattle.ore_cert.specs.KindFormat.{halted_words, IsWrittenKind, kind_fo
 
 use crate::report::Cause;
 use ore_parts::count::count_in;
+use ore_parts::line::read_line;
 use ore_parts::{CertFault, Lines};
 
 /// The kind of a certificate, and what its line says besides. What the kinds claim stands at `Certificate`.
@@ -59,14 +60,7 @@ impl Kind {
 pub fn read_kind(lines: &mut Lines<'_>) -> Result<Kind, CertFault>
     ensures { ReadsOne kind_format lines.old result lines.new }
 {
-    let line = lines.at();
-    let Some(words) = lines.take() else {
-        return Err(CertFault::Malformed { line })
-    };
-    match kind_in(words) {
-        Some(kind) => Ok(kind),
-        None => Err(CertFault::Malformed { line }),
-    }
+    read_line(lines, kind_in)
 }
 
 // The kind that these words are.

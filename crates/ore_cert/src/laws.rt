@@ -2,13 +2,13 @@
 
 ghost use Rattle.std.specs.Prelude.{ℕ, List};
 ghost use Rattle.ore_monomial.specs.Signature.{Signature};
-ghost use Rattle.ore_cert.specs.CertificateLaws.{PrintedIsRead, TextIsOfOne};
+ghost use Rattle.ore_cert.specs.CertificateLaws.{PrintedCertificateIsRead, TextIsOfOne};
 ghost use Rattle.ore_parts.specs.FaultyLine.{HasOneFaultyLine};
 ghost use Rattle.ore_cert.specs.WholeText.{IsCertificate};
 
 /// What is printed of a certificate that may be written is read as that certificate, where there is memory.
 pub fn law_printed_is_read()
-    ensures { PrintedIsRead }
+    ensures { PrintedCertificateIsRead }
 {}
 
 /// No text is that of two certificates.

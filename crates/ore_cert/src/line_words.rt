@@ -8,6 +8,7 @@ ghost use Rattle.ore_cert.specs.WholeFormats.{unit_format, operator_words, opera
 ghost use Rattle.ore_cert.specs.WholeText.{IsWrittenOperator};
 
 use ore_monomial::NoMemory;
+use ore_parts::line::read_line;
 use ore_parts::sizes::place_in;
 use ore_parts::{CertFault, Lines};
 use ore_ring::Op;
@@ -21,14 +22,7 @@ use std::alloc::Global;
 pub fn read_unit(lines: &mut Lines<'_>) -> Result<usize, CertFault>
     ensures { ReadsOne unit_format lines.old result lines.new }
 {
-    let line = lines.at();
-    let Some(words) = lines.take() else {
-        return Err(CertFault::Malformed { line })
-    };
-    match unit_in(words) {
-        Some(unit) => Ok(unit),
-        None => Err(CertFault::Malformed { line }),
-    }
+    read_line(lines, unit_in)
 }
 
 fn unit_in(words: &[u8]) -> Option<usize>

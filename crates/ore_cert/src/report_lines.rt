@@ -9,6 +9,7 @@ ghost use Rattle.ore_cert.specs.ReportFormats.{plan_line, IsNoPlainPlan, choice_
 use crate::kind::length_behind;
 use crate::report::{Plan, Stop};
 use ore_parts::count::count_in;
+use ore_parts::line::read_line;
 use ore_parts::lines::cut_at;
 use ore_parts::sizes::{place_in, places_in};
 use ore_parts::{CertFault, Lines};
@@ -92,42 +93,21 @@ fn read_choices(alloc: Global, count: usize, lines: &mut Lines<'_>) -> Result<Ch
 fn read_choice(lines: &mut Lines<'_>) -> Result<Choice, CertFault>
     ensures { ReadsOne choice_format lines.old result lines.new }
 {
-    let line = lines.at();
-    let Some(words) = lines.take() else {
-        return Err(CertFault::Malformed { line })
-    };
-    match choice_in(words) {
-        Some(choice) => Ok(choice),
-        None => Err(CertFault::Malformed { line }),
-    }
+    read_line(lines, choice_in)
 }
 
 // The plan on the line that is due.
 fn read_plan(lines: &mut Lines<'_>) -> Result<Plan, CertFault>
     ensures { ReadsOne plan_format lines.old result lines.new }
 {
-    let line = lines.at();
-    let Some(words) = lines.take() else {
-        return Err(CertFault::Malformed { line })
-    };
-    match plan_in(words) {
-        Some(plan) => Ok(plan),
-        None => Err(CertFault::Malformed { line }),
-    }
+    read_line(lines, plan_in)
 }
 
 // The line of a run, or the last line of a report.
 fn read_report_line(lines: &mut Lines<'_>) -> Result<ReportLine, CertFault>
     ensures { ReadsOne report_line_format lines.old result lines.new }
 {
-    let line = lines.at();
-    let Some(words) = lines.take() else {
-        return Err(CertFault::Malformed { line })
-    };
-    match report_line_in(words) {
-        Some(found) => Ok(found),
-        None => Err(CertFault::Malformed { line }),
-    }
+    read_line(lines, report_line_in)
 }
 
 // The plan that these words are.

@@ -18,7 +18,7 @@ use Rattle.ore_parts.specs.Lines.{LacksByte, IsLine, raw_lines}
 use Rattle.ore_parts.specs.FaultyLine.{IsFaultyStart, FollowedBy}
 use Rattle.ore_parts.specs.Formats.{Format, IsTextOf, line_count, sequence, items}
 use Rattle.ore_parts.proofs.FaultyLines.{IsWhole, stray_faulty, faulty_stray, whole_line, raw_lines-line, join, join-raw_lines, join-append, begins, take_past}
-use Rattle.ore_parts.proofs.FormatLaws.{IsFormat, Renames, line_count-append, line_count-line, one_more, more_items, items_is}
+use Rattle.ore_parts.proofs.FormatLaws.{IsFormat, Makes, text_of, line_count-append, line_count-line, one_more, onto, more_items, items_is}
 
 pub record Strays {X : Type 0} (F : Format X) (text : List ℕ) (before : ℕ) : Type 0 where
   pub follows : (x : X) × F.may x × (before < line_count (F.text x)) × (take before (raw_lines text) ≡ take before (raw_lines (F.text x)))
@@ -154,21 +154,21 @@ module _ {X Y : Type 0} (F : Format X) (G : X → Format Y) (f : IsFormat F) (g 
 
 -- ---- the same texts for other values
 
-pub same_strays : {X Y : Type 0} (F : Format X) (H : Format Y) → Renames F H → (text : List ℕ) (n : ℕ) → Strays F text n → Strays H text n
-same_strays F H r text n s =
+pub same_strays : {X Y : Type 0} (F : Format X) (H : Format Y) (to : X → Y) → Makes F H to → (text : List ℕ) (n : ℕ) → Strays F text n → Strays H text n
+same_strays F H to m text n s =
     let x = s.follows.0 in
     let h = s.follows.1 in
-    let is : H.text (r.to x) ≡ F.text x = r.text_to x h in
+    let is : H.text (to x) ≡ F.text x = m.text_to x h in
     record {
-      follows = (r.to x, r.may_to x h, subst (λ t. n < line_count t) (sym is) s.follows.2, s.follows.3 ∙ ap (λ t. take n (raw_lines t)) (sym is));
-      differs = λ y after k e. s.differs (r.from y) after (r.may_from y k) (e ∙ ap (λ t. take (suc n) (raw_lines (t ++ after))) (r.text_from y k));
+      follows = (to x, m.may_to x h, subst (λ t. n < line_count t) (sym is) s.follows.2, s.follows.3 ∙ ap (λ t. take n (raw_lines t)) (sym is));
+      differs = λ y after k e. let r = m.from y k in s.differs r.0 after r.1 (e ∙ ap (λ t. take (suc n) (raw_lines (t ++ after))) (text_of F H to m y k));
     }
 
 -- ---- so many values
 
 module _ {X : Type 0} (F : Format X) (f : IsFormat F) where
   one_more_strays : (n : ℕ) (text : List ℕ) (k : ℕ) → Strays (one_more F n) text k → Strays (items F (suc n)) text k
-  one_more_strays n text k s = same_strays (one_more F n) (items F (suc n)) (more_items F f.some.0 n) text k s
+  one_more_strays n text k s = same_strays (one_more F n) (items F (suc n)) (onto F) (more_items F n) text k s
 
   count_more : (x : X) (xs : List X) → F.may x → All F.may xs → line_count (F.text x ++ flat_map F.text xs) ≡ line_count (F.text x) + line_count (flat_map F.text xs)
   count_more x xs h all = line_count-append (line_count (F.text x)) (line_count (flat_map F.text xs)) (F.text x) (flat_map F.text xs) (f.whole x h) ((items_is F f (length xs)).whole xs (refl, all))

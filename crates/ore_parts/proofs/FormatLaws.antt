@@ -2,13 +2,14 @@
 --     IsFormat                the three
 --     line_count-whole, line_count-append, line_count-line, whole_text    the number of lines of whole lines
 --     AreWords                words of a line for each value
---     fixed_is, line_is, sequence_is, items_is, renamed_is    formats
---     Renames                 two formats have the same texts, for other values
+--     decoded                 values that are read back from their words have different words
+--     fixed_is, line_is, sequence_is, items_is, made_is    formats
+--     Makes                   each value that may be written is made of one of another format, which has the same text
+--     text_of                 the text of what a value is made of
 --     same_texts, other_texts     a text of the first is one of the second, and the other way round
---     one_more, more_items    so many values are one and then the others
+--     one_more, onto, first_and_rest, more_items     so many values are one and then the others
 --     second_cancel           no text begins with those of two second values
---     no_items, none_is       no value is a format
---     apart, again, may_apart, text_apart     some values as the first and the others
+--     no_items, none_left, none_is       no value has no text, and is a format
 use Rattle.std.proofs.Common.{◌≡◌, ℕ, zero, suc, ◌+◌, List, [], ◌∷◌, ◌++◌, length, refl, sym, ap, subst, ◌∙◌, append_assoc, append-nil, arith}
 use Rattle.std.specs.List.{All, flat_map}
 use Rattle.std.proofs.lemmas.List.{append_cancel_left, append_cancel_right}
@@ -53,6 +54,9 @@ pub record AreWords {X : Type 0} (words : X → List ℕ) (may : X → Type 0) :
   pub lacks : (x : X) → may x → LacksByte 10 (words x)
   pub same : (x y : X) → may x → may y → words x ≡ words y → x ≡ y
 
+pub decoded : {X : Type 0} (words : X → List ℕ) (may : X → Type 0) (read : List ℕ → X) → ((x : X) → may x → read (words x) ≡ x) → (x y : X) → may x → may y → words x ≡ words y → x ≡ y
+decoded words may read again x y h k e = sym (again x h) ∙ ap read e ∙ again y k
+
 pub line_is : {X : Type 0} (words : X → List ℕ) (may : X → Type 0) → AreWords words may → IsFormat (one_line words may)
 line_is words may w = record {
   some = w.some;
@@ -79,32 +83,33 @@ module _ {X Y : Type 0} (F : Format X) (G : X → Format Y) (f : IsFormat F) (g 
         (λ i. (first.0 i, second.0 i), second.1);
   }
 
--- ---- the same texts for other values
+-- ---- values that are made of those of another format, with the same texts
 
-pub record Renames {X Y : Type 0} (F : Format X) (H : Format Y) : Type 0 where
-  pub from : Y → X
-  pub to : X → Y
-  pub again : (y : Y) → H.may y → to (from y) ≡ y
-  pub may_from : (y : Y) → H.may y → F.may (from y)
+pub record Makes {X Y : Type 0} (F : Format X) (H : Format Y) (to : X → Y) : Type 0 where
   pub may_to : (x : X) → F.may x → H.may (to x)
-  pub text_from : (y : Y) → H.may y → H.text y ≡ F.text (from y)
   pub text_to : (x : X) → F.may x → H.text (to x) ≡ F.text x
+  pub from : (y : Y) → H.may y → (x : X) × F.may x × (to x ≡ y)
 
-module _ {X Y : Type 0} (F : Format X) (H : Format Y) (r : Renames F H) where
-  pub renamed_is : IsFormat F → IsFormat H
-  renamed_is f = record {
-    some = (r.to f.some.0, r.may_to f.some.0 f.some.1);
-    whole = λ y h. subst (λ t. IsWhole (line_count t) t) (sym (r.text_from y h)) (f.whole (r.from y) (r.may_from y h));
+module _ {X Y : Type 0} (F : Format X) (H : Format Y) (to : X → Y) (m : Makes F H to) where
+  pub text_of : (y : Y) (h : H.may y) → H.text y ≡ F.text (m.from y h).0
+  text_of y h = let r = m.from y h in ap H.text (sym r.2) ∙ m.text_to r.0 r.1
+
+  pub made_is : IsFormat F → IsFormat H
+  made_is f = record {
+    some = (to f.some.0, m.may_to f.some.0 f.some.1);
+    whole = λ y h. let r = m.from y h in subst (λ t. IsWhole (line_count t) t) (sym (text_of y h)) (f.whole r.0 r.1);
     cancel = λ y z h k u v e.
-        let same = f.cancel (r.from y) (r.from z) (r.may_from y h) (r.may_from z k) u v (ap (λ t. t ++ u) (sym (r.text_from y h)) ∙ e ∙ ap (λ t. t ++ v) (r.text_from z k)) in
-        (sym (r.again y h) ∙ ap r.to same.0 ∙ r.again z k, same.1);
+        let a = m.from y h in
+        let b = m.from z k in
+        let same = f.cancel a.0 b.0 a.1 b.1 u v (ap (λ t. t ++ u) (sym (text_of y h)) ∙ e ∙ ap (λ t. t ++ v) (text_of z k)) in
+        (sym a.2 ∙ ap to same.0 ∙ b.2, same.1);
   }
 
   pub same_texts : (t : List ℕ) → IsTextOf F t → IsTextOf H t
-  same_texts t i = (r.to i.0, r.may_to i.0 i.1, i.2 ∙ sym (r.text_to i.0 i.1))
+  same_texts t i = (to i.0, m.may_to i.0 i.1, i.2 ∙ sym (m.text_to i.0 i.1))
 
   pub other_texts : (t : List ℕ) → IsTextOf H t → IsTextOf F t
-  other_texts t i = (r.from i.0, r.may_from i.0 i.1, i.2 ∙ r.text_from i.0 i.1)
+  other_texts t i = let r = m.from i.0 i.1 in (r.0, r.1, i.2 ∙ text_of i.0 i.1)
 
 -- ---- so many values
 
@@ -112,6 +117,10 @@ module _ {X : Type 0} (F : Format X) where
   no_items : (xs : List X) → length xs ≡ 0 → [] ≡ xs
   no_items [] e = refl
   no_items (x ∷ xs) e = absurd (let z : ⊥ = omega arith in z)
+
+  -- no value has no text
+  pub none_left : (xs : List X) → length xs ≡ 0 → [] ≡ flat_map F.text xs
+  none_left xs e = ap (flat_map F.text) (no_items xs e)
 
   none_is : IsFormat (items F 0)
   none_is = record {
@@ -123,40 +132,20 @@ module _ {X : Type 0} (F : Format X) where
         (sym a ∙ b, ap (λ zs. flat_map F.text zs ++ u) a ∙ e ∙ ap (λ zs. flat_map F.text zs ++ v) (sym b));
   }
 
-  apart : X → List X → X × List X
-  apart d [] = (d, [])
-  apart d (x ∷ xs) = (x, xs)
-
   -- one value and then the others
   abbrev pub one_more : ℕ → Format (X × List X)
   one_more n = sequence F (λ _. items F n)
 
-  again : (d : X) (n : ℕ) (xs : List X) → (length xs ≡ suc n) × All F.may xs → (apart d xs).0 ∷ (apart d xs).1 ≡ xs
-  unfolding apart
-  again d n [] h = absurd (let z : ⊥ = omega (arith, h.0) in z)
-  again d n (x ∷ xs) h = refl
+  abbrev pub onto : X × List X → List X
+  onto p = p.0 ∷ p.1
 
-  may_apart : (d : X) (n : ℕ) (xs : List X) → (length xs ≡ suc n) × All F.may xs → (one_more n).may (apart d xs)
-  unfolding apart
-  may_apart d n [] h = absurd (let z : ⊥ = omega (arith, h.0) in z)
-  may_apart d n (x ∷ xs) h = (All-head F.may x xs h.1, (let l : length xs ≡ n = omega (arith, h.0) in l, All-tail F.may x xs h.1))
+  first_and_rest : (n : ℕ) (xs : List X) → (length xs ≡ suc n) × All F.may xs → (p : X × List X) × (one_more n).may p × (onto p ≡ xs)
+  first_and_rest n [] h = absurd (let z : ⊥ = omega (arith, h.0) in z)
+  first_and_rest n (x ∷ xs) h = ((x, xs), (All-head F.may x xs h.1, (let l : length xs ≡ n = omega (arith, h.0) in l, All-tail F.may x xs h.1)), refl)
 
-  text_apart : (d : X) (n : ℕ) (xs : List X) → (length xs ≡ suc n) × All F.may xs → flat_map F.text xs ≡ (one_more n).text (apart d xs)
-  unfolding apart
-  text_apart d n [] h = absurd (let z : ⊥ = omega (arith, h.0) in z)
-  text_apart d n (x ∷ xs) h = refl
-
-  pub more_items : (d : X) (n : ℕ) → Renames (one_more n) (items F (suc n))
-  more_items d n = record {
-    from = apart d;
-    to = λ p. p.0 ∷ p.1;
-    again = again d n;
-    may_from = may_apart d n;
-    may_to = λ p h. (ap suc h.1.0, All-cons F.may p.0 p.1 h.0 h.1.1);
-    text_from = text_apart d n;
-    text_to = λ p h. refl;
-  }
+  pub more_items : (n : ℕ) → Makes (one_more n) (items F (suc n)) onto
+  more_items n = record { may_to = λ p h. (ap suc h.1.0, All-cons F.may p.0 p.1 h.0 h.1.1); text_to = λ p h. refl; from = first_and_rest n }
 
   pub items_is : IsFormat F → (n : ℕ) → IsFormat (items F n)
   items_is f zero = none_is
-  items_is f (suc n) = renamed_is (one_more n) (items F (suc n)) (more_items f.some.0 n) (sequence_is F (λ _. items F n) f (λ x h. items_is f n))
+  items_is f (suc n) = made_is (one_more n) (items F (suc n)) onto (more_items n) (sequence_is F (λ _. items F n) f (λ x h. items_is f n))

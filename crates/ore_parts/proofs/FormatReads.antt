@@ -1,16 +1,16 @@
 -- What a reader of a format answers, from what readers of its parts answer.
---     Taken                                                  a line was taken
---     finds, finds_fixed, finds_line, finds_both, finds_renamed    what is found
+--     finds, finds_fixed, finds_line, finds_both, finds_made       what is found
 --     finds_none, finds_more                                 so many values, one after the other
---     first_fault, second_fault, items_fault, renamed_fault     a fault of a part
+--     none_read, item_fails, all_read                        what a reader of so many values answers
+--     first_fault, second_fault, items_fault, made_fault     a fault of a part
 --     same_fault                                             sets with the same texts
 --     line_fault, fixed_fault, no_line_fault, other_line_fault     a fault of a line
+--     line_read                                              what a reader of a line answers
 --     reads_err                                              the answer of `?`
---     reads_both, first_fails, second_fails, reads_last      what a reader of two parts answers
 --     whole_fault, more_fault                                the faulty line of a text that should be that of a value
 --     same_line                                              the same faulty line
 --     nothing_after, after_nothing                           a text with nothing after it
-use Rattle.std.proofs.Common.{◌≡◌, ℕ, suc, ◌+◌, ◌<◌, List, [], ◌∷◌, ◌++◌, length, Result, Ok, Err, refl, sym, ap, subst, ◌∙◌, append_assoc, append-nil, arith}
+use Rattle.std.proofs.Common.{◌≡◌, ◌⊎◌, inl, inr, Option, None, Some, ℕ, suc, ◌+◌, ◌<◌, List, [], ◌∷◌, ◌++◌, length, Result, Ok, Err, refl, sym, ap, subst, ◌∙◌, append_assoc, append-nil, arith}
 use Rattle.std.specs.Prelude.{IsErrAnd}
 use Rattle.std.specs.List.{flat_map}
 use Rattle.std.proofs.lemmas.List.{length_push}
@@ -22,10 +22,10 @@ use Rattle.ore_parts.specs.declared.fault.CertFault.TheVariants.{Malformed, Memo
 use Rattle.ore_parts.specs.Lines.{LacksByte, IsLine, Unread, raw_lines}
 use Rattle.ore_parts.specs.FaultyLine.{IsFaultyLine, IsFaultyStart, FollowedBy}
 use Rattle.ore_parts.specs.Reading.{IsStartFault, IsFaultOf}
-use Rattle.ore_parts.specs.Formats.{Format, IsTextOf, line_count, Finds, ReadsOne, fixed, one_line, sequence, items}
+use Rattle.ore_parts.specs.Formats.{Format, IsTextOf, line_count, Finds, ReadsOne, PassesLine, FindsInLine, Spells, fixed, one_line, sequence, items}
 use Rattle.ore_parts.proofs.Bytes.{byte_cancel, no_line}
 use Rattle.ore_parts.proofs.FaultyLines.{stray_faulty, faulty_stray, stray_same, stray_behind, stray_end}
-use Rattle.ore_parts.proofs.FormatLaws.{IsFormat, AreWords, Renames, fixed_is, line_is, same_texts, other_texts, line_count-append, line_count-line, items_is, sequence_is}
+use Rattle.ore_parts.proofs.FormatLaws.{IsFormat, AreWords, Makes, text_of, fixed_is, line_is, same_texts, other_texts, line_count-append, line_count-line, items_is, sequence_is}
 use Rattle.ore_parts.proofs.FormatFaults.{strays_faulty, faulty_strays, first_strays, second_strays, items_strays, line_strays}
 
 -- ---- what is found
@@ -41,11 +41,7 @@ finds F f old x new h text at = record {
 pub finds_fixed : (line : List ℕ) → IsLine line → (old new : Unread) → old.left ≡ line ++ new.left → new.at ≡ old.at + 1 → Finds (fixed line) old tt new
 finds_fixed line is old new text at = record { may = tt; text = text; at = at ∙ ap (λ k. old.at + k) (sym (line_count-line line is)); only = λ y rest k e. refl }
 
--- a line was taken
-abbrev pub Taken : Unread → List ℕ → Unread → Type 0
-Taken old due new = LacksByte 10 due × (old.left ≡ due ++ 10 ∷ new.left) × (new.at ≡ old.at + 1)
-
-pub finds_line : {X : Type 0} (words : X → List ℕ) (may : X → Type 0) → AreWords words may → (old new : Unread) (due : List ℕ) (x : X) → Taken old due new → may x × (due ≡ words x) → Finds (one_line words may) old x new
+pub finds_line : {X : Type 0} (words : X → List ℕ) (may : X → Type 0) → AreWords words may → (old new : Unread) (due : List ℕ) (x : X) → PassesLine old due new → may x × (due ≡ words x) → Finds (one_line words may) old x new
 finds_line words may w old new due x taken is =
     finds (one_line words may) (line_is words may w) old x new is.0 (taken.1 ∙ ap (λ t. t ++ 10 ∷ new.left) is.1 ∙ sym (append_assoc (words x) (10 ∷ []) new.left))
     (taken.2 ∙ ap (λ k. old.at + k) (sym (line_count-line (words x ++ 10 ∷ []) (words x, w.lacks x is.0, refl))))
@@ -89,17 +85,17 @@ module _ (T U : List ℕ → Type 0) (to : (t : List ℕ) → T t → U t) (from
   same_fault u (Malformed line) s = (s.0, s.1, same_line u.left s.0 s.2)
   same_fault u Memory s = tt
 
-module _ {X Y : Type 0} (F : Format X) (H : Format Y) (r : Renames F H) where
-  pub finds_renamed : (old : Unread) (x : X) (new : Unread) → Finds F old x new → Finds H old (r.to x) new
-  finds_renamed old x new a = record {
-    may = r.may_to x a.may;
-    text = a.text ∙ ap (λ t. t ++ new.left) (sym (r.text_to x a.may));
-    at = a.at ∙ ap (λ t. old.at + line_count t) (sym (r.text_to x a.may));
-    only = λ y rest k e. ap r.to (a.only (r.from y) rest (r.may_from y k) (e ∙ ap (λ t. t ++ rest) (r.text_from y k))) ∙ r.again y k;
+module _ {X Y : Type 0} (F : Format X) (H : Format Y) (to : X → Y) (m : Makes F H to) where
+  pub finds_made : (old : Unread) (x : X) (new : Unread) → Finds F old x new → Finds H old (to x) new
+  finds_made old x new a = record {
+    may = m.may_to x a.may;
+    text = a.text ∙ ap (λ t. t ++ new.left) (sym (m.text_to x a.may));
+    at = a.at ∙ ap (λ t. old.at + line_count t) (sym (m.text_to x a.may));
+    only = λ y rest k e. let r = m.from y k in ap to (a.only r.0 rest r.1 (e ∙ ap (λ t. t ++ rest) (text_of F H to m y k))) ∙ r.2;
   }
 
-  pub renamed_fault : (u : Unread) (e : CertFault) → IsStartFault (IsTextOf F) u e → IsStartFault (IsTextOf H) u e
-  renamed_fault u e s = same_fault (IsTextOf F) (IsTextOf H) (same_texts F H r) (other_texts F H r) u e s
+  pub made_fault : (u : Unread) (e : CertFault) → IsStartFault (IsTextOf F) u e → IsStartFault (IsTextOf H) u e
+  made_fault u e s = same_fault (IsTextOf F) (IsTextOf H) (same_texts F H to m) (other_texts F H to m) u e s
 
 -- ---- so many values
 
@@ -144,32 +140,37 @@ module _ {X : Type 0} (words : X → List ℕ) (may : X → Type 0) (w : AreWord
       line_fault (one_line words may) (line_is words may w) (λ x h. (words x, w.lacks x h, refl)) u line at (λ x rest h e. no_line (words x ++ 10 ∷ []) rest u.left (words x, w.lacks x h, refl) none.0 e)
 
   -- the line is none of these
-  pub other_line_fault : (u new : Unread) (line : ℕ) (due : List ℕ) → line ≡ u.at → Taken u due new → ((x : X) → may x → due ≡ words x → ⊥) → IsStartFault (IsTextOf (one_line words may)) u (Malformed line)
+  pub other_line_fault : (u new : Unread) (line : ℕ) (due : List ℕ) → line ≡ u.at → PassesLine u due new → ((x : X) → may x → due ≡ words x → ⊥) → IsStartFault (IsTextOf (one_line words may)) u (Malformed line)
   other_line_fault u new line due at taken none =
       line_fault (one_line words may) (line_is words may w) (λ x h. (words x, w.lacks x h, refl)) u line at
       (λ x rest h e. none x h (byte_cancel 10 due (words x) new.left rest taken.0 (w.lacks x h) (sym taken.1 ∙ e ∙ append_assoc (words x) (10 ∷ []) rest)).0)
+
+  -- what a function finds in a line
+  pub line_read : (finds : List ℕ → Option X → Type 0) (old : Unread) (r : Result X CertFault) (new : Unread) → FindsInLine finds old r new → ((due : List ℕ) (found : Option X) → finds due found → Spells words may due found) → ReadsOne (one_line words may) old r new
+  unfolding FindsInLine
+  line_read finds old (Ok x) new h spells = finds_line words may w old new h.0 x h.1 (spells h.0 (Some x) h.2)
+  line_read finds old (Err (Malformed line)) new h spells = by h.1
+    where
+      by : LacksByte 10 old.left ⊎ ((due : List ℕ) × (after : Unread) × PassesLine old due after × finds due None) → IsStartFault (IsTextOf (one_line words may)) old (Malformed line)
+      by (inl none) = no_line_fault old old line h.0 (none, refl)
+      by (inr f) = other_line_fault old f.1 line f.0 h.0 f.2 (spells f.0 None f.3)
+  line_read finds old (Err Memory) new h spells = absurd h
 
 -- ---- answers
 
 pub reads_err : {X : Type 0} (F : Format X) (old new : Unread) (r : Result X CertFault) (e : CertFault) → IsErrAnd r (λ y. y ≡ e) → IsStartFault (IsTextOf F) old e → ReadsOne F old r new
 reads_err F old new r e is s = let q = err_from_is_err_and r is in subst (λ r. ReadsOne F old r new) (sym q.1) (subst (IsStartFault (IsTextOf F) old) (sym q.2) s)
 
--- a value and then another, for the values of a third format
-module _ {X Y Z : Type 0} (F : Format X) (G : X → Format Y) (f : IsFormat F) (g : (x : X) → F.may x → IsFormat (G x)) (H : Format Z) (r : Renames (sequence F G) H) where
-  pub reads_both : (old mid new : Unread) (x : X) (y : Y) → Finds F old x mid → Finds (G x) mid y new → Finds H old (r.to (x, y)) new
-  reads_both old mid new x y a b = finds_renamed (sequence F G) H r old (x, y) new (finds_both F G f g old mid new x y a b)
+-- so many values, read one after another: none yet, a fault of one, and all of them
+module _ {X : Type 0} (F : Format X) (f : IsFormat F) where
+  pub none_read : (u : Unread) (xs : List X) → xs ≡ [] → Finds (items F 0) u xs u
+  none_read u xs is = subst (λ ys. Finds (items F 0) u ys u) (sym is) (finds_none F f u)
 
-  pub first_fails : (old new : Unread) (z : Result Z CertFault) (e : CertFault) → IsErrAnd z (λ y. y ≡ e) → IsStartFault (IsTextOf F) old e → ReadsOne H old z new
-  first_fails old new z e is s = reads_err H old new z e is (renamed_fault (sequence F G) H r old e (first_fault F G f g old e s))
+  pub item_fails : (old mid new : Unread) (xs : List X) (k n : ℕ) (z : Result (List X) CertFault) (e : CertFault) → IsErrAnd z (λ y. y ≡ e) → Finds (items F k) old xs mid → k < n → IsStartFault (IsTextOf F) mid e → ReadsOne (items F n) old z new
+  item_fails old mid new xs k n z e is a lt s = reads_err (items F n) old new z e is (items_fault F f old mid xs k n e a lt s)
 
-  pub second_fails : (old mid new : Unread) (x : X) (z : Result Z CertFault) (e : CertFault) → IsErrAnd z (λ y. y ≡ e) → Finds F old x mid → IsStartFault (IsTextOf (G x)) mid e → ReadsOne H old z new
-  second_fails old mid new x z e is a s = reads_err H old new z e is (renamed_fault (sequence F G) H r old e (second_fault F G f g old mid x e a s))
-
--- the second value is the whole one
-module _ {X Y : Type 0} (F : Format X) (G : X → Format Y) (f : IsFormat F) (g : (x : X) → F.may x → IsFormat (G x)) (H : Format Y) (r : Renames (sequence F G) H) (second : (x : X) (y : Y) → r.to (x, y) ≡ y) where
-  pub reads_last : (old mid new : Unread) (x : X) (z : Result Y CertFault) → Finds F old x mid → ReadsOne (G x) mid z new → ReadsOne H old z new
-  reads_last old mid new x (Ok y) a b = subst (λ w. Finds H old w new) (second x y) (reads_both F G f g H r old mid new x y a b)
-  reads_last old mid new x (Err e) a s = renamed_fault (sequence F G) H r old e (second_fault F G f g old mid x e a s)
+  pub all_read : (old new : Unread) (xs ys : List X) (k n : ℕ) → k ≡ n → ys ≡ xs → Finds (items F k) old xs new → Finds (items F n) old ys new
+  all_read old new xs ys k n all is a = subst (λ m. Finds (items F m) old ys new) all (subst (λ zs. Finds (items F k) old zs new) (sym is) a)
 
 -- ---- whole texts
 

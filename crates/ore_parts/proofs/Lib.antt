@@ -3,6 +3,7 @@ pub mod FaultyLines
 pub mod FormatLaws
 pub mod FormatFaults
 pub mod FormatReads
+pub mod TwoParts
 pub mod PartLaws
 pub mod OneTerm
 pub mod RowTexts
@@ -10,6 +11,7 @@ pub mod MatrixLaws
 pub mod FiveParts
 pub mod BlockLaws
 pub mod Numbers
+pub mod Places
 pub mod MatrixTexts
 pub mod PrintedItems
 pub mod WrittenOf

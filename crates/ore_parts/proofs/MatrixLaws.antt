@@ -3,9 +3,11 @@
 --     row_line, StoredRow                      the line of a row; a stored row that may be written
 --     stored_row_is, rows_are, sizes_are, matrix_is, row_is     formats
 --     no_row_left, other_row, row_found        what the reader of a row answers
---     rows_names, matrix_names, row_names      rows, a matrix and a row as others
+--     as_matrix, rows_make                     rows as a matrix
+--     matrix_parts, row_parts                  a matrix, and a row, as two parts
 --     matrix_sequence, row_sequence            the line of the sizes, and rows or a row
---     rows_both, rows_fit, rows_belong, matrix_lines, matrix_may, row_width, row_lines     what these owe
+--     rows_both, rows_fit, rows_belong, matrix_lines, matrix_may, matrix_text_to, sizes_and_rows, matrix_makes, row_width, row_lines, row_makes
+--                                              what these owe
 --     matrix_passed                            the lines of a matrix that is read
 use Rattle.std.proofs.Common.{◌≡◌, ℕ, zero, suc, ◌+◌, ◌<◌, List, [], ◌∷◌, ◌++◌, length, map, replicate, refl, sym, ap, subst, ◌∙◌, append-nil, arith}
 use Rattle.std.specs.List.{All, AllByRecursion, flat_map}
@@ -13,7 +15,7 @@ use Rattle.std.proofs.lemmas.List.{length-map}
 use Rattle.std.proofs.lemmas.List.Elements.{All-nil, All-cons, All-head, All-tail, All-replicate}
 use Rattle.std.proofs.lemmas.List.Folds.{flat_map-map}
 use Rattle.ore_algebra.specs.Free.{empty_sum}
-use Rattle.ore_rational.proofs.FractionLaws.{rationals}
+use Rattle.ore_rational.specs.Field.{rationals}
 use Rattle.ore_monomial.specs.Monomial.{plain_cmp}
 use Rattle.ore_monomial.specs.Signature.{Signature}
 use Rattle.ore_ring.specs.Belongs.{Belongs}
@@ -26,41 +28,43 @@ use Rattle.ore_text.specs.Names.{AreNames}
 use Rattle.ore_text.specs.RowText.{row_text}
 use Rattle.ore_parts.specs.declared.fault.CertFault.TheVariants.{Malformed}
 use Rattle.ore_parts.specs.BlockText.{matrix_part, row_part, IsWrittenMatrix}
-use Rattle.ore_parts.specs.CertificateText.{number_bound, matrix_words, matrix_text, IsRowOf}
+use Rattle.ore_parts.specs.CertificateText.{number_bound, matrix_words, named_matrix_text, IsRowOf}
 use Rattle.ore_parts.specs.Formats.{Format, IsTextOf, Finds, sequence, items}
 use Rattle.ore_parts.specs.Lines.{LacksByte, IsLine, Unread}
 use Rattle.ore_parts.specs.PartFormats.{sizes_format, columns_format, stored_row_format, rows_format, matrix_format, row_format}
 use Rattle.ore_parts.specs.Reading.{IsStartFault}
 use Rattle.ore_parts.proofs.Bytes.{line_cancel, no_line}
 use Rattle.ore_parts.proofs.FaultyLines.{whole_line}
-use Rattle.ore_parts.proofs.FormatLaws.{IsFormat, Renames, line_count-whole, line_count-line, whole_text, line_is, sequence_is, renamed_is, items_is}
+use Rattle.ore_parts.proofs.FormatLaws.{IsFormat, Makes, line_count-whole, line_count-line, whole_text, line_is, made_is, items_is}
 use Rattle.ore_parts.proofs.FormatReads.{finds, line_fault}
 use Rattle.ore_parts.proofs.MatrixTexts.{line_of_row, whole_matrix, sizes_line, zeros, zero_fits}
+use Rattle.ore_parts.proofs.TwoParts.{TwoParts, two_are}
 use Rattle.ore_parts.proofs.PartLaws.{sizes_words, columns_words}
 use Rattle.ore_parts.proofs.RowTexts.{row_same, stored_same}
+
+module _ (s : Signature) where
+  abbrev pub zero_entry : Ordered
+  zero_entry = record { by = s.order; sum = empty_sum rationals plain_cmp }
+
+  pub zero_belongs : Belongs s zero_entry
+  zero_belongs = record { order = refl; variables = of_none rationals s }
 
 module _ (s : Signature) (names : List (List ℕ)) (are : AreNames names) (fit : length names ≡ length s.kinds) where
   -- ---- a row
 
-  abbrev zero_entry : Ordered
-  zero_entry = record { by = s.order; sum = empty_sum rationals plain_cmp }
-
-  zero_belongs : Belongs s zero_entry
-  zero_belongs = record { order = refl; variables = of_none rationals s }
-
-  sums-zeros : (n : ℕ) → zeros n ≡ sums_of (replicate n zero_entry)
+  sums-zeros : (n : ℕ) → zeros n ≡ sums_of (replicate n (zero_entry s))
   sums-zeros zero = refl
   sums-zeros (suc n) = ap (λ r. empty_sum rationals plain_cmp ∷ r) (sums-zeros n)
 
-  some_row : (cols : ℕ) → (stored_row_format s names cols).may (replicate cols zero_entry)
-  some_row cols = (subst (IsRowOf s names cols) (sums-zeros cols) (zero_fits s names are fit 1 cols).0, All-replicate (Belongs s) cols zero_entry zero_belongs)
+  some_row : (cols : ℕ) → (stored_row_format s names cols).may (replicate cols (zero_entry s))
+  some_row cols = (subst (IsRowOf s names cols) (sums-zeros cols) (zero_fits s names are fit 1 cols).0, All-replicate (Belongs s) cols (zero_entry s) (zero_belongs s))
 
   row_line : (r : List Ordered) → IsLine (row_text names s.order (sums_of r))
   row_line r = line_of_row names s.order are (sums_of r)
 
   pub stored_row_is : (cols : ℕ) → IsFormat (stored_row_format s names cols)
   stored_row_is cols = record {
-    some = (replicate cols zero_entry, some_row cols);
+    some = (replicate cols (zero_entry s), some_row cols);
     whole = λ r h. whole_text 1 (row_text names s.order (sums_of r)) (whole_line (row_text names s.order (sums_of r)) (row_line r));
     cancel = λ x y h k u v e.
         let r = line_cancel (row_text names s.order (sums_of x)) (row_text names s.order (sums_of y)) u v (row_line x) (row_line y) e in
@@ -102,19 +106,14 @@ module _ (s : Signature) (names : List (List ℕ)) (are : AreNames names) (fit :
   rows_belong cols [] h = All-nil (All (Belongs s))
   rows_belong cols (r ∷ rows) h = All-cons (All (Belongs s)) r rows (All-head (StoredRow cols) r rows h).1 (rows_belong cols rows (All-tail (StoredRow cols) r rows h))
 
-  unfoldable pub rows_names : (count cols : ℕ) → Renames (items (stored_row_format s names cols) count) (rows_format s names count cols)
-  rows_names count cols = record {
-    from = λ m. m.rows;
-    to = λ rows. record { cols = cols; rows = rows };
-    again = λ m h. λ i. record { cols = sym h.0 i; rows = m.rows };
-    may_from = λ m h. h.1;
-    may_to = λ rows h. (refl, h);
-    text_from = λ m h. refl;
-    text_to = λ rows h. refl;
-  }
+  abbrev pub as_matrix : ℕ → List (List Ordered) → OperatorMatrix
+  as_matrix cols rows = record { cols = cols; rows = rows }
+
+  pub rows_make : (count cols : ℕ) → Makes (items (stored_row_format s names cols) count) (rows_format s names count cols) (as_matrix cols)
+  rows_make count cols = record { may_to = λ rows h. (refl, h); text_to = λ rows h. refl; from = λ m h. (m.rows, h.1, λ i. as_matrix (sym h.0 i) m.rows) }
 
   pub rows_are : (count cols : ℕ) → IsFormat (rows_format s names count cols)
-  rows_are count cols = renamed_is (items (stored_row_format s names cols) count) (rows_format s names count cols) (rows_names count cols) (items_is (stored_row_format s names cols) (stored_row_is cols) count)
+  rows_are count cols = made_is (items (stored_row_format s names cols) count) (rows_format s names count cols) (as_matrix cols) (rows_make count cols) (items_is (stored_row_format s names cols) (stored_row_is cols) count)
 
   pub sizes_are : (name : List ℕ) → LacksByte 10 name → IsFormat (sizes_format name)
   sizes_are name named = line_is (λ (p : ℕ × ℕ). matrix_words name p.0 p.1) (λ p. (p.0 < number_bound) × (p.1 < number_bound)) (sizes_words name named)
@@ -123,7 +122,7 @@ module _ (s : Signature) (names : List (List ℕ)) (are : AreNames names) (fit :
     abbrev matrix_sequence : Format ((ℕ × ℕ) × OperatorMatrix)
     matrix_sequence = sequence (sizes_format name) (λ p. rows_format s names p.0 p.1)
 
-    pub matrix_lines : (cols : ℕ) (rows : List (List Ordered)) → matrix_text name names s.order cols (map sums_of rows) ≡ sizes_line name (length rows) cols ++ flat_map (stored_row_format s names cols).text rows
+    pub matrix_lines : (cols : ℕ) (rows : List (List Ordered)) → named_matrix_text name names s.order cols (map sums_of rows) ≡ sizes_line name (length rows) cols ++ flat_map (stored_row_format s names cols).text rows
     matrix_lines cols rows = λ i. sizes_line name (length-map rows sums_of i) cols ++ flat_map-map (row_text names s.order) sums_of rows i
 
     pub matrix_may : (p : (ℕ × ℕ) × OperatorMatrix) → matrix_sequence.may p → IsWrittenMatrix s names p.1
@@ -132,21 +131,28 @@ module _ (s : Signature) (names : List (List ℕ)) (are : AreNames names) (fit :
         let all = subst (λ n. All (StoredRow n) p.1.rows) (sym h.1.0) h.1.1.1 in
         record { written = record { few_rows = few; few_cols = subst (λ n. n < number_bound) (sym h.1.0) h.0.1; fits = rows_fit p.1.cols p.1.rows all }; of = rows_belong p.1.cols p.1.rows all }
 
-    unfoldable pub matrix_names : Renames matrix_sequence (matrix_format s names name)
-    matrix_names = record {
-      from = λ m. ((length m.rows, m.cols), m);
+    matrix_text_to : (p : (ℕ × ℕ) × OperatorMatrix) → matrix_sequence.may p → matrix_part names s.order name p.1 ≡ matrix_sequence.text p
+    matrix_text_to p h = matrix_lines p.1.cols p.1.rows ∙ (λ i. sizes_line name (h.1.1.0 i) (h.1.0 i) ++ flat_map (stored_row_format s names p.1.cols).text p.1.rows)
+
+    sizes_and_rows : (m : OperatorMatrix) → IsWrittenMatrix s names m → (p : (ℕ × ℕ) × OperatorMatrix) × matrix_sequence.may p × (p.1 ≡ m)
+    sizes_and_rows m h = (((length m.rows, m.cols), m), ((subst (λ n. n < number_bound) (length-map m.rows sums_of) h.written.few_rows, h.written.few_cols), (refl, (refl, rows_both m.cols m.rows h.written.fits h.of))), refl)
+
+    pub matrix_makes : Makes matrix_sequence (matrix_format s names name) (λ p. p.1)
+    matrix_makes = record { may_to = matrix_may; text_to = matrix_text_to; from = sizes_and_rows }
+
+    abbrev pub matrix_parts : TwoParts (ℕ × ℕ) OperatorMatrix OperatorMatrix
+    matrix_parts = record {
+      first = sizes_format name;
+      second = λ p. rows_format s names p.0 p.1;
+      whole = matrix_format s names name;
       to = λ p. p.1;
-      again = λ m h. refl;
-      may_from = λ m h. ((subst (λ n. n < number_bound) (length-map m.rows sums_of) h.written.few_rows, h.written.few_cols), (refl, (refl, rows_both m.cols m.rows h.written.fits h.of)));
-      may_to = matrix_may;
-      text_from = λ m h. matrix_lines m.cols m.rows;
-      text_to = λ p h. matrix_lines p.1.cols p.1.rows ∙ (λ i. sizes_line name (h.1.1.0 i) (h.1.0 i) ++ flat_map (stored_row_format s names p.1.cols).text p.1.rows);
+      first_is = sizes_are name named;
+      second_is = λ p h. rows_are p.0 p.1;
+      makes = matrix_makes;
     }
 
     pub matrix_is : IsFormat (matrix_format s names name)
-    matrix_is =
-        renamed_is matrix_sequence (matrix_format s names name) matrix_names
-        (sequence_is (sizes_format name) (λ p. rows_format s names p.0 p.1) (sizes_are name named) (λ p h. rows_are p.0 p.1))
+    matrix_is = two_are matrix_parts
 
     -- the lines of a matrix are one more than its rows
     pub matrix_passed : (old new : Unread) (m : OperatorMatrix) → Finds (matrix_format s names name) old m new → new.at ≡ old.at + suc (length m.rows)
@@ -165,18 +171,23 @@ module _ (s : Signature) (names : List (List ℕ)) (are : AreNames names) (fit :
     pub row_lines : (r : List Ordered) → row_part names s.order name r ≡ sizes_line name 1 (length r) ++ row_text names s.order (sums_of r)
     row_lines r = ap (λ t. sizes_line name 1 (length r) ++ t) (append-nil (row_text names s.order (sums_of r)))
 
-    unfoldable pub row_names : Renames row_sequence (row_format s names name)
-    row_names = record {
-      from = λ r. (length r, r);
-      to = λ p. p.1;
-      again = λ r h. refl;
-      may_from = λ r h. (h.few, (h.written, h.of));
+    pub row_makes : Makes row_sequence (row_format s names name) (λ p. p.1)
+    row_makes = record {
       may_to = λ p h. record { few = subst (λ n. n < number_bound) (row_width p h) h.0; written = subst (λ n. IsRowOf s names n (sums_of p.1)) (row_width p h) h.1.0; of = h.1.1 };
-      text_from = λ r h. row_lines r;
       text_to = λ p h. row_lines p.1 ∙ ap (λ n. sizes_line name 1 n ++ row_text names s.order (sums_of p.1)) (sym (row_width p h));
+      from = λ r h. ((length r, r), (h.few, (h.written, h.of)), refl);
+    }
+
+    abbrev pub row_parts : TwoParts ℕ (List Ordered) (List Ordered)
+    row_parts = record {
+      first = columns_format name;
+      second = stored_row_format s names;
+      whole = row_format s names name;
+      to = λ p. p.1;
+      first_is = line_is (λ cols. matrix_words name 1 cols) (λ cols. cols < number_bound) (columns_words name named);
+      second_is = λ cols h. stored_row_is cols;
+      makes = row_makes;
     }
 
     pub row_is : IsFormat (row_format s names name)
-    row_is =
-        renamed_is row_sequence (row_format s names name) row_names
-        (sequence_is (columns_format name) (stored_row_format s names) (line_is (λ cols. matrix_words name 1 cols) (λ cols. cols < number_bound) (columns_words name named)) (λ cols h. stored_row_is cols))
+    row_is = two_are row_parts

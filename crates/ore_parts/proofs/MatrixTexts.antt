@@ -13,7 +13,7 @@ use Rattle.std.specs.Prelude.{nat_eq, codes, decimal}
 use Rattle.std.specs.List.{list_all, flat_map, AllByRecursion}
 use Rattle.std.proofs.lemmas.List.{append_cancel_left, append_cancel_right, length-replicate}
 use Rattle.ore_algebra.specs.Free.{empty_sum, terms}
-use Rattle.ore_rational.proofs.FractionLaws.{rationals}
+use Rattle.ore_rational.specs.Field.{rationals}
 use Rattle.ore_monomial.specs.declared.order.Order.{Order}
 use Rattle.ore_monomial.specs.declared.order.Order.TheVariants.{DegLex}
 use Rattle.ore_monomial.specs.Monomial.{plain_cmp}
@@ -30,7 +30,7 @@ use Rattle.ore_text.specs.Names.{AreNames}
 use Rattle.ore_text.specs.RowParts.{is_stop, LacksStops}
 use Rattle.ore_text.specs.RowText.{listed, row_text}
 use Rattle.ore_text.proofs.RowBytes.{LacksStops-operator}
-use Rattle.ore_parts.specs.CertificateText.{number_bound, matrix_words, matrix_text, IsRowOf}
+use Rattle.ore_parts.specs.CertificateText.{number_bound, matrix_words, named_matrix_text, IsRowOf}
 use Rattle.ore_parts.specs.Lines.{LacksByte, IsLine}
 use Rattle.ore_parts.proofs.Bytes.{LacksByte-append, LacksByte-cons, LacksByte-decimal, line_cancel}
 use Rattle.ore_parts.proofs.FaultyLines.{IsWhole, whole_none, whole_line, whole_append}
@@ -113,7 +113,7 @@ words_cancel name a b c d u v h ha hb hc hd e =
 -- ---- matrices
 
 module _ (name : List ℕ) (names : List (List ℕ)) (o : Order) (are : AreNames names) (named : LacksByte 10 name) where
-  pub whole_matrix : (cols : ℕ) (rows : List (Row rationals)) → IsWhole (1 + length rows) (matrix_text name names o cols rows)
+  pub whole_matrix : (cols : ℕ) (rows : List (Row rationals)) → IsWhole (1 + length rows) (named_matrix_text name names o cols rows)
   whole_matrix cols rows =
       whole_append 1 (length rows) (sizes_line name (length rows) cols) (rows_text names o are rows) (whole_line (sizes_line name (length rows) cols) (line_of_words name (length rows) cols named)) (whole_rows names o are rows)
 

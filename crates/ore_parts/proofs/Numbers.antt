@@ -8,7 +8,7 @@
 --     behind_places       what follows two places
 --     place_cut           a text that begins with a place
 --     numbers_cancel      two numbers with a space between
---     same_decimal, same_some    equal texts are of equal numbers; two answers of one call
+--     same_decimal               equal texts are of equal numbers
 --     small               a number below the bound has 64 bits
 use Rattle.std.proofs.Common.{◌≡◌, ℕ, suc, ◌<◌, ◌^◌, List, ◌∷◌, ◌++◌, Option, None, Some, Ok, Err, Result, sym, ap, subst, ◌∙◌, arith}
 use Rattle.std.specs.Prelude.{decimal, MatchOption, IfSome}
@@ -37,9 +37,6 @@ same_number e f = cc
 
 pub no_error : {E : Type 0} {x : E} {n : ℕ} {r : Result ℕ E} → r ≡ Err x → r ≡ Ok n → ⊥
 no_error e f = cc
-
-pub same_some : {A : Type 0} {x y : A} {o : Option A} → o ≡ Some x → o ≡ Some y → x ≡ y
-same_some e f = cc
 
 pub numbers_cancel : (m n : ℕ) (u v : List ℕ) → decimal m ++ 32 ∷ u ≡ decimal n ++ 32 ∷ v → (decimal m ≡ decimal n) × (u ≡ v)
 numbers_cancel m n u v e = byte_cancel 32 (decimal m) (decimal n) u v (LacksByte-decimal 32 m (omega arith)) (LacksByte-decimal 32 n (omega arith)) e

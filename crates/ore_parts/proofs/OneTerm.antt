@@ -8,7 +8,7 @@ use Rattle.std.proofs.Common.{◌≡◌, ℕ, [], ◌∷◌, length, Option, Non
 use Rattle.std.specs.Prelude.{IfSome, MatchOption, slice_get}
 use Rattle.ore_algebra.specs.Free.{single}
 use Rattle.ore_rational.specs.Fraction.{Fraction}
-use Rattle.ore_rational.proofs.FractionLaws.{rationals}
+use Rattle.ore_rational.specs.Field.{rationals}
 use Rattle.ore_monomial.specs.Monomial.{Monomial, plain_cmp}
 use Rattle.ore_ring.specs.Ordered.{Ordered}
 use Rattle.ore_ring.specs.Terms.{Term, Terms, AreApart, falling}

@@ -6,7 +6,7 @@
 --     exact_of, outside_of                 so are blocks
 use Rattle.std.proofs.Common.{List, ℕ, sym, ◌∙◌}
 use Rattle.std.proofs.lemmas.List.Elements.{All-weaker}
-use Rattle.ore_rational.proofs.FractionLaws.{rationals}
+use Rattle.ore_rational.specs.Field.{rationals}
 use Rattle.ore_monomial.specs.Signature.{Signature, MonomialOf}
 use Rattle.ore_monomial.proofs.Operators
 use Rattle.ore_ring.specs.Ordered.{Ordered}
@@ -19,7 +19,7 @@ use Rattle.ore_parts.specs.declared.block.OutsideBlock.{OutsideBlock}
 use Rattle.ore_parts.specs.declared.block.Link.{Link}
 use Rattle.ore_parts.specs.BlockText.{IsWrittenStep, IsWrittenSteps, IsWrittenEntry, IsWrittenMatrix, written, IsWrittenExact, IsWrittenOutside}
 use Rattle.ore_parts.specs.EachPart.{PartConditions, ExactMeets, OutsideMeets, LinkMeets}
-use Rattle.ore_parts.specs.OfSignature.{MatrixOf, AreStepsOf, IsEntryOf, of_signature, IsExactOf, IsOutsideOf}
+use Rattle.ore_parts.specs.OfSignature.{MatrixOf, AreStoredStepsOf, IsEntryOf, of_signature, IsExactOf, IsOutsideOf}
 use Rattle.ore_parts.proofs.Steps.{widths}
 
 pub record Weaker (C D : PartConditions) : Type 0 where
@@ -42,7 +42,7 @@ module _ (s : Signature) (names : List (List ℕ)) where
   step_of : (t : Step rationals) → IsWrittenStep s names t → MonomialOf s t.monomial
   step_of t h = h.term.variables t.monomial (λ e. h.number (sym (Operators.coefficient-own rationals t.monomial t.number) ∙ e))
 
-  steps_of : (steps : List (Step rationals)) → IsWrittenSteps s names steps → AreStepsOf s steps
+  steps_of : (steps : List (Step rationals)) → IsWrittenSteps s names steps → AreStoredStepsOf s steps
   steps_of steps h = All-weaker (IsWrittenStep s names) (λ (t : Step rationals). MonomialOf s t.monomial) step_of steps h.all
 
   entry_of : (e : PairEntry) → IsWrittenEntry s names e → IsEntryOf s e

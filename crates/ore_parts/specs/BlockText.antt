@@ -11,7 +11,7 @@
 --     written, IsWrittenExact, IsWrittenOutside     so it is with each part of a block
 use Rattle.std.specs.Prelude.{◌≢◌, ℕ, suc, ◌<◌, List, [], ◌∷◌, ◌++◌, length, codes, decimal}
 use Rattle.std.specs.List.{All, flat_map}
-use Rattle.ore_rational.proofs.FractionLaws.{rationals}
+use Rattle.ore_rational.specs.Field.{rationals}
 use Rattle.ore_monomial.specs.declared.order.Order.{Order}
 use Rattle.ore_monomial.specs.Signature.{Signature}
 use Rattle.ore_ring.specs.Belongs.{Belongs}
@@ -21,7 +21,7 @@ use Rattle.ore_text.specs.Lines.{line}
 use Rattle.ore_text.specs.Printable.{IsPrintable}
 use Rattle.ore_rows.specs.Reduction.{Step, step_operator}
 use Rattle.ore_rows.specs.Stored.{OperatorMatrix, sums_of, rows_of}
-use Rattle.ore_parts.specs.CertificateText.{number_bound, matrix_text, IsRowOf, IsWritten}
+use Rattle.ore_parts.specs.CertificateText.{number_bound, named_matrix_text, IsRowOf, IsWritten}
 use Rattle.ore_parts.specs.EachPart.{PartConditions, ExactMeets, OutsideMeets}
 use Rattle.ore_parts.specs.declared.block.PairEntry.{PairEntry}
 use Rattle.ore_parts.specs.declared.block.PairEntry.TheVariants.{Pair, Skip}
@@ -52,11 +52,11 @@ module _ (names : List (List ℕ)) (o : Order) where
 
   -- the line with the name and the sizes, and a line for each row
   abbrev pub matrix_part : List ℕ → OperatorMatrix → List ℕ
-  matrix_part name m = matrix_text name names o m.cols (rows_of m)
+  matrix_part name m = named_matrix_text name names o m.cols (rows_of m)
 
   -- the matrix has a column for each entry of the row
   abbrev pub row_part : List ℕ → List Ordered → List ℕ
-  row_part name r = matrix_text name names o (length r) (sums_of r ∷ [])
+  row_part name r = named_matrix_text name names o (length r) (sums_of r ∷ [])
 
   -- the line `block exact`, and then the parts in this order
   abbrev pub exact_text : ExactBlock → List ℕ

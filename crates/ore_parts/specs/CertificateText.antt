@@ -1,12 +1,12 @@
 -- The texts of matrices: every line ends with the byte 10, words have one space between, and there are no comments.
 --     number_bound           numbers are below this
 --     matrix_words           the word `matrix`, a name and the sizes, rows before columns
---     matrix_text            a line of these, and a line for each row
+--     named_matrix_text      a line of these, and a line for each row
 --     IsRowOf                a row has so many entries, of the signature and in the program's ranges
 --     IsWritten              a matrix of such rows, whose sizes are below the bound
 use Rattle.std.specs.Prelude.{◌≡◌, ℕ, ◌<◌, ◌^◌, List, [], ◌∷◌, ◌++◌, length, codes, decimal}
 use Rattle.std.specs.List.{flat_map, join_with_byte, AllByRecursion}
-use Rattle.ore_rational.proofs.FractionLaws.{rationals}
+use Rattle.ore_rational.specs.Field.{rationals}
 use Rattle.ore_monomial.specs.declared.order.Order.{Order}
 use Rattle.ore_monomial.specs.Signature.{Signature}
 use Rattle.ore_text.specs.RowText.{row_text}
@@ -22,8 +22,8 @@ abbrev pub matrix_words : List ℕ → ℕ → ℕ → List ℕ
 matrix_words name rows cols = join_with_byte 32 (codes "matrix" ∷ name ∷ decimal rows ∷ decimal cols ∷ [])
 
 -- the sizes on one line, and then each row; the number of columns is given, since there may be no row
-abbrev pub matrix_text : List ℕ → List (List ℕ) → Order → ℕ → List (Row rationals) → List ℕ
-matrix_text name names o cols rows = (matrix_words name (length rows) cols ++ 10 ∷ []) ++ flat_map (row_text names o) rows
+abbrev pub named_matrix_text : List ℕ → List (List ℕ) → Order → ℕ → List (Row rationals) → List ℕ
+named_matrix_text name names o cols rows = (matrix_words name (length rows) cols ++ 10 ∷ []) ++ flat_map (row_text names o) rows
 
 -- an entry for each of so many columns, each of the signature, with numbers and degrees in the program's ranges
 pub record IsRowOf (s : Signature) (names : List (List ℕ)) (cols : ℕ) (row : Row rationals) : Type 0 where

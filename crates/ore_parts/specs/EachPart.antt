@@ -2,7 +2,7 @@
 --     PartConditions                        what is asked of a matrix, pairs, steps and a row
 --     ExactMeets, OutsideMeets, LinkMeets   each part of a block, or of a matrix with its block, meets its condition
 use Rattle.std.specs.Prelude.{List}
-use Rattle.ore_rational.proofs.FractionLaws.{rationals}
+use Rattle.ore_rational.specs.Field.{rationals}
 use Rattle.ore_ring.specs.Ordered.{Ordered}
 use Rattle.ore_rows.specs.Reduction.{Step}
 use Rattle.ore_rows.specs.Stored.{OperatorMatrix}

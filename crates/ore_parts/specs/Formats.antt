@@ -4,19 +4,23 @@
 --     line_count        the number of lines of a text
 --     Finds             the text begins with that of a value, and of no other; what is left follows it
 --     ReadsOne          a reader found a value, or named the faulty line, whatever were to follow
+--     PassesLine        a line is passed
+--     FindsInLine       what a function finds in the line that is due
 --     Spells            the value whose words a text is, or none where there is no such value
 --     fixed             one text
 --     one_line          a line of words for each value
 --     sequence          a value and then another, whose format depends on the first: a line that names a kind or a count
 --                       decides what follows it
 --     items             so many values of one format
-use Rattle.std.specs.Prelude.{◌≡◌, ◌≢◌, ℕ, ◌+◌, List, [], ◌∷◌, ◌++◌, length, MatchOption}
+use Rattle.std.specs.Prelude.{◌≡◌, ◌≢◌, ◌⊎◌, ℕ, ◌+◌, List, [], ◌∷◌, ◌++◌, length, MatchOption}
 use Rattle.std.specs.List.{All, flat_map}
 use Rattle.std.specs.declared.option.Option.{Option}
+use Rattle.std.specs.declared.option.Option.TheVariants.{None, Some}
 use Rattle.std.specs.declared.result.Result.{Result}
 use Rattle.std.specs.declared.result.Result.TheVariants.{Ok, Err}
 use Rattle.ore_parts.specs.declared.fault.CertFault.{CertFault}
-use Rattle.ore_parts.specs.Lines.{Unread, raw_lines}
+use Rattle.ore_parts.specs.declared.fault.CertFault.TheVariants.{Malformed, Memory}
+use Rattle.ore_parts.specs.Lines.{LacksByte, Unread, raw_lines}
 use Rattle.ore_parts.specs.Reading.{IsStartFault}
 
 -- the text of each value, and which values may be written
@@ -48,6 +52,17 @@ ReadsOne F old (Err e) new = IsStartFault (IsTextOf F) old e
 -- the value that is found may be written and has these words; or none is, and no value that may be written has them
 abbrev pub Spells : {X : Type 0} → (X → List ℕ) → (X → Type 0) → List ℕ → Option X → Type 0
 Spells {X} words may text result = MatchOption result ((x : X) → may x → text ≢ words x) (λ x. may x × (text ≡ words x))
+
+-- the line without its end is passed, and what is left follows it
+abbrev pub PassesLine : Unread → List ℕ → Unread → Type 0
+PassesLine old due new = LacksByte 10 due × (old.left ≡ due ++ 10 ∷ new.left) × (new.at ≡ old.at + 1)
+
+-- a function finds this value in the line that is due, which is passed; or it finds none there, or no whole line is left,
+-- and that is the faulty line
+unfoldable pub FindsInLine : {X : Type 0} → (List ℕ → Option X → Type 0) → Unread → Result X CertFault → Unread → Type 0
+FindsInLine finds old (Ok x) new = (due : List ℕ) × PassesLine old due new × finds due (Some x)
+FindsInLine finds old (Err (Malformed line)) new = (line ≡ old.at) × (LacksByte 10 old.left ⊎ ((due : List ℕ) × (after : Unread) × PassesLine old due after × finds due None))
+FindsInLine finds old (Err Memory) new = ⊥
 
 -- there is one value, and this is its text
 abbrev pub fixed : List ℕ → Format (Unit {0})

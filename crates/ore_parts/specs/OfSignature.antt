@@ -1,12 +1,12 @@
 -- Parts of certificates of a signature: their operators belong to it, and the rows of a matrix have one entry a column.
 --     MatrixOf                    a matrix
---     AreStepsOf, IsEntryOf       steps; what was done with a pair
+--     AreStoredStepsOf, IsEntryOf  steps; what was done with a pair
 --     of_signature                these conditions, as those on parts
 --     IsExactOf, IsOutsideOf      blocks
 --     IsLinkOf                    a matrix with its block
 use Rattle.std.specs.Prelude.{List}
 use Rattle.std.specs.List.{All}
-use Rattle.ore_rational.proofs.FractionLaws.{rationals}
+use Rattle.ore_rational.specs.Field.{rationals}
 use Rattle.ore_monomial.specs.Signature.{Signature, MonomialOf}
 use Rattle.ore_ring.specs.Belongs.{Belongs}
 use Rattle.ore_rows.specs.Reduction.{Step}
@@ -25,17 +25,17 @@ module _ (s : Signature) where
     pub of : All (All (Belongs s)) m.rows
 
   -- the monomials of steps are of the signature
-  abbrev pub AreStepsOf : List (Step rationals) → Type 0
-  AreStepsOf steps = All (λ t. MonomialOf s t.monomial) steps
+  abbrev pub AreStoredStepsOf : List (Step rationals) → Type 0
+  AreStoredStepsOf steps = All (λ t. MonomialOf s t.monomial) steps
 
   -- the steps of a pair are of the signature
   abbrev pub IsEntryOf : PairEntry → Type 0
-  IsEntryOf (Pair i j steps) = AreStepsOf steps
+  IsEntryOf (Pair i j steps) = AreStoredStepsOf steps
   IsEntryOf (Skip i j via) = Unit {0}
 
   -- the part is of the signature
   abbrev pub of_signature : PartConditions
-  of_signature = record { matrix = MatrixOf; pairs = All IsEntryOf; steps = AreStepsOf; row = All (Belongs s) }
+  of_signature = record { matrix = MatrixOf; pairs = All IsEntryOf; steps = AreStoredStepsOf; row = All (Belongs s) }
 
   -- each part of an exact block is of the signature
   abbrev pub IsExactOf : ExactBlock → Type 0

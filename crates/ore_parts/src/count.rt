@@ -7,6 +7,7 @@ ghost use Rattle.ore_parts.specs.Lines.{LacksByte};
 ghost use Rattle.ore_parts.specs.PartFormats.{count_format};
 
 use crate::fault::CertFault;
+use crate::line::read_line;
 use crate::lines::Lines;
 use crate::sizes::number_in;
 
@@ -18,14 +19,7 @@ pub fn read_count(lines: &mut Lines<'_>, word: &[u8]) -> Result<usize, CertFault
     requires { LacksByte 10 word.now }
     ensures { ReadsOne (count_format word.now) lines.old result lines.new }
 {
-    let line = lines.at();
-    let Some(words) = lines.take() else {
-        return Err(CertFault::Malformed { line })
-    };
-    match count_in(words, word) {
-        Some(count) => Ok(count),
-        None => Err(CertFault::Malformed { line }),
-    }
+    read_line(lines, |words| count_in(words, word))
 }
 
 /// The number behind this word, if these words are that.

@@ -10,9 +10,9 @@
 //! [`read_matrix`], [`read_exact`] and [`read_outside`] answer the part with whose text the lines begin, else the faulty
 //! line: the first that no such part with the same lines before it has there, whatever were to follow
 //! (`specs/FaultyLine.antt`, `specs/Reading.antt`); after an error the lines are as they were. [`print_matrix`],
-//! [`print_exact`] and [`print_outside`] write the text of a part. The readers and printers of [`count`], [`row`],
-//! [`sizes`], [`matrix`], [`parts`] and [`print_block`] are for callers who read and write larger texts; after an
-//! error of a reader the lines may stand anywhere.
+//! [`print_exact`] and [`print_outside`] write the text of a part. The readers and printers of [`line`], [`count`],
+//! [`row`], [`sizes`], [`matrix`], [`parts`] and [`print_block`] are for callers who read and write larger texts; after
+//! an error of a reader the lines may stand anywhere.
 //!
 //! Sizes and counts are any numbers below 2^63, and a text with too few lines is refused behind its last. Not
 //! proved, but how the readers are built: they go through the lines once, and store rows, pairs and steps one by one as
@@ -25,6 +25,7 @@
 pub mod block;
 pub mod count;
 pub mod fault;
+pub mod line;
 pub mod lines;
 pub mod matrix;
 mod pairs;

@@ -4,12 +4,13 @@ ghost use Rattle.std.specs.Prelude.{◌≡◌, suc, ◌+◌, ◌<◌, ◌∷◌,
 ghost use Rattle.std.specs.List.{All};
 ghost use Rattle.ore_ring.specs.Belongs.{AllBelong};
 ghost use Rattle.ore_rows.specs.Stored.{rows_of};
-ghost use Rattle.ore_parts.specs.CertificateText.{number_bound, matrix_words, matrix_text};
+ghost use Rattle.ore_parts.specs.CertificateText.{number_bound, matrix_words, named_matrix_text};
 ghost use Rattle.ore_parts.specs.Formats.{ReadsOne};
 ghost use Rattle.ore_parts.specs.Lines.{LacksByte};
 ghost use Rattle.ore_parts.specs.PartFormats.{sizes_format, stored_row_format, rows_format, matrix_format};
 
 use crate::fault::CertFault;
+use crate::line::read_line;
 use crate::lines::Lines;
 use crate::sizes::sizes_in;
 use ore_monomial::{NoMemory, Signature};
@@ -66,14 +67,7 @@ fn read_sizes(lines: &mut Lines<'_>, name: &[u8]) -> Result<(usize, usize), Cert
     requires { LacksByte 10 name.now }
     ensures { ReadsOne (sizes_format name.now) lines.old result lines.new }
 {
-    let line = lines.at();
-    let Some(words) = lines.take() else {
-        return Err(CertFault::Malformed { line })
-    };
-    match sizes_in(words, name) {
-        Some(sizes) => Ok(sizes),
-        None => Err(CertFault::Malformed { line }),
-    }
+    read_line(lines, |words| sizes_in(words, name))
 }
 
 // So many rows. There are fewer than 2^63 columns.
@@ -126,7 +120,7 @@ pub fn append_matrix(
     m: &Matrix,
 ) -> Result<(), NoMemory>
     requires { All (AllBelong algebra.now.signature.now) m.now.rows }
-    ensures { OnOk result (out.new.items ≡ out.old.items ++ matrix_text name.now algebra.now.names.now algebra.now.signature.now.order m.now.cols (rows_of m.now)) }
+    ensures { OnOk result (out.new.items ≡ out.old.items ++ named_matrix_text name.now algebra.now.names.now algebra.now.signature.now.order m.now.cols (rows_of m.now)) }
 {
     append_sizes(out, name, m.rows(), m.cols())?;
     for k in 0..m.rows() {

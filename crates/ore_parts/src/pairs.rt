@@ -9,6 +9,7 @@ ghost use Rattle.ore_parts.specs.PartFormats.{entry_words, IsWrittenLine, entry_
 use crate::block::{PairEntry, Pairs};
 use crate::count::read_count;
 use crate::fault::CertFault;
+use crate::line::read_line;
 use crate::lines::Lines;
 use crate::sizes::{number_in, place_in, places_in};
 use crate::step_lines::read_steps;
@@ -78,14 +79,7 @@ fn read_entry(
 fn read_entry_line(lines: &mut Lines<'_>) -> Result<EntryLine, CertFault>
     ensures { ReadsOne entry_line_format lines.old result lines.new }
 {
-    let line = lines.at();
-    let Some(words) = lines.take() else {
-        return Err(CertFault::Malformed { line })
-    };
-    match entry_line_in(words) {
-        Some(entry) => Ok(entry),
-        None => Err(CertFault::Malformed { line }),
-    }
+    read_line(lines, entry_line_in)
 }
 
 // The line of a pair that these words are.

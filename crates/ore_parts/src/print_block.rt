@@ -6,7 +6,7 @@ ghost use Rattle.ore_monomial.specs.Signature.{MonomialOf};
 ghost use Rattle.ore_ring.specs.Belongs.{AllBelong};
 ghost use Rattle.ore_text.specs.Lines.{line};
 ghost use Rattle.ore_parts.specs.BlockText.{place, step_text, entry_text, pairs_text, steps_text, row_part, exact_text, outside_text};
-ghost use Rattle.ore_parts.specs.OfSignature.{AreStepsOf, IsEntryOf, IsExactOf, IsOutsideOf};
+ghost use Rattle.ore_parts.specs.OfSignature.{AreStoredStepsOf, IsEntryOf, IsExactOf, IsOutsideOf};
 
 use crate::block::{ExactBlock, OutsideBlock, PairEntry, Pairs};
 use crate::matrix::{append_matrix, append_sizes};
@@ -96,7 +96,7 @@ fn append_steps(
     algebra: &Algebra<'_>,
     steps: &Steps,
 ) -> Result<(), NoMemory>
-    requires { AreStepsOf algebra.now.signature.now steps.now }
+    requires { AreStoredStepsOf algebra.now.signature.now steps.now }
     ensures { OnOk result (out.new.items ≡ out.old.items ++ flat_map (step_text algebra.now.names.now algebra.now.signature.now.order) steps.now) }
 {
     for k in 0..steps.len() {
@@ -112,7 +112,7 @@ fn append_counted_steps(
     algebra: &Algebra<'_>,
     steps: &Steps,
 ) -> Result<(), NoMemory>
-    requires { AreStepsOf algebra.now.signature.now steps.now }
+    requires { AreStoredStepsOf algebra.now.signature.now steps.now }
     ensures { OnOk result (out.new.items ≡ out.old.items ++ steps_text algebra.now.names.now algebra.now.signature.now.order steps.now) }
 {
     append_count(out, b"steps", steps.len())?;

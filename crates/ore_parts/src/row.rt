@@ -7,6 +7,7 @@ ghost use Rattle.ore_parts.specs.Lines.{LacksByte};
 ghost use Rattle.ore_parts.specs.PartFormats.{columns_format, row_format};
 
 use crate::fault::CertFault;
+use crate::line::read_line;
 use crate::lines::Lines;
 use crate::matrix::read_one_row;
 use crate::sizes::sizes_in;
@@ -37,14 +38,7 @@ fn read_columns(lines: &mut Lines<'_>, name: &[u8]) -> Result<usize, CertFault>
     requires { LacksByte 10 name.now }
     ensures { ReadsOne (columns_format name.now) lines.old result lines.new }
 {
-    let line = lines.at();
-    let Some(words) = lines.take() else {
-        return Err(CertFault::Malformed { line })
-    };
-    match columns_in(words, name) {
-        Some(cols) => Ok(cols),
-        None => Err(CertFault::Malformed { line }),
-    }
+    read_line(lines, |words| columns_in(words, name))
 }
 
 // The number of columns, if the line says it of one row of this name.

@@ -1,14 +1,9 @@
+use Rattle.std.proofs.Common.{rules}
 use Rattle.ore_cert.specs.ReportFormats.{choice_words}
 use Rattle.ore_cert.specs.WholeText.{IsWrittenChoice}
-use Rattle.ore_parts.proofs.FormatReads.{finds_line, no_line_fault, other_line_fault}
 use Rattle.ore_cert.proofs.ReportLaws.{choice_words_are}
+use Rattle.ore_parts.proofs.FormatReads.{line_read}
 use Rattle.ore_cert.proofs.report_lines.read_choice.Goals as goal
 
-pub returns-in_default : goal.returns-in_default
-returns-in_default c = no_line_fault choice_words IsWrittenChoice choice_words_are c.args.lines.now c.take.new.self c.at-line.result c.at-line.ensures c.in_default.ensures
-
-pub returns-in-Some-choice_in : goal.returns-in-Some-choice_in
-returns-in-Some-choice_in c = finds_line choice_words IsWrittenChoice choice_words_are c.args.lines.now c.take.new.self c.in-Some.words.now c.in-Some-choice_in.choice c.in-Some.ensures c.in-Some-choice_in.ensures
-
-pub returns-in-None : goal.returns-in-None
-returns-in-None c = other_line_fault choice_words IsWrittenChoice choice_words_are c.args.lines.now c.take.new.self c.at-line.result c.in-Some.words.now c.at-line.ensures c.in-Some.ensures c.in-None.ensures
+pub returns : goal.returns
+returns c = line_read choice_words IsWrittenChoice choice_words_are _ c.args.lines.now c.read_line.result c.read_line.new.lines c.read_line.ensures (λ due found h. search rules)

@@ -1,13 +1,13 @@
 use Rattle.std.proofs.Common.{sym, subst, arith}
-use Rattle.ore_parts.specs.Formats.{Finds, items}
+use Rattle.ore_parts.specs.Formats.{Finds}
 use Rattle.ore_cert.specs.ReportFormats.{next_format, runs_format}
-use Rattle.ore_parts.proofs.FormatReads.{finds_none, finds_more, reads_err}
+use Rattle.ore_parts.proofs.FormatReads.{finds_more, none_read, reads_err}
 use Rattle.ore_cert.proofs.RunsLaws.{run_item, run_is, finds_run, runs_found, runs_fault, shorter}
 use Rattle.ore_cert.proofs.report_lines.read_runs.Goals as goal
 
 pub loop-init : goal.loop-init
 loop-init c = record {
-  found = subst (λ xs. Finds (items run_item 0) c.args.lines.now xs c.args.lines.now) (sym c.new-runs.ensures.items) (finds_none run_item run_is c.args.lines.now);
+  found = none_read run_item run_is c.args.lines.now c.new-runs.result.items c.new-runs.ensures.items;
   room = omega arith;
 }
 

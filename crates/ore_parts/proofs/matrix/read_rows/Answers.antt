@@ -1,9 +1,9 @@
-use Rattle.std.proofs.Common.{◌≡◌, ◌<◌, sym, subst, arith}
+use Rattle.std.proofs.Common.{◌<◌, refl, sym, subst, arith}
 use Rattle.ore_rows.specs.Stored.{OperatorMatrix}
 use Rattle.ore_parts.specs.Formats.{Finds, items}
 use Rattle.ore_parts.specs.PartFormats.{stored_row_format, rows_format}
-use Rattle.ore_parts.proofs.FormatReads.{finds_none, finds_more, finds_renamed, items_fault, renamed_fault, reads_err}
-use Rattle.ore_parts.proofs.MatrixLaws.{stored_row_is, rows_names, rows_fit}
+use Rattle.ore_parts.proofs.FormatReads.{finds_more, none_read, finds_made, items_fault, made_fault, all_read, reads_err}
+use Rattle.ore_parts.proofs.MatrixLaws.{stored_row_is, as_matrix, rows_make, rows_fit}
 use Rattle.ore_parts.proofs.Steps.{widths}
 use Rattle.ore_parts.proofs.matrix.read_rows.Goals as goal
 
@@ -14,14 +14,11 @@ returns-in_err-row c =
     let cols = c.args.cols in
     let few : c.loop.counter < c.args.count = omega arith in
     reads_err (rows_format s names c.args.count cols) c.args.lines.now c.read_one_row.new.lines c.from_residual.result c.in_err-row.field-0.0 c.from_residual.ensures.1
-    (renamed_fault (items (stored_row_format s names cols) c.args.count) (rows_format s names c.args.count cols) (rows_names s names c.args.algebra.now.form c.args.algebra.now.count c.args.count cols) c.args.lines.now c.in_err-row.field-0.0
+    (made_fault (items (stored_row_format s names cols) c.args.count) (rows_format s names c.args.count cols) (as_matrix s names c.args.algebra.now.form c.args.algebra.now.count cols) (rows_make s names c.args.algebra.now.form c.args.algebra.now.count c.args.count cols) c.args.lines.now c.in_err-row.field-0.0
     (items_fault (stored_row_format s names cols) (stored_row_is s names c.args.algebra.now.form c.args.algebra.now.count cols) c.args.lines.now c.loop.lines c.loop.rows.items c.loop.counter c.args.count c.in_err-row.field-0.0 c.loop.invariant few c.in_err-row.ensures))
 
 pub loop-init : goal.loop-init
-loop-init c =
-    let s = c.args.algebra.now.signature.now in
-    let names = c.args.algebra.now.names.now in
-    subst (λ xs. Finds (items (stored_row_format s names c.args.cols) 0) c.args.lines.now xs c.args.lines.now) (sym c.new-rows.ensures.items) (finds_none (stored_row_format s names c.args.cols) (stored_row_is s names c.args.algebra.now.form c.args.algebra.now.count c.args.cols) c.args.lines.now)
+loop-init c = none_read (stored_row_format c.args.algebra.now.signature.now c.args.algebra.now.names.now c.args.cols) (stored_row_is c.args.algebra.now.signature.now c.args.algebra.now.names.now c.args.algebra.now.form c.args.algebra.now.count c.args.cols) c.args.lines.now c.new-rows.result.items c.new-rows.ensures.items
 
 pub loop-preserved : goal.loop-preserved
 loop-preserved c =
@@ -37,12 +34,10 @@ from_rows-requires-clause-fits c =
     widths s names c.args.cols c.loop.rows.items (rows_fit s names c.args.algebra.now.form c.args.algebra.now.count c.args.cols c.loop.rows.items c.loop.invariant.may.1)
 
 pub returns : goal.returns
-unfolding rows_names
 returns c =
     let s = c.args.algebra.now.signature.now in
     let names = c.args.algebra.now.names.now in
     let cols = c.args.cols in
-    let all : c.loop.counter ≡ c.args.count = omega (arith, c.loop.auto.counter-end) in
+    let rows = all_read (stored_row_format s names cols) (stored_row_is c.args.algebra.now.signature.now c.args.algebra.now.names.now c.args.algebra.now.form c.args.algebra.now.count cols) c.args.lines.now c.loop.lines c.loop.rows.items c.loop.rows.items c.loop.counter c.args.count (omega (arith, c.loop.auto.counter-end)) refl c.loop.invariant in
     subst (λ (m : OperatorMatrix). Finds (rows_format s names c.args.count cols) c.args.lines.now m c.loop.lines) (sym c.from_rows.ensures)
-    (finds_renamed (items (stored_row_format s names cols) c.args.count) (rows_format s names c.args.count cols) (rows_names s names c.args.algebra.now.form c.args.algebra.now.count c.args.count cols) c.args.lines.now c.loop.rows.items c.loop.lines
-    (subst (λ n. Finds (items (stored_row_format s names cols) n) c.args.lines.now c.loop.rows.items c.loop.lines) all c.loop.invariant))
+    (finds_made (items (stored_row_format s names cols) c.args.count) (rows_format s names c.args.count cols) (as_matrix c.args.algebra.now.signature.now c.args.algebra.now.names.now c.args.algebra.now.form c.args.algebra.now.count cols) (rows_make c.args.algebra.now.signature.now c.args.algebra.now.names.now c.args.algebra.now.form c.args.algebra.now.count c.args.count cols) c.args.lines.now c.loop.rows.items c.loop.lines rows)

@@ -1,34 +1,22 @@
-use Rattle.std.proofs.Common.{◌≡◌, ◌<◌, sym, subst, arith}
-use Rattle.ore_parts.specs.Formats.{Finds, items}
+use Rattle.std.proofs.Common.{◌<◌, arith}
 use Rattle.ore_parts.specs.PartFormats.{entry_format}
-use Rattle.ore_parts.proofs.FormatReads.{finds_none, finds_more, items_fault, reads_err}
+use Rattle.ore_parts.proofs.FormatReads.{finds_more, none_read, item_fails, all_read}
 use Rattle.ore_parts.proofs.PartLaws.{entry_is}
 use Rattle.ore_parts.proofs.pairs.read_entries.Goals as goal
 
 pub returns-in_err-entry : goal.returns-in_err-entry
 returns-in_err-entry c =
-    let s = c.args.algebra.now.signature.now in
-    let names = c.args.algebra.now.names.now in
     let few : c.loop.counter < c.args.count = omega arith in
-    reads_err (items (entry_format s names) c.args.count) c.args.lines.now c.read_entry.new.lines c.from_residual.result c.in_err-entry.field-0.0 c.from_residual.ensures.1
-    (items_fault (entry_format s names) (entry_is s names c.args.algebra.now.form c.args.algebra.now.count) c.args.lines.now c.loop.lines c.loop.entries.items c.loop.counter c.args.count c.in_err-entry.field-0.0 c.loop.invariant few c.in_err-entry.ensures)
+    item_fails (entry_format c.args.algebra.now.signature.now c.args.algebra.now.names.now) (entry_is c.args.algebra.now.signature.now c.args.algebra.now.names.now c.args.algebra.now.form c.args.algebra.now.count) c.args.lines.now c.loop.lines c.read_entry.new.lines c.loop.entries.items c.loop.counter c.args.count c.from_residual.result c.in_err-entry.field-0.0
+    c.from_residual.ensures.1 c.loop.invariant few c.in_err-entry.ensures
 
 pub loop-init : goal.loop-init
-loop-init c =
-    let s = c.args.algebra.now.signature.now in
-    let names = c.args.algebra.now.names.now in
-    subst (λ xs. Finds (items (entry_format s names) 0) c.args.lines.now xs c.args.lines.now) (sym c.new-entries.ensures.items) (finds_none (entry_format s names) (entry_is s names c.args.algebra.now.form c.args.algebra.now.count) c.args.lines.now)
+loop-init c = none_read (entry_format c.args.algebra.now.signature.now c.args.algebra.now.names.now) (entry_is c.args.algebra.now.signature.now c.args.algebra.now.names.now c.args.algebra.now.form c.args.algebra.now.count) c.args.lines.now c.new-entries.result.items c.new-entries.ensures.items
 
 pub loop-preserved : goal.loop-preserved
 loop-preserved c =
-    let s = c.args.algebra.now.signature.now in
-    let names = c.args.algebra.now.names.now in
-    finds_more (entry_format s names) (entry_is s names c.args.algebra.now.form c.args.algebra.now.count) c.args.lines.now c.loop.lines c.read_entry.new.lines c.loop.entries.items c.push.new.self.items c.in_ok-entry.entry c.loop.counter
+    finds_more (entry_format c.args.algebra.now.signature.now c.args.algebra.now.names.now) (entry_is c.args.algebra.now.signature.now c.args.algebra.now.names.now c.args.algebra.now.form c.args.algebra.now.count) c.args.lines.now c.loop.lines c.read_entry.new.lines c.loop.entries.items c.push.new.self.items c.in_ok-entry.entry c.loop.counter
     c.loop.invariant c.in_ok-entry.ensures c.in_ok-push.ensures.items
 
 pub returns : goal.returns
-returns c =
-    let s = c.args.algebra.now.signature.now in
-    let names = c.args.algebra.now.names.now in
-    let all : c.loop.counter ≡ c.args.count = omega (arith, c.loop.auto.counter-end) in
-    subst (λ n. Finds (items (entry_format s names) n) c.args.lines.now c.from_vec.result c.loop.lines) all (subst (λ xs. Finds (items (entry_format s names) c.loop.counter) c.args.lines.now xs c.loop.lines) (sym c.from_vec.ensures) c.loop.invariant)
+returns c = all_read (entry_format c.args.algebra.now.signature.now c.args.algebra.now.names.now) (entry_is c.args.algebra.now.signature.now c.args.algebra.now.names.now c.args.algebra.now.form c.args.algebra.now.count) c.args.lines.now c.loop.lines c.loop.entries.items c.from_vec.result c.loop.counter c.args.count (omega (arith, c.loop.auto.counter-end)) c.from_vec.ensures c.loop.invariant

@@ -3,7 +3,7 @@ use Rattle.std.specs.Prelude.{◌≢◌, codes}
 use Rattle.std.proofs.lemmas.List.{append_cancel_left}
 use Rattle.ore_algebra.specs.Free.{single}
 use Rattle.ore_rational.specs.Fraction.{Fraction}
-use Rattle.ore_rational.proofs.FractionLaws.{rationals}
+use Rattle.ore_rational.specs.Field.{rationals}
 use Rattle.ore_monomial.specs.Monomial.{Monomial, plain_cmp}
 use Rattle.ore_text.specs.Printable.{IsPrintable}
 use Rattle.ore_rows.specs.Reduction.{step_operator}
