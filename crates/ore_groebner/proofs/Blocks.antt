@@ -18,9 +18,9 @@ use Rattle.ore_monomial.specs.Term.{Term}
 use Rattle.ore_monomial.specs.declared.order.Order.{Order}
 use Rattle.ore_rows.specs.Rows.{Row, AreLong, zero_row, identity_rows, combine, matrix_times}
 use Rattle.ore_leads.proofs.Dividing.{divides_term_true}
-use Rattle.ore_rows.specs.Arithmetic.{Arithmetic, IsSound}
+use Rattle.ore_rows.specs.Arithmetic.{Arithmetic, IsSoundArithmetic}
 use Rattle.ore_rows.specs.RowLead.{coefficient_at, row_lead}
-use Rattle.ore_rows.specs.Reduction.{Step, Work, basis_rows, cofactors_of, leads_of, after, reduce}
+use Rattle.ore_rows.specs.Reduction.{Step, ReductionState, basis_rows, cofactors_of, leads_of, remainder_after, reduce}
 use Rattle.ore_rows.specs.declared.choices.Origin.{Origin}
 use Rattle.ore_rows.specs.declared.choices.Origin.TheVariants.{ZeroRow, Event}
 use Rattle.ore_rows.proofs.GreatestTerms.{row_lead-Some, zero_from}
@@ -29,17 +29,17 @@ use Rattle.ore_division.specs.Laws as division
 use Rattle.ore_division.proofs.Leaves.{IsLeft, left, reduction_ends}
 use Rattle.ore_pairs.specs.Steps as steps
 use Rattle.ore_pairs.specs.Blocks.{IsBasis, IsValidExact, IsValidOutside, AreInside}
-use Rattle.ore_pairs.specs.PairList.{Entry, Pair, Skip}
-use Rattle.ore_pairs.specs.Run.{State, IsComplete, from_rows}
+use Rattle.ore_pairs.specs.PairList.{DealtPair, Pair, Skip}
+use Rattle.ore_pairs.specs.Run.{RunState, IsComplete, from_rows}
 use Rattle.ore_pairs.specs.RunBlocks.{row_from, pair_origins, exact_of_run, outside_of_run}
 use Rattle.ore_pairs.proofs.PairCount.{count-all}
-use Rattle.ore_pairs.proofs.Syzygies.{length-after}
+use Rattle.ore_pairs.proofs.Syzygies.{length-remainder_after}
 use Rattle.ore_groebner.specs.RunLaws.{IsBasisRow, IsStateOf, IsFrom, HaveTheirSyzygies}
 use Rattle.ore_groebner.proofs.Holding.{Holds, are_monic, are_wide, leads_are, long_rows, wide_cofactors, wide_syzygies, vanishing}
 use Rattle.ore_groebner.proofs.Placing.{length-placed, placed-row, placed-behind, long_placed, many_inside, combine-row_from}
 use Rattle.ore_groebner.proofs.Returning.{length-from_rows, long_from_rows, keeps}
 
-module _ (K : Domain) (s : Signature) (lawful : IsLawful s) (o : Order) (n : ℕ) (a : List (Row K)) (long : AreLong K n a) (st : State K) (h : Holds K s o n a st) (complete : IsComplete K st) where
+module _ (K : Domain) (s : Signature) (lawful : IsLawful s) (o : Order) (n : ℕ) (a : List (Row K)) (long : AreLong K n a) (st : RunState K) (h : Holds K s o n a st) (complete : IsComplete K st) where
   abbrev q : ℕ
   q = length a
 
@@ -78,7 +78,7 @@ module _ (K : Domain) (s : Signature) (lawful : IsLawful s) (o : Order) (n : ℕ
     many : length st.origins ≡ length inside
     many = many_inside K s lawful q st.origins st.syzygies m inside wide h.many product
 
-    inside_shown : (k : ℕ) (es : List (Entry K)) → HaveTheirSyzygies K s q leads (cofactors_of st.basis) st.origins st.syzygies k es → AreInside K s q leads (cofactors_of st.basis) m es (map given (pair_origins k es))
+    inside_shown : (k : ℕ) (es : List (DealtPair K)) → HaveTheirSyzygies K s q leads (cofactors_of st.basis) st.origins st.syzygies k es → AreInside K s q leads (cofactors_of st.basis) m es (map given (pair_origins k es))
     unfolding pair_origins
     inside_shown k [] shown = tt
     inside_shown k (Pair i j steps ∷ es) shown = (is_row (Event k) _ shown.0, inside_shown (suc k) es shown.1)
@@ -101,12 +101,12 @@ module _ (K : Domain) (s : Signature) (lawful : IsLawful s) (o : Order) (n : ℕ
       let wide = wide_syzygies K s o n a st.syzygies h.syzygies in
       exact_valid st.syzygies (identity_rows K (length st.syzygies)) wide (vanishing K s o n a st.syzygies h.syzygies) (long_identity K (length st.syzygies)) (identity_rows-matrix_times K s lawful q st.syzygies wide)
 
-module _ (K : Domain) (s : Signature) (lawful : IsLawful s) (A : Arithmetic K) (sound : IsSound K s A) (n : ℕ) (a : List (Row K)) (long : AreLong K n a) (st : State K) (h : Holds K s s.order n a st) (complete : IsComplete K st) where
-  divided : division.IsBasis K s n (length a) st.basis
+module _ (K : Domain) (s : Signature) (lawful : IsLawful s) (A : Arithmetic K) (sound : IsSoundArithmetic K s A) (n : ℕ) (a : List (Row K)) (long : AreLong K n a) (st : RunState K) (h : Holds K s s.order n a st) (complete : IsComplete K st) where
+  divided : division.IsMonicBasis K s n (length a) st.basis
   divided = record { monic = are_monic K s s.order n a st.basis h.basis; rows = are_wide K s s.order n a st.basis h.basis; cofactors = λ i d k. (All-get_or (IsBasisRow K s s.order n a) st.basis i d k h.basis).wide }
 
-  module _ (w cofactor : Row K) (wide : length w ≡ n) (rest : Work K) (e : reduce K s.order A st.basis (record { row = w; cofactor = cofactor; steps = [] }) ≡ Ok rest) (more : rest.row ≢ zero_row K n) where
-    abbrev start : Work K
+  module _ (w cofactor : Row K) (wide : length w ≡ n) (rest : ReductionState K) (e : reduce K s.order A st.basis (record { row = w; cofactor = cofactor; steps = [] }) ≡ Ok rest) (more : rest.row ≢ zero_row K n) where
+    abbrev start : ReductionState K
     start = record { row = w; cofactor = cofactor; steps = [] }
 
     taken : (steps : List (Step K)) × IsLeft K s lawful A sound n (length a) st.basis divided start steps rest
@@ -118,11 +118,11 @@ module _ (K : Domain) (s : Signature) (lawful : IsLawful s) (A : Arithmetic K) (
     within_rows : AllByRecursion (λ (t : Step K). t.index < length (basis_rows st.basis)) rest.steps
     within_rows = subst (λ m. AllByRecursion (λ (t : Step K). t.index < m) rest.steps) (sym (length-map st.basis (λ b. b.row))) inside
 
-    rest_is : after K s (basis_rows st.basis) rest.steps w ≡ rest.row
-    rest_is = ap (λ steps. after K s (basis_rows st.basis) steps w) taken.1.listed ∙ sym taken.1.row
+    rest_is : remainder_after K s (basis_rows st.basis) rest.steps w ≡ rest.row
+    rest_is = ap (λ steps. remainder_after K s (basis_rows st.basis) steps w) taken.1.listed ∙ sym taken.1.row
 
     rest_long : length rest.row ≡ n
-    rest_long = sym (ap length rest_is) ∙ length-after K s lawful n (basis_rows st.basis) (long_rows K s s.order n a st.basis h.basis) rest.steps w wide within_rows
+    rest_long = sym (ap length rest_is) ∙ length-remainder_after K s lawful n (basis_rows st.basis) (long_rows K s s.order n a st.basis h.basis) rest.steps w wide within_rows
 
     pub outside_valid : IsValidOutside K s s.order n a w (outside_of_run K s.order a st rest.steps rest.row)
     outside_valid = by (row_lead K s.order rest.row) refl

@@ -10,8 +10,8 @@ use Rattle.ore_rows.specs.Rows.{Row, RowOf, zero_row}
 use Rattle.ore_rows.specs.Reduction.{Step}
 use Rattle.ore_rows.specs.declared.choices.Origin.{Origin}
 use Rattle.ore_rows.proofs.RowLaws as Rows
-use Rattle.ore_pairs.specs.Blocks.{IsExactBlockOf, IsOutsideBlockOf}
-use Rattle.ore_pairs.specs.Run.{State}
+use Rattle.ore_pairs.specs.Blocks.{IsExactBlockOfSignature, IsOutsideBlockOfSignature}
+use Rattle.ore_pairs.specs.Run.{RunState}
 use Rattle.ore_pairs.specs.RunBlocks.{is_origin, row_from, inside_origins, placed, exact_of_run, outside_of_run}
 use Rattle.ore_pairs.specs.Steps.{AreStepsOf}
 use Rattle.ore_groebner.proofs.Holding.{Holds, of_rows, of_cofactors}
@@ -28,15 +28,15 @@ module _ (K : Domain) (s : Signature) where
       by true more = d.0
       by false more = more
 
-  pub of_placed : (q m : ℕ) (st : State K) (inside : List (Row K)) → AllByRecursion (RowOf K s) inside → AllByRecursion (RowOf K s) (placed K q m st inside)
+  pub of_placed : (q m : ℕ) (st : RunState K) (inside : List (Row K)) → AllByRecursion (RowOf K s) inside → AllByRecursion (RowOf K s) (placed K q m st inside)
   of_placed q m st inside d = each (inside_origins q st.listed)
     where
       each : (xs : List Origin) → AllByRecursion (RowOf K s) (map (row_from st.origins inside (zero_row K m)) xs)
       each [] = tt
       each (x ∷ xs) = (of_row_from st.origins inside (zero_row K m) x d (Rows.of_zero_row K s m), each xs)
 
-module _ (K : Domain) (s : Signature) (lawful : IsLawful s) (o : Order) (n : ℕ) (a : List (Row K)) (of_a : AllByRecursion (RowOf K s) a) (st : State K) (h : Holds K s o n a st) where
-  pub of_exact_of_run : (m : ℕ) (inside : List (Row K)) → AllByRecursion (RowOf K s) inside → IsExactBlockOf K s (exact_of_run K o a st m inside)
+module _ (K : Domain) (s : Signature) (lawful : IsLawful s) (o : Order) (n : ℕ) (a : List (Row K)) (of_a : AllByRecursion (RowOf K s) a) (st : RunState K) (h : Holds K s o n a st) where
+  pub of_exact_of_run : (m : ℕ) (inside : List (Row K)) → AllByRecursion (RowOf K s) inside → IsExactBlockOfSignature K s (exact_of_run K o a st m inside)
   of_exact_of_run m inside d = record {
     basis = of_rows K s o n a st.basis h.basis of_a;
     from = of_from_rows K s lawful o (length st.basis) 0 a;
@@ -45,7 +45,7 @@ module _ (K : Domain) (s : Signature) (lawful : IsLawful s) (o : Order) (n : ℕ
     inside = of_placed K s (length a) m st inside d;
   }
 
-  pub of_outside_of_run : (steps : List (Step K)) (rest : Row K) → AreStepsOf K s steps → IsOutsideBlockOf K s (outside_of_run K o a st steps rest)
+  pub of_outside_of_run : (steps : List (Step K)) (rest : Row K) → AreStepsOf K s steps → IsOutsideBlockOfSignature K s (outside_of_run K o a st steps rest)
   of_outside_of_run steps rest d = record {
     basis = of_rows K s o n a st.basis h.basis of_a;
     from = of_from_rows K s lawful o (length st.basis) 0 a;

@@ -9,23 +9,23 @@ use Rattle.ore_monomial.specs.Signature.{Signature, IsLawful}
 use Rattle.ore_monomial.specs.Term.{Term}
 use Rattle.ore_monomial.specs.declared.order.Order.{Order}
 use Rattle.ore_rows.specs.Rows.{Row, RowOf, AreLong, zero_row, unit_row, row_minus, combine, InRowModule, IsExact}
-use Rattle.ore_rows.specs.Reduction.{Monic, basis_rows, cofactors_of, leads_of, row_at}
-use Rattle.ore_pairs.specs.Run.{State, IsComplete, from_rows}
+use Rattle.ore_rows.specs.Reduction.{BasisRow, basis_rows, cofactors_of, leads_of, row_at}
+use Rattle.ore_pairs.specs.Run.{RunState, IsComplete, from_rows}
 use Rattle.ore_rows.specs.declared.choices.Origin.{Origin}
 use Rattle.ore_rows.specs.declared.choices.Origin.TheVariants.{ZeroRow, Event}
 use Rattle.ore_rows.proofs.Differences.{row_minus_back}
 use Rattle.ore_rows.proofs.RowLaws as Rows
-use Rattle.ore_pairs.specs.PairList.{Entry, Pair, Skip, syzygies}
+use Rattle.ore_pairs.specs.PairList.{DealtPair, Pair, Skip, syzygies}
 use Rattle.ore_pairs.proofs.Exact.{left_over, left_inside}
 use Rattle.ore_pairs.proofs.Generate.{combination_vanishes, combination_inside, syzygies_generate}
-use Rattle.ore_pairs.proofs.Syzygies.{IsWithin, within_lawful, combine-syzygy, long_syzygies}
+use Rattle.ore_pairs.proofs.Syzygies.{IsPairWithin, within_lawful, combine-syzygy, long_syzygies}
 use Rattle.ore_groebner.specs.RunLaws.{HaveTheirSyzygies}
 use Rattle.ore_groebner.proofs.Holding.{Holds, leads_are, long_rows, wide_cofactors, of_rows, wide_syzygies, vanishing}
 use Rattle.ore_groebner.proofs.Returning.{length-from_rows, long_from_rows, of_from_rows, keeps}
 use Rattle.ore_groebner.proofs.Sources.{from_inside}
 
 module _ (K : Domain) (s : Signature) (lawful : IsLawful s) where
-  shown_inside : (q : ℕ) (leads : List Term) (cofactors : List (Row K)) (os : List Origin) (l : List (Row K)) → AreLong K q cofactors → AreLong K q l → (k : ℕ) (es : List (Entry K)) → AllByRecursion (IsWithin K (length cofactors)) es → HaveTheirSyzygies K s q leads cofactors os l k es
+  shown_inside : (q : ℕ) (leads : List Term) (cofactors : List (Row K)) (os : List Origin) (l : List (Row K)) → AreLong K q cofactors → AreLong K q l → (k : ℕ) (es : List (DealtPair K)) → AllByRecursion (IsPairWithin K (length cofactors)) es → HaveTheirSyzygies K s q leads cofactors os l k es
       → AllByRecursion (λ r. InRowModule K s q l (combine K s q r cofactors)) (syzygies K s (length cofactors) leads es)
   unfolding syzygies
   shown_inside q leads cofactors os l long ll k [] w h = tt
@@ -35,7 +35,7 @@ module _ (K : Domain) (s : Signature) (lawful : IsLawful s) where
   )
   shown_inside q leads cofactors os l long ll k (Skip i j via ∷ es) w h = shown_inside q leads cofactors os l long ll (suc k) es w.1 h.1
 
-  module _ (o : Order) (n : ℕ) (a : List (Row K)) (long : AreLong K n a) (of : AllByRecursion (RowOf K s) a) (st : State K) (h : Holds K s o n a st) (complete : IsComplete K st) where
+  module _ (o : Order) (n : ℕ) (a : List (Row K)) (long : AreLong K n a) (of : AllByRecursion (RowOf K s) a) (st : RunState K) (h : Holds K s o n a st) (complete : IsComplete K st) where
     abbrev q : ℕ
     q = length a
 
@@ -45,7 +45,7 @@ module _ (K : Domain) (s : Signature) (lawful : IsLawful s) where
     abbrev leads : List Term
     leads = leads_of st.basis
 
-    abbrev es : List (Entry K)
+    abbrev es : List (DealtPair K)
     es = st.listed
 
     abbrev from : List (Row K)
@@ -63,11 +63,11 @@ module _ (K : Domain) (s : Signature) (lawful : IsLawful s) where
     long_from : AreLong K size (from_rows K o (length st.basis) 0 a)
     long_from = long_from_rows K s lawful o size 0 a
 
-    within : AllByRecursion (IsWithin K (length (leads_of st.basis))) st.listed
+    within : AllByRecursion (IsPairWithin K (length (leads_of st.basis))) st.listed
     within = within_lawful K s o n (basis_rows st.basis) leads [] es h.entries.lawful
 
-    within_size : AllByRecursion (IsWithin K (length st.basis)) st.listed
-    within_size = subst (λ m. AllByRecursion (IsWithin K m) es) (length-map st.basis (λ b. b.lead)) within
+    within_size : AllByRecursion (IsPairWithin K (length st.basis)) st.listed
+    within_size = subst (λ m. AllByRecursion (IsPairWithin K m) es) (length-map st.basis (λ b. b.lead)) within
 
     -- a row of cofactors by way of the basis
     abbrev through : Row K → Row K
@@ -82,9 +82,9 @@ module _ (K : Domain) (s : Signature) (lawful : IsLawful s) where
 
     all_inside : AllByRecursion (λ r. InRowModule K s q st.syzygies (combine K s q r (cofactors_of st.basis))) (syzygies K s size leads es)
     all_inside =
-        let e = length-map st.basis (λ (b : Monic (Row K)). b.cofactor) in
+        let e = length-map st.basis (λ (b : BasisRow (Row K)). b.cofactor) in
         subst (λ m. AllByRecursion (λ r. InRowModule K s q st.syzygies (combine K s q r (cofactors_of st.basis))) (syzygies K s m leads es)) e
-        (shown_inside q leads (cofactors_of st.basis) st.origins st.syzygies wide long_kernel 0 es (subst (λ m. AllByRecursion (IsWithin K m) es) (sym e) within_size) h.entries.syzygies)
+        (shown_inside q leads (cofactors_of st.basis) st.origins st.syzygies wide long_kernel 0 es (subst (λ m. AllByRecursion (IsPairWithin K m) es) (sym e) within_size) h.entries.syzygies)
 
     returned : (c : Row K) → InRowModule K s size (syzygies K s size leads es) (through c) → InRowModule K s q st.syzygies (combine K s q (through c) (cofactors_of st.basis))
     unfolding InRowModule

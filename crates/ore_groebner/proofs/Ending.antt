@@ -13,22 +13,22 @@ use Rattle.std.specs.List.{All}
 use Rattle.std.specs.declared.result.Result.TheVariants.{Ok, Err}
 use Rattle.std.proofs.lemmas.List.{length-map}
 use Rattle.ore_algebra.specs.Limits.{Cause}
-use Rattle.ore_rational.proofs.FractionLaws.{rationals}
+use Rattle.ore_rational.specs.Field.{rationals}
 use Rattle.ore_monomial.specs.Signature.{Signature}
 use Rattle.ore_ring.specs.Belongs.{Belongs}
 use Rattle.ore_rows.specs.Reduction.{leads_of}
 use Rattle.ore_rows.proofs.BasisParts.{leads_monics}
 use Rattle.ore_pairs.specs.PairList.{pairs_of}
 use Rattle.ore_pairs.specs.PairRule.{AreAllListed}
-use Rattle.ore_pairs.specs.Run.{State, Stopped, IsComplete, from_rows}
+use Rattle.ore_pairs.specs.Run.{RunState, Stopped, IsComplete, from_rows}
 use Rattle.ore_rows.specs.Stored.{OperatorMatrix, rows_of}
-use Rattle.ore_rows.specs.StoredBasis.{StoredBasis, AllBelong, HaveLeads, monic_of, monics}
+use Rattle.ore_rows.specs.StoredBasis.{StoredBasis, BasisBelongs, HaveLeads, monic_of, monics}
 use Rattle.ore_rows.specs.declared.choices.Choice.{Choice}
-use Rattle.ore_groebner.specs.Choosing.{present, chosen_pairs, Settings, IsAnswer}
-use Rattle.ore_groebner.specs.Following.{step_of, IsRefusal, IsRefusalAllowed, IsStopIn, IsStopOf, IsLed}
-use Rattle.ore_groebner.specs.Honest.{first_state, IsHonest, IsStoppedAt, IsHalted, MayBeSpent, HasOneMoreRun, HasRunsAfter}
+use Rattle.ore_groebner.specs.Choosing.{present, chosen_pairs, Settings, IsChooserAnswer}
+use Rattle.ore_groebner.specs.Following.{state_after_choice, IsChooserRefusal, IsRefusalAllowed, IsStopIn, IsStopOf, IsLed}
+use Rattle.ore_groebner.specs.Honest.{first_state, IsHonestRun, IsStoppedAt, IsHalted, MayBeSpent, HasOneMoreRun, HasRunsAfter}
 use Rattle.ore_groebner.specs.RunProgress.{state_of, entries_from, new_rows, choices_of, IsProgressOf}
-use Rattle.ore_groebner.specs.Shown.{Shown, shown_of}
+use Rattle.ore_groebner.specs.BasisLeads.{BasisLeads, basis_leads}
 use Rattle.ore_groebner.specs.declared.chooser.Next.{Next}
 use Rattle.ore_groebner.specs.declared.chooser.Next.TheVariants as next
 use Rattle.ore_groebner.specs.declared.outcome.Finished.{Finished}
@@ -41,16 +41,16 @@ use Rattle.ore_groebner.proofs.Leading.{led_reached, spent_here}
 use Rattle.ore_algebra.proofs.ResultLaws.{no_ok}
 use Rattle.ore_groebner.proofs.SamePairs.{answer_same}
 
-pub stop_not_spent : (s : Signature) (st : State rationals) (c : Choice) (h : Halt) → IsStopOf s st c h → h ≡ halt.Spent → ⊥
+pub stop_not_spent : (s : Signature) (st : RunState rationals) (c : Choice) (h : Halt) → IsStopOf s st c h → h ≡ halt.Spent → ⊥
 stop_not_spent s st c h stops e = subst (IsStopOf s st c) e stops
 
-module _ (s : Signature) (a : OperatorMatrix) (allows : Shown → List (ℕ × ℕ) → Choice → Bool) (p : Progress) where
+module _ (s : Signature) (a : OperatorMatrix) (allows : BasisLeads → List (ℕ × ℕ) → Choice → Bool) (p : Progress) where
   module _ (runs : List (List Choice)) (settings : Settings) where
-    answered_in : IsLed s a allows (present runs) p → (x : Next) → IsAnswer (leads_of p.basis.items) p.listed runs settings x → IsAnswer (leads_of (state_of p).basis) (pairs_of (state_of p).listed) runs settings x
-    answered_in led x h = subst (λ leads. IsAnswer leads (pairs_of (state_of p).listed) runs settings x) (sym (leads_monics p.basis.items))
+    answered_in : IsLed s a allows (present runs) p → (x : Next) → IsChooserAnswer (leads_of p.basis.items) p.listed runs settings x → IsChooserAnswer (leads_of (state_of p).basis) (pairs_of (state_of p).listed) runs settings x
+    answered_in led x h = subst (λ leads. IsChooserAnswer leads (pairs_of (state_of p).listed) runs settings x) (sym (leads_monics p.basis.items))
         (answer_same (leads_of p.basis.items) p.listed (pairs_of (state_of p).listed) led.kept.listed runs settings x h)
 
-    pub refusal_halts : IsLed s a allows (present runs) p → (h : Halt) → IsRefusal (leads_of p.basis.items) p.listed runs settings h → IsHalted s a runs settings h
+    pub refusal_halts : IsLed s a allows (present runs) p → (h : Halt) → IsChooserRefusal (leads_of p.basis.items) p.listed runs settings h → IsHalted s a runs settings h
     refusal_halts led halt.Spent r = record { last = state_of p; reached = led_reached s a allows (present runs) p led; answered = answered_in led next.Spent r }
     refusal_halts led halt.NoLawful r = record { last = state_of p; reached = led_reached s a allows (present runs) p led; answered = answered_in led next.NoLawful r }
     refusal_halts led halt.Memory r = tt
@@ -59,7 +59,7 @@ module _ (s : Signature) (a : OperatorMatrix) (allows : Shown → List (ℕ × �
 
     stop_in : (cs : List Choice) (c : Choice) → IsLed s a allows cs p → present runs ≡ cs ++ c ∷ [] → (k : Cause) (place : StopAt) → IsStopIn s (state_of p) c k place → IsStoppedAt s a (present runs) k place
     stop_in cs c led e k at.Forced h = absurd h
-    stop_in cs c led e k (at.Treat i j) h = record { before = cs; choices_are = e ∙ ap (λ c. cs ++ c ∷ []) h.0; state = state_of p; reached = led_reached s a allows cs p led; stopped = subst (λ c. step_of s (state_of p) c ≡ Err (Stopped k)) h.0 h.1 }
+    stop_in cs c led e k (at.Treat i j) h = record { before = cs; choices_are = e ∙ ap (λ c. cs ++ c ∷ []) h.0; state = state_of p; reached = led_reached s a allows cs p led; stopped = subst (λ c. state_after_choice s (state_of p) c ≡ Err (Stopped k)) h.0 h.1 }
 
     pub stop_halts : (cs : List Choice) (c : Choice) → IsLed s a allows cs p → present runs ≡ cs ++ c ∷ [] → (h : Halt) → IsStopOf s (state_of p) c h → IsHalted s a runs settings h
     stop_halts cs c led e (halt.Overflow place) h = stop_in cs c led e _ place h
@@ -69,7 +69,7 @@ module _ (s : Signature) (a : OperatorMatrix) (allows : Shown → List (ℕ × �
     stop_halts cs c led e halt.Memory h = tt
 
   -- where the first basis was made and one more run is given
-  pub runs_after : (before given : List (List Choice)) (start : State rationals) → first_state s a ≡ Ok start → HasOneMoreRun before given → (settings : Settings) (h : Halt) → IsHalted s a given settings h → HasRunsAfter before given h
+  pub runs_after : (before given : List (List Choice)) (start : RunState rationals) → first_state s a ≡ Ok start → HasOneMoreRun before given → (settings : Settings) (h : Halt) → IsHalted s a given settings h → HasRunsAfter before given h
   runs_after before given start begun more settings (halt.Overflow at.Forced) h = absurd (no_ok (sym h ∙ begun))
   runs_after before given start begun more settings (halt.Overflow (at.Treat i j)) h = more
   runs_after before given start begun more settings (halt.Degree at.Forced) h = absurd (no_ok (sym h ∙ begun))
@@ -78,8 +78,8 @@ module _ (s : Signature) (a : OperatorMatrix) (allows : Shown → List (ℕ × �
   runs_after before given start begun more settings halt.NoLawful h = more
   runs_after before given start begun more settings halt.Memory h = inr more
 
-  pub refusal_spent : (cs : List Choice) → IsLed s a allows cs p → HaveLeads p.basis.items → (allows_spent : Shown → List (ℕ × ℕ) → Bool) (h : Halt) → IsRefusalAllowed allows_spent (shown_of p.basis) (chosen_pairs cs) h → h ≡ halt.Spent → MayBeSpent s a allows_spent cs
-  refusal_spent cs led have allows_spent h r e = spent_here s a allows cs p led have allows_spent (subst (IsRefusalAllowed allows_spent (shown_of p.basis) (chosen_pairs cs)) e r)
+  pub refusal_spent : (cs : List Choice) → IsLed s a allows cs p → HaveLeads p.basis.items → (allows_spent : BasisLeads → List (ℕ × ℕ) → Bool) (h : Halt) → IsRefusalAllowed allows_spent (basis_leads p.basis) (chosen_pairs cs) h → h ≡ halt.Spent → MayBeSpent s a allows_spent cs
+  refusal_spent cs led have allows_spent h r e = spent_here s a allows cs p led have allows_spent (subst (IsRefusalAllowed allows_spent (basis_leads p.basis) (chosen_pairs cs)) e r)
 
   pub all_complete : IsProgressOf s p → AreAllListed (leads_of p.basis.items) p.listed → IsComplete rationals (state_of p)
   all_complete kept all = subst (λ leads. AreAllListed leads (pairs_of (state_of p).listed)) (sym (leads_monics p.basis.items)) (λ i j pair. sym (kept.listed i j) ∙ all i j pair)
@@ -94,7 +94,7 @@ module _ (s : Signature) (a : OperatorMatrix) (allows : Shown → List (ℕ × �
     pub from_cols : f.from.cols ≡ n
     pub from_of : All (All (Belongs s)) f.from.rows
 
-  pub led_honest : (cs : List Choice) → IsLed s a allows cs p → AreAllListed (leads_of p.basis.items) p.listed → (n : ℕ) → n ≡ length p.basis.items → (f : Finished) → IsEnded n f → IsHonest s a cs f
+  pub led_honest : (cs : List Choice) → IsLed s a allows cs p → AreAllListed (leads_of p.basis.items) p.listed → (n : ℕ) → n ≡ length p.basis.items → (f : Finished) → IsEnded n f → IsHonestRun s a cs f
   led_honest cs led all n size f e = record {
     start = led.start;
     last = state_of p;
@@ -112,7 +112,7 @@ module _ (s : Signature) (a : OperatorMatrix) (allows : Shown → List (ℕ × �
     syzygy_cols = ap (λ (m : OperatorMatrix). m.cols) e.syzygies ∙ led.width;
     cols = ap (λ (b : StoredBasis). b.cols) e.basis ∙ led.cols;
     width = ap (λ (b : StoredBasis). b.width) e.basis ∙ led.width;
-    basis_of = subst (λ (b : StoredBasis). AllBelong s b.items) (sym e.basis) led.kept.belongs;
+    basis_of = subst (λ (b : StoredBasis). BasisBelongs s b.items) (sym e.basis) led.kept.belongs;
     from_of = e.from_of;
     syzygies_of = subst (λ (m : OperatorMatrix). All (All (Belongs s)) m.rows) (sym e.syzygies) led.kept.of;
   }

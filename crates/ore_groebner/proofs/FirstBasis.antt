@@ -3,38 +3,41 @@
 --     with_basis_row_stops, with_basis_row_gives   one more basis row
 --     begun_entries, monic_kept    what is kept still fits together
 --     begun_first                the number of rows that is kept
---     drop_at, drop_end          a list from a place on, inside it and past its end
+--     drop_at                    a list from a place in it on
 --     rows_start, rows_next, rows_stop, rows_end     the rows from a place on
 --     empty_kept                 before the first row
-use Rattle.std.proofs.Common.{◌≡◌, ℕ, zero, suc, ◌≤◌, ◌+◌, List, [], ◌∷◌, ◌++◌, length, map, drop, refl, sym, ap, ◌∙◌, subst, arith}
+use Rattle.std.proofs.Common.{◌≡◌, ℕ, suc, ◌≤◌, ◌+◌, List, [], ◌∷◌, ◌++◌, length, map, drop, refl, sym, ap, ◌∙◌, subst, arith}
 use Rattle.std.specs.List.{All, slice_get}
 use Rattle.std.specs.declared.option.Option.{Option}
 use Rattle.std.specs.declared.option.Option.TheVariants.{None, Some}
 use Rattle.std.specs.declared.result.Result.{Result}
 use Rattle.std.specs.declared.result.Result.TheVariants.{Ok, Err}
 use Rattle.std.proofs.lemmas.List.Elements.{All-nil}
+use Rattle.std.proofs.lemmas.Option.{get_or_from_slice_get, slice_get_within}
+use Rattle.std.proofs.lemmas.List.{drop_all}
+use Rattle.std.proofs.Math.Seq.{drop-cons}
 use Rattle.ore_algebra.specs.Limits.{Cause, program, ◌>>=◌}
-use Rattle.ore_rational.proofs.FractionLaws.{rationals, rational_inverses}
+use Rattle.ore_rational.specs.Field.{rationals, rational_inverses}
 use Rattle.ore_monomial.specs.Signature.{Signature}
 use Rattle.ore_monomial.specs.Term.{Term}
 use Rattle.ore_ring.specs.Belongs.{Belongs}
 use Rattle.ore_ring.specs.Ordered.{Ordered}
 use Rattle.ore_rows.specs.Arithmetic.{within}
-use Rattle.ore_rows.specs.Reduction.{Monic}
+use Rattle.ore_rows.specs.Reduction.{BasisRow}
 use Rattle.ore_rows.specs.RowLead.{row_lead}
 use Rattle.ore_rows.specs.Rows.{Row, unit_row}
 use Rattle.ore_pairs.specs.PairRule.{is_listed}
 use Rattle.ore_pairs.specs.PairList.{pairs_of}
-use Rattle.ore_pairs.specs.Run.{State, monic_multiple}
+use Rattle.ore_pairs.specs.Run.{RunState, monic_multiple}
 use Rattle.ore_pairs.specs.Run as run
 use Rattle.ore_rows.specs.Stored.{sums_of}
-use Rattle.ore_rows.specs.StoredBasis.{StoredBasis, AllBelong, monics}
+use Rattle.ore_rows.specs.StoredBasis.{StoredBasis, BasisBelongs, monics}
 use Rattle.ore_rows.specs.declared.choices.Origin.TheVariants as origin
 use Rattle.ore_groebner.specs.RunProgress.{entries_from, new_rows, basis_with, with_basis_row, state_of, IsBegun, IsProgressOf}
 use Rattle.ore_groebner.specs.declared.progress.Progress.{Progress}
 
-module _ (s : Signature) (q k : ℕ) (r : Row rationals) (st : State rationals) where
-  abbrev begun : Result (State rationals) Cause
+module _ (s : Signature) (q k : ℕ) (r : Row rationals) (st : RunState rationals) where
+  abbrev begun : Result (RunState rationals) Cause
   begun = run.begin_row rationals rational_inverses s.order (within program s) q k r st
 
   pub begin_none : row_lead rationals s.order r ≡ None → begun ≡ Ok (record st { syzygies = st.syzygies ++ unit_row rationals q k ∷ []; origins = st.origins ++ origin.ZeroRow k ∷ [] })
@@ -47,24 +50,24 @@ module _ (s : Signature) (q k : ℕ) (r : Row rationals) (st : State rationals) 
 
 -- ---- one more basis row
 
-pub with_basis_row_stops : (st : State rationals) (made : Result (Monic (Row rationals)) Cause) (c : Cause) → basis_with st.basis made ≡ Err c → with_basis_row st made ≡ Err c
+pub with_basis_row_stops : (st : RunState rationals) (made : Result (BasisRow (Row rationals)) Cause) (c : Cause) → basis_with st.basis made ≡ Err c → with_basis_row st made ≡ Err c
 with_basis_row_stops st (Ok b) c e = absurd (ok_is_err e)
   where
     ok_is_err : {A : Type 0} {x : A} → ◌≡◌ {A = Result A Cause} (Ok x) (Err c) → ⊥
     ok_is_err e = cc
 with_basis_row_stops st (Err d) c e = ap Err (same_err d c e)
   where
-    same_err : (x y : Cause) → ◌≡◌ {A = Result (List (Monic (Row rationals))) Cause} (Err x) (Err y) → x ≡ y
+    same_err : (x y : Cause) → ◌≡◌ {A = Result (List (BasisRow (Row rationals))) Cause} (Err x) (Err y) → x ≡ y
     same_err x y e = cc
 
-pub with_basis_row_gives : (st : State rationals) (made : Result (Monic (Row rationals)) Cause) (bs : List (Monic (Row rationals))) → basis_with st.basis made ≡ Ok bs → with_basis_row st made ≡ Ok (record st { basis = bs })
+pub with_basis_row_gives : (st : RunState rationals) (made : Result (BasisRow (Row rationals)) Cause) (bs : List (BasisRow (Row rationals))) → basis_with st.basis made ≡ Ok bs → with_basis_row st made ≡ Ok (record st { basis = bs })
 with_basis_row_gives st (Err d) bs e = absurd (err_is_ok e)
   where
     err_is_ok : {A : Type 0} {x : A} → ◌≡◌ {A = Result A Cause} (Err d) (Ok x) → ⊥
     err_is_ok e = cc
 with_basis_row_gives st (Ok b) bs e = ap (λ bs. Ok (record st { basis = bs })) (same_ok _ _ e)
   where
-    same_ok : (x y : List (Monic (Row rationals))) → ◌≡◌ {A = Result (List (Monic (Row rationals))) Cause} (Ok x) (Ok y) → x ≡ y
+    same_ok : (x y : List (BasisRow (Row rationals))) → ◌≡◌ {A = Result (List (BasisRow (Row rationals))) Cause} (Ok x) (Ok y) → x ≡ y
     same_ok x y e = cc
 
 -- ---- what is kept
@@ -80,7 +83,7 @@ none_new = refl
 pub begun_entries : (p : Progress) (n : ℕ) → IsBegun p → entries_from n p.events.items ≡ []
 begun_entries p n b = ap (entries_from n) b.events ∙ no_entries n
 
-pub monic_kept : (s : Signature) (q : Progress) → IsBegun q → q.first ≡ length q.basis.items → AllBelong s q.basis.items → All (λ r. length r ≡ q.basis.width) q.syzygies.items → All (All (Belongs s)) q.syzygies.items → IsProgressOf s q
+pub monic_kept : (s : Signature) (q : Progress) → IsBegun q → q.first ≡ length q.basis.items → BasisBelongs s q.basis.items → All (λ r. length r ≡ q.basis.width) q.syzygies.items → All (All (Belongs s)) q.syzygies.items → IsProgressOf s q
 monic_kept s q begun first belongs wide of = record {
   belongs = belongs;
   listed = λ x y. ap (is_listed x y) begun.listed ∙ ap (λ es. is_listed x y (pairs_of es)) (sym (begun_entries q q.first begun));
@@ -102,37 +105,23 @@ begun_first s p kept begun = counts (length p.basis.items) p.first (new_rows p.e
 -- ---- the rows from a place on
 
 pub drop_at : {A : Type 0} (xs : List A) (k : ℕ) (x : A) → slice_get xs k ≡ Some x → drop k xs ≡ x ∷ drop (suc k) xs
-drop_at [] k x e = absurd (none_some e)
-  where
-    none_some : {A : Type 0} {x : A} → ◌≡◌ {A = Option A} None (Some x) → ⊥
-    none_some e = cc
-drop_at (y ∷ xs) zero x e = λ n. same_some y x e n ∷ xs
-  where
-    same_some : {A : Type 0} (x y : A) → ◌≡◌ {A = Option A} (Some x) (Some y) → x ≡ y
-    same_some x y e = cc
-drop_at (y ∷ xs) (suc k) x e = drop_at xs k x e
-
-pub drop_end : {A : Type 0} (xs : List A) (k : ℕ) → length xs ≤ k → drop k xs ≡ []
-drop_end [] zero h = refl
-drop_end [] (suc k) h = refl
-drop_end (y ∷ xs) zero h = absurd (omega arith)
-drop_end (y ∷ xs) (suc k) h = drop_end xs k (omega arith)
+drop_at xs k x e = drop-cons xs k x (slice_get_within xs k x e) ∙ ap (λ y. y ∷ drop (suc k) xs) (get_or_from_slice_get xs k x x e)
 
 module _ (s : Signature) (rows : List (Row rationals)) where
-  abbrev begin_at : ℕ → ℕ → List (Row rationals) → State rationals → Result (State rationals) Cause
+  abbrev begin_at : ℕ → ℕ → List (Row rationals) → RunState rationals → Result (RunState rationals) Cause
   begin_at q k rs st = run.begin_rows rationals rational_inverses s.order (within program s) q k rs st
 
-  pub rows_end : (q k : ℕ) (st : State rationals) → length rows ≤ k → begin_at q k (drop k rows) st ≡ Ok st
+  pub rows_end : (q k : ℕ) (st : RunState rationals) → length rows ≤ k → begin_at q k (drop k rows) st ≡ Ok st
   unfolding run.begin_rows
-  rows_end q k st h = ap (λ rs. begin_at q k rs st) (drop_end rows k h)
+  rows_end q k st h = ap (λ rs. begin_at q k rs st) (drop_all k rows h)
 
-  pub rows_next : (q k : ℕ) (r : Row rationals) (st next : State rationals) → slice_get rows k ≡ Some r → run.begin_row rationals rational_inverses s.order (within program s) q k r st ≡ Ok next → begin_at q k (drop k rows) st ≡ begin_at q (k + 1) (drop (k + 1) rows) next
+  pub rows_next : (q k : ℕ) (r : Row rationals) (st next : RunState rationals) → slice_get rows k ≡ Some r → run.begin_row rationals rational_inverses s.order (within program s) q k r st ≡ Ok next → begin_at q k (drop k rows) st ≡ begin_at q (k + 1) (drop (k + 1) rows) next
   unfolding run.begin_rows
   rows_next q k r st next e f =
       let z : suc k ≡ k + 1 = omega arith in
       ap (λ rs. begin_at q k rs st) (drop_at rows k r e) ∙ (λ n. f n >>= λ st. begin_at q (suc k) (drop (suc k) rows) st) ∙ ap (λ m. begin_at q m (drop m rows) next) z
 
-  pub rows_stop : (q k : ℕ) (r : Row rationals) (st : State rationals) (c : Cause) → slice_get rows k ≡ Some r → run.begin_row rationals rational_inverses s.order (within program s) q k r st ≡ Err c → begin_at q k (drop k rows) st ≡ Err c
+  pub rows_stop : (q k : ℕ) (r : Row rationals) (st : RunState rationals) (c : Cause) → slice_get rows k ≡ Some r → run.begin_row rationals rational_inverses s.order (within program s) q k r st ≡ Err c → begin_at q k (drop k rows) st ≡ Err c
   unfolding run.begin_rows
   rows_stop q k r st c e f = ap (λ rs. begin_at q k rs st) (drop_at rows k r e) ∙ (λ n. f n >>= λ st. begin_at q (suc k) (drop (suc k) rows) st)
 
@@ -141,4 +130,4 @@ module _ (s : Signature) (rows : List (Row rationals)) where
   rows_start p basis begun syzygies origins = λ n. begin_at (length rows) 0 rows (record { basis = sym basis n; listed = sym (begun_entries p p.first begun) n; syzygies = map sums_of (sym syzygies n); origins = sym origins n })
 
 pub empty_kept : (s : Signature) (p : Progress) (n m : ℕ) → p.basis ≡ record { cols = n; width = m; items = [] } → p.first ≡ 0 → IsBegun p → p.syzygies.items ≡ [] → IsProgressOf s p
-empty_kept s p n m basis first begun syzygies = monic_kept s p begun (first ∙ ap (λ (b : StoredBasis). length b.items) (sym basis)) (subst (λ (b : StoredBasis). AllBelong s b.items) (sym basis) (All-nil _)) (subst (All (λ (r : List Ordered). length r ≡ p.basis.width)) (sym syzygies) (All-nil _)) (subst (All (All (Belongs s))) (sym syzygies) (All-nil _))
+empty_kept s p n m basis first begun syzygies = monic_kept s p begun (first ∙ ap (λ (b : StoredBasis). length b.items) (sym basis)) (subst (λ (b : StoredBasis). BasisBelongs s b.items) (sym basis) (All-nil _)) (subst (All (λ (r : List Ordered). length r ≡ p.basis.width)) (sym syzygies) (All-nil _)) (subst (All (All (Belongs s))) (sym syzygies) (All-nil _))

@@ -19,13 +19,13 @@ use Rattle.ore_monomial.specs.declared.order.Order.{Order}
 use Rattle.ore_rows.specs.Rows.{Row, RowOf, AreLong, zero_row, unit_row, row_scale, combine}
 use Rattle.ore_rows.specs.RowLead.{coefficient_at, row_lead}
 use Rattle.ore_rows.specs.Arithmetic.{Arithmetic, exact}
-use Rattle.ore_rows.specs.Reduction.{Monic}
-use Rattle.ore_pairs.specs.Run.{State, constant, monic_multiple, begin_row, begin_rows, begin}
+use Rattle.ore_rows.specs.Reduction.{BasisRow}
+use Rattle.ore_pairs.specs.Run.{RunState, constant, monic_multiple, begin_row, begin_rows, begin}
 use Rattle.ore_rows.specs.declared.choices.Origin.{Origin}
 use Rattle.ore_rows.specs.declared.choices.Origin.TheVariants.{ZeroRow, Event}
 use Rattle.ore_rows.proofs.GreatestTerms.{zero_from}
 use Rattle.ore_rows.proofs.UnitRows.{length-unit_row, of_unit_row, combine-unit_row}
-use Rattle.ore_pairs.specs.PairList.{Entry, AreLawful, AreEntriesOf}
+use Rattle.ore_pairs.specs.PairList.{DealtPair, AreLawful, AreEntriesOf}
 use Rattle.ore_groebner.specs.RunLaws.{IsBasisRow, IsSyzygy, IsNone, IsFrom, IsPlaceIn, HaveTheirSyzygies}
 use Rattle.ore_groebner.proofs.Limited.{monic_of, monic_exact}
 use Rattle.ore_algebra.proofs.ResultLaws.{same_ok}
@@ -69,10 +69,10 @@ module _ (K : Domain) (inverses : HasInverses K) (s : Signature) (lawful : IsLaw
   exactly = exact K s
 
   -- the rows rs from place k on
-  pub record Begun (k : ℕ) (rs : List (Row K)) (st next : State K) : Type 0 where
+  pub record Begun (k : ℕ) (rs : List (Row K)) (st next : RunState K) : Type 0 where
     pub basis : AllByRecursion (IsBasisRow K s o n a) next.basis
     pub syzygies : AllByRecursion (IsSyzygy K s o n a) next.syzygies
-    pub more : List (Monic (Row K))
+    pub more : List (BasisRow (Row K))
     pub extended : next.basis ≡ st.basis ++ more
     pub others : List (Row K)
     pub added : next.syzygies ≡ st.syzygies ++ others
@@ -85,17 +85,17 @@ module _ (K : Domain) (inverses : HasInverses K) (s : Signature) (lawful : IsLaw
     pub back : AreBack K s o q (length st.basis) k rs next.basis next.origins next.syzygies
 
   -- the origins of a state are rows of a before the k-th, one for each syzygy
-  pub record Earlier (k : ℕ) (st : State K) : Type 0 where
+  pub record Earlier (k : ℕ) (st : RunState K) : Type 0 where
     pub many : length st.origins ≡ length st.syzygies
     pub places : AllByRecursion (IsPlaceIn q 0) st.origins
     pub earlier : AllByRecursion (IsEarlier k) st.origins
 
   Later : ℕ → List (Row K) → Type 0
-  Later k rs = (st next : State K) → drop k a ≡ rs → AllByRecursion (IsBasisRow K s o n a) st.basis → AllByRecursion (IsSyzygy K s o n a) st.syzygies → Earlier k st
+  Later k rs = (st next : RunState K) → drop k a ≡ rs → AllByRecursion (IsBasisRow K s o n a) st.basis → AllByRecursion (IsSyzygy K s o n a) st.syzygies → Earlier k st
       → begin_rows K inverses o exactly q k rs st ≡ Ok next → Begun k rs st next
 
   -- one row
-  module _ (k : ℕ) (r : Row K) (rs : List (Row K)) (st next : State K) (here : drop k a ≡ r ∷ rs) (good : AllByRecursion (IsBasisRow K s o n a) st.basis) (all : AllByRecursion (IsSyzygy K s o n a) st.syzygies) (before : Earlier k st) where
+  module _ (k : ℕ) (r : Row K) (rs : List (Row K)) (st next : RunState K) (here : drop k a ≡ r ∷ rs) (good : AllByRecursion (IsBasisRow K s o n a) st.basis) (all : AllByRecursion (IsSyzygy K s o n a) st.syzygies) (before : Earlier k st) where
     abbrev unit : Row K
     unit = unit_row K q k
 
@@ -111,10 +111,10 @@ module _ (K : Domain) (inverses : HasInverses K) (s : Signature) (lawful : IsLaw
     unit_made : combine K s n unit a ≡ r
     unit_made = combine-unit_row K s lawful n k a at.0 long ∙ at.1
 
-    abbrev without : State K
+    abbrev without : RunState K
     without = record st { syzygies = st.syzygies ++ unit ∷ []; origins = st.origins ++ ZeroRow k ∷ [] }
 
-    abbrev with_one : Monic (Row K) → State K
+    abbrev with_one : BasisRow (Row K) → RunState K
     with_one b = record st { basis = st.basis ++ b ∷ [] }
 
     later_before : (x : Origin) → IsLater (suc k) x → IsLater k x
@@ -125,7 +125,7 @@ module _ (K : Domain) (inverses : HasInverses K) (s : Signature) (lawful : IsLaw
     none_before : IsNone st.origins (ZeroRow k)
     none_before = none_other K q (ZeroRow k) st.origins (all_imply (IsEarlier k) (λ x. x ≢ ZeroRow k) (earlier_other k) st.origins before.earlier)
 
-    others_later : {between : State K} → (g : Begun (suc k) rs between next) → AllByRecursion (λ x. x ≢ ZeroRow k) g.sources
+    others_later : {between : RunState K} → (g : Begun (suc k) rs between next) → AllByRecursion (λ x. x ≢ ZeroRow k) g.sources
     others_later g = all_imply (IsLater (suc k)) (λ x. x ≢ ZeroRow k) (later_other k) g.sources g.later
 
     begun_none : row_lead K o r ≡ None → Begun (suc k) rs without next → Begun k (r ∷ rs) st next
@@ -155,7 +155,7 @@ module _ (K : Domain) (inverses : HasInverses K) (s : Signature) (lawful : IsLaw
     unit_syzygy l = All-push (IsSyzygy K s o n a) st.syzygies unit all (record { wide = length-unit_row K q k; vanishes = unit_made ∙ zero_from K o r l ∙ ap (zero_row K) long_r; of_row = λ d. of_unit_row K s q k })
 
     module _ (t : Term) (l : row_lead K o r ≡ Some t) where
-      abbrev b : Monic (Row K)
+      abbrev b : BasisRow (Row K)
       b = monic_of K inverses s o r unit t
 
       unit_good : AllByRecursion (IsBasisRow K s o n a) (st.basis ++ b ∷ [])
@@ -179,7 +179,7 @@ module _ (K : Domain) (inverses : HasInverses K) (s : Signature) (lawful : IsLaw
           t,
           l,
           (
-            subst (λ (bs : List (Monic (Row K))). length st.basis < length bs) (sym g.extended) (let e = length-append (st.basis ++ b ∷ []) g.more in let f = length-append st.basis (b ∷ []) in omega arith),
+            subst (λ (bs : List (BasisRow (Row K))). length st.basis < length bs) (sym g.extended) (let e = length-append (st.basis ++ b ∷ []) g.more in let f = length-append st.basis (b ∷ []) in omega arith),
             ap (row_scale K s (constant K (coefficient_at K r t))) (there (λ b. b.row) []) ∙ monic_row K inverses s lawful o r unit t l,
             ap (row_scale K s (constant K (coefficient_at K r t))) (there (λ b. b.cofactor) []) ∙ monic_cofactor K inverses s lawful o r unit t l,
           ),
@@ -188,8 +188,8 @@ module _ (K : Domain) (inverses : HasInverses K) (s : Signature) (lawful : IsLaw
         );
       }
         where
-          there : {Y : Type 0} (f : Monic (Row K) → Y) (d : Y) → get_or (map f next.basis) (length st.basis) d ≡ f (monic_of K inverses s o r (unit_row K q k) t)
-          there f d = ap (λ (bs : List (Monic (Row K))). get_or (map f bs) (length st.basis) d) g.extended
+          there : {Y : Type 0} (f : BasisRow (Row K) → Y) (d : Y) → get_or (map f next.basis) (length st.basis) d ≡ f (monic_of K inverses s o r (unit_row K q k) t)
+          there f d = ap (λ (bs : List (BasisRow (Row K))). get_or (map f bs) (length st.basis) d) g.extended
               ∙ map_grow f d (st.basis ++ monic_of K inverses s o r (unit_row K q k) t ∷ []) g.more (length st.basis) (let e = length-append st.basis (monic_of K inverses s o r (unit_row K q k) t ∷ []) in omega arith)
               ∙ map_last f d st.basis (monic_of K inverses s o r (unit_row K q k) t)
 
@@ -197,7 +197,7 @@ module _ (K : Domain) (inverses : HasInverses K) (s : Signature) (lawful : IsLaw
     earlier_next (ZeroRow i) h = omega arith
     earlier_next (Event i) h = h
 
-    with_next : (one : Monic (Row K)) → Earlier k st → Earlier (suc k) (with_one one)
+    with_next : (one : BasisRow (Row K)) → Earlier k st → Earlier (suc k) (with_one one)
     with_next one b = record { many = b.many; places = b.places; earlier = all_imply (IsEarlier k) (IsEarlier (suc k)) earlier_next st.origins b.earlier }
 
     without_next : Earlier k st → Earlier (suc k) without
@@ -212,11 +212,11 @@ module _ (K : Domain) (inverses : HasInverses K) (s : Signature) (lawful : IsLaw
     begun_row go e = by (row_lead K o r) refl e
       where
         by : (x : Option Term) → row_lead K o r ≡ x
-            → ◌≡◌ {A = Result (State K) Cause} ((elim x [ None ↦ Ok (record st { syzygies = st.syzygies ++ unit_row K q k ∷ []; origins = st.origins ++ ZeroRow k ∷ [] }) | Some t ↦ monic_multiple K inverses exactly r (unit_row K q k) t >>= (λ b. Ok (record st { basis = st.basis ++ b ∷ [] })) ]) >>= (λ next. begin_rows K inverses o exactly q (suc k) rs next)) (Ok next)
+            → ◌≡◌ {A = Result (RunState K) Cause} ((elim x [ None ↦ Ok (record st { syzygies = st.syzygies ++ unit_row K q k ∷ []; origins = st.origins ++ ZeroRow k ∷ [] }) | Some t ↦ monic_multiple K inverses exactly r (unit_row K q k) t >>= (λ b. Ok (record st { basis = st.basis ++ b ∷ [] })) ]) >>= (λ next. begin_rows K inverses o exactly q (suc k) rs next)) (Ok next)
             → Begun k (r ∷ rs) st next
         by None l e = begun_none l (go without next at.2 good (unit_syzygy l) (without_next before) e)
         by (Some t) l e = begun_some t l (go (with_one (b t l)) next at.2 (unit_good t l) all (with_next (b t l) before)
-            (sym (ap (λ (x : Result (Monic (Row K)) Cause). (x >>= (λ b. Ok (record st { basis = st.basis ++ b ∷ [] }))) >>= (λ next. begin_rows K inverses o exactly q (suc k) rs next)) (monic_exact K inverses s o r (unit_row K q k) t)) ∙ e))
+            (sym (ap (λ (x : Result (BasisRow (Row K)) Cause). (x >>= (λ b. Ok (record st { basis = st.basis ++ b ∷ [] }))) >>= (λ next. begin_rows K inverses o exactly q (suc k) rs next)) (monic_exact K inverses s o r (unit_row K q k) t)) ∙ e))
 
   begun : (rs : List (Row K)) (k : ℕ) → Later k rs
   unfolding begin_rows Later
@@ -237,7 +237,7 @@ module _ (K : Domain) (inverses : HasInverses K) (s : Signature) (lawful : IsLaw
   })
   begun (r ∷ rs) k st next here good all before e = begun_row k r rs st next here good all before (begun rs (suc k)) e
 
-  pub begin_holds : (first : State K) → begin K inverses o exactly a ≡ Ok first → Holds K s o n a first
+  pub begin_holds : (first : RunState K) → begin K inverses o exactly a ≡ Ok first → Holds K s o n a first
   unfolding begin Later
   begin_holds first e = record {
     basis = g.basis;
@@ -249,7 +249,7 @@ module _ (K : Domain) (inverses : HasInverses K) (s : Signature) (lawful : IsLaw
     };
     back = g.back;
     many = g.many;
-    places = subst (λ (ls : List (Entry K)). AllByRecursion (IsPlaceIn q (length ls)) first.origins) (sym g.unlisted) g.places;
+    places = subst (λ (ls : List (DealtPair K)). AllByRecursion (IsPlaceIn q (length ls)) first.origins) (sym g.unlisted) g.places;
   }
     where
       g : Begun 0 a (record { basis = []; listed = []; syzygies = []; origins = [] }) first

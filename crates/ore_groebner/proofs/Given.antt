@@ -1,10 +1,10 @@
 -- The choices of runs, with one more choice.
 --     with_choice-begun, start-begun     there is a run
 --     present-cons, earlier-cons         the parts of more runs
---     present-with_choice, earlier-with_choice, treats_in-with_choice    what the last run, the others and all treat with one more choice
+--     present-with_choice, earlier-with_choice, treatment_count_in-with_choice    what the last run, the others and all treat with one more choice
 --     present-start, earlier-start       the same of a run that begins
---     treats_in-start                    the same of what all treat
---     afforded_start, afforded_next      a run that begins, and a choice that the budget allows, stay within the budget
+--     treatment_count_in-start                    the same of what all treat
+--     within_budget_start, within_budget_next      a run that begins, and a choice that the budget allows, stay within the budget
 --     runs_are                           the runs are the others and the last
 --     one_more                           the runs of which the others are those that were there before
 --     chosen_pairs-push, lists_next      the pairs of some choices, and of one more
@@ -18,7 +18,7 @@ use Rattle.ore_pairs.proofs.PairRuleLaws.{is_listed-push}
 use Rattle.ore_course.specs.Choices as course
 use Rattle.ore_course.proofs.GivenRuns as given
 use Rattle.ore_pairs.specs.Runner.{treats_pair}
-use Rattle.ore_groebner.specs.Choosing.{first_of, second_of, chosen_pairs, treats, treats_in, present, with_choice, IsAfforded, AreAfforded}
+use Rattle.ore_groebner.specs.Choosing.{first_of, second_of, chosen_pairs, treated_pair_count, treated_pair_count_in, present, with_choice, IsWithinBudget, AreWithinBudget}
 use Rattle.ore_groebner.specs.Following.{earlier}
 use Rattle.ore_groebner.specs.Honest.{HasOneMoreRun}
 
@@ -57,9 +57,9 @@ earlier-with_choice [] c = refl
 earlier-with_choice (cs ∷ []) c = refl
 earlier-with_choice (cs ∷ ds ∷ runs) c = earlier-cons cs (with_choice (ds ∷ runs) c) (with_choice-begun (ds ∷ runs) c (cons_not_nil _ _)) ∙ ap (λ rs. cs ∷ rs) (earlier-with_choice (ds ∷ runs) c)
 
-pub treats_in-with_choice : (runs : List (List Choice)) (c : Choice) → runs ≢ [] → treats_in (with_choice runs c) ≡ treats_in runs + treats (c ∷ [])
-unfolding course.treats
-treats_in-with_choice runs c h = let e = given.treats_in-with_choice treats_pair runs c h in omega (arith, e)
+pub treatment_count_in-with_choice : (runs : List (List Choice)) (c : Choice) → runs ≢ [] → treated_pair_count_in (with_choice runs c) ≡ treated_pair_count_in runs + treated_pair_count (c ∷ [])
+unfolding course.treatment_count
+treatment_count_in-with_choice runs c h = let e = given.treatment_count_in-with_choice treats_pair runs c h in omega (arith, e)
 
 pub present-start : (runs : List (List Choice)) → present (runs ++ [] ∷ []) ≡ []
 unfolding present
@@ -71,16 +71,16 @@ unfolding earlier
 earlier-start [] = refl
 earlier-start (cs ∷ runs) = earlier-cons cs (runs ++ [] ∷ []) (start-begun runs []) ∙ ap (λ rs. cs ∷ rs) (earlier-start runs)
 
-pub afforded_start : (runs now : List (List Choice)) (budget new : ℕ) → now ≡ runs ++ [] ∷ [] → new ≡ budget → AreAfforded runs budget → AreAfforded now new
-afforded_start runs now budget new e f h = rw (e, f, given.treats_in-start treats_pair runs) h
+pub within_budget_start : (runs now : List (List Choice)) (budget new : ℕ) → now ≡ runs ++ [] ∷ [] → new ≡ budget → AreWithinBudget runs budget → AreWithinBudget now new
+within_budget_start runs now budget new e f h = rw (e, f, given.treatment_count_in-start treats_pair runs) h
 
-treats_allowed : (runs : List (List Choice)) (budget : ℕ) (c : Choice) → AreAfforded runs budget → IsAfforded runs budget c → treats_in runs + treats (c ∷ []) ≤ budget
-unfolding course.treats course.cost
+treats_allowed : (runs : List (List Choice)) (budget : ℕ) (c : Choice) → AreWithinBudget runs budget → IsWithinBudget runs budget c → treated_pair_count_in runs + treated_pair_count (c ∷ []) ≤ budget
+unfolding course.treatment_count course.cost
 treats_allowed runs budget (Treat i j) h k = omega arith
 treats_allowed runs budget (Skip i j via) h k = omega arith
 
-pub afforded_next : (runs now : List (List Choice)) (budget new : ℕ) (c : Choice) → runs ≢ [] → now ≡ with_choice runs c → new ≡ budget → IsAfforded runs budget c → AreAfforded runs budget → AreAfforded now new
-afforded_next runs now budget new c begun e f k h = rw (e, f, treats_in-with_choice runs c begun) (treats_allowed runs budget c h k)
+pub within_budget_next : (runs now : List (List Choice)) (budget new : ℕ) (c : Choice) → runs ≢ [] → now ≡ with_choice runs c → new ≡ budget → IsWithinBudget runs budget c → AreWithinBudget runs budget → AreWithinBudget now new
+within_budget_next runs now budget new c begun e f k h = rw (e, f, treatment_count_in-with_choice runs c begun) (treats_allowed runs budget c h k)
 
 pub runs_are : (runs : List (List Choice)) → runs ≢ [] → runs ≡ earlier runs ++ present runs ∷ []
 unfolding present earlier

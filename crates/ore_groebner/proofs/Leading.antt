@@ -13,15 +13,15 @@ use Rattle.std.proofs.Common.{◌≡◌, ℕ, zero, suc, ◌<◌, ◌≤◌, Boo
 use Rattle.std.proofs.Common.{inl, inr}
 use Rattle.std.specs.Prelude.{◌⊎◌}
 use Rattle.std.specs.List.{slice_get}
-use Rattle.std.specs.declared.option.Option.{Option}
-use Rattle.std.specs.declared.option.Option.TheVariants.{None, Some}
+use Rattle.std.specs.declared.option.Option.TheVariants.{Some}
 use Rattle.std.specs.declared.result.Result.{Result}
 use Rattle.std.specs.declared.result.Result.TheVariants.{Ok, Err}
 use Rattle.std.proofs.lemmas.List.{take-append-le, length-map}
 use Rattle.std.proofs.Math.Seq.{take-append_seam}
-use Rattle.ore_rational.proofs.FractionLaws.{rationals}
+use Rattle.std.proofs.lemmas.Option.{same_Some, none-some}
+use Rattle.ore_rational.specs.Field.{rationals}
 use Rattle.ore_monomial.specs.Signature.{Signature}
-use Rattle.ore_pairs.specs.Run.{State, Refusal}
+use Rattle.ore_pairs.specs.Run.{RunState, Refusal}
 use Rattle.ore_course.specs.Leading as course
 use Rattle.ore_rows.specs.Stored.{OperatorMatrix}
 use Rattle.ore_rows.specs.StoredBasis.{HaveLeads, monic_of}
@@ -29,31 +29,25 @@ use Rattle.ore_rows.specs.declared.choices.Choice.{Choice}
 use Rattle.ore_pairs.specs.PairList.{pairs_of}
 use Rattle.ore_pairs.specs.PairRule.{is_listed}
 use Rattle.ore_groebner.specs.Choosing.{chosen_pairs}
-use Rattle.ore_groebner.specs.Following.{step_of, IsFollowed, IsLed}
-use Rattle.ore_groebner.specs.Honest.{first_state, state_after, IsReached, IsAllowedAt, AreAllowed, MayBeSpent}
+use Rattle.ore_groebner.specs.Following.{state_after_choice, IsFollowed, IsLed}
+use Rattle.ore_groebner.specs.Honest.{first_state, state_after, IsReached, IsAllowedAt, RuleAllowsEach, MayBeSpent}
 use Rattle.ore_groebner.specs.RunProgress.{state_of, choices_of, IsProgressOf, IsBegun}
-use Rattle.ore_groebner.specs.Shown.{Shown, shown_of}
+use Rattle.ore_groebner.specs.BasisLeads.{BasisLeads, basis_leads}
 use Rattle.ore_groebner.specs.declared.progress.Progress.{Progress}
 use Rattle.ore_groebner.proofs.Given.{lists_next}
 use Rattle.ore_algebra.proofs.ResultLaws.{no_ok, same_ok}
 use Rattle.ore_groebner.proofs.ProgressParts.{pairs_of-entries_from}
-use Rattle.ore_groebner.proofs.Showing.{shown_in-state}
+use Rattle.ore_groebner.proofs.StateLeads.{state_leads-state}
 
 -- ---- lists
-
-none_is_some : {X : Type 0} {x : X} → ◌≡◌ {A = Option X} None (Some x) → ⊥
-none_is_some e = cc
-
-same_some : {X : Type 0} (x y : X) → ◌≡◌ {A = Option X} (Some x) (Some y) → x ≡ y
-same_some x y e = cc
 
 -- an item of a list with one more is one of the list, or the last
 abbrev IsOldOrNew : {X : Type 0} → List X → X → ℕ → X → Type 0
 IsOldOrNew xs x k y = ((slice_get xs k ≡ Some y) × (k < length xs)) ⊎ ((k ≡ length xs) × (x ≡ y))
 
 slice_get-push : {X : Type 0} (xs : List X) (x : X) (k : ℕ) (y : X) → slice_get (xs ++ x ∷ []) k ≡ Some y → IsOldOrNew xs x k y
-slice_get-push [] x zero y e = inr (refl, same_some x y e)
-slice_get-push [] x (suc k) y e = absurd (none_is_some e)
+slice_get-push [] x zero y e = inr (refl, same_Some x y e)
+slice_get-push [] x (suc k) y e = absurd (none-some _ e)
 slice_get-push (z ∷ xs) x zero y e = inl (e, omega arith)
 slice_get-push (z ∷ xs) x (suc k) y e = by (slice_get-push xs x k y e)
   where
@@ -65,36 +59,36 @@ take_front : {X : Type 0} (xs : List X) (x : X) (k : ℕ) → k ≤ length xs �
 take_front xs x k h = take-append-le k xs (x ∷ []) h
 
 module _ (s : Signature) (a : OperatorMatrix) where
-  determined : (cs : List Choice) (x y : State rationals) → IsReached s a cs x → IsReached s a cs y → x ≡ y
+  determined : (cs : List Choice) (x y : RunState rationals) → IsReached s a cs x → IsReached s a cs y → x ≡ y
   determined cs x y h k = same_ok x y (sym h.led ∙ ap (λ st. state_after s a st cs) (same_ok h.start k.start (sym h.begun ∙ k.begun)) ∙ k.led)
 
-  state_after-push : (st mid next : State rationals) (cs : List Choice) (c : Choice) → state_after s a st cs ≡ Ok mid → step_of s mid c ≡ Ok next → state_after s a st (cs ++ c ∷ []) ≡ Ok next
+  state_after-push : (st mid next : RunState rationals) (cs : List Choice) (c : Choice) → state_after s a st cs ≡ Ok mid → state_after_choice s mid c ≡ Ok next → state_after s a st (cs ++ c ∷ []) ≡ Ok next
   unfolding course.run
-  state_after-push st mid next [] c e f = ap (λ (r : Result (State rationals) Refusal). elim r [ Ok next ↦ state_after s a next [] | Err refusal ↦ Err refusal ]) (ap (λ st. step_of s st c) (same_ok st mid e) ∙ f)
-  state_after-push st mid next (d ∷ cs) c e f = by (step_of s st d) (λ between. λ g. state_after-push between mid next cs c g f) e
+  state_after-push st mid next [] c e f = ap (λ (r : Result (RunState rationals) Refusal). elim r [ Ok next ↦ state_after s a next [] | Err refusal ↦ Err refusal ]) (ap (λ st. state_after_choice s st c) (same_ok st mid e) ∙ f)
+  state_after-push st mid next (d ∷ cs) c e f = by (state_after_choice s st d) (λ between. λ g. state_after-push between mid next cs c g f) e
     where
-      by : (r : Result (State rationals) Refusal) → ((between : State rationals) → state_after s a between cs ≡ Ok mid → state_after s a between (cs ++ c ∷ []) ≡ Ok next)
-          → ◌≡◌ {A = Result (State rationals) Refusal} (elim r [ Ok next ↦ state_after s a next cs | Err refusal ↦ Err refusal ]) (Ok mid)
-          → ◌≡◌ {A = Result (State rationals) Refusal} (elim r [ Ok next ↦ state_after s a next (cs ++ c ∷ []) | Err refusal ↦ Err refusal ]) (Ok next)
+      by : (r : Result (RunState rationals) Refusal) → ((between : RunState rationals) → state_after s a between cs ≡ Ok mid → state_after s a between (cs ++ c ∷ []) ≡ Ok next)
+          → ◌≡◌ {A = Result (RunState rationals) Refusal} (elim r [ Ok next ↦ state_after s a next cs | Err refusal ↦ Err refusal ]) (Ok mid)
+          → ◌≡◌ {A = Result (RunState rationals) Refusal} (elim r [ Ok next ↦ state_after s a next (cs ++ c ∷ []) | Err refusal ↦ Err refusal ]) (Ok next)
       by (Ok between) more e = more between e
       by (Err refusal) more e = absurd (no_ok e)
 
-  pub reached_push : (mid next : State rationals) (cs : List Choice) (c : Choice) → IsReached s a cs mid → step_of s mid c ≡ Ok next → IsReached s a (cs ++ c ∷ []) next
+  pub reached_push : (mid next : RunState rationals) (cs : List Choice) (c : Choice) → IsReached s a cs mid → state_after_choice s mid c ≡ Ok next → IsReached s a (cs ++ c ∷ []) next
   reached_push mid next cs c h e = record { start = h.start; begun = h.begun; led = state_after-push h.start mid next cs c h.led e }
 
   -- ---- rules
 
-  module _ (allows : Shown → List (ℕ × ℕ) → Choice → Bool) where
+  module _ (allows : BasisLeads → List (ℕ × ℕ) → Choice → Bool) where
     pub led_reached : (cs : List Choice) (p : Progress) → IsLed s a allows cs p → IsReached s a cs (state_of p)
     led_reached cs p led = record { start = led.start; begun = led.begun; led = led.led }
 
     pub led_pairs : (cs : List Choice) (p : Progress) → IsLed s a allows cs p → pairs_of (state_of p).listed ≡ chosen_pairs cs
     led_pairs cs p led = pairs_of-entries_from p.first p.events.items ∙ ap chosen_pairs led.events
 
-    allowed_here : (cs : List Choice) (p : Progress) → IsLed s a allows cs p → HaveLeads p.basis.items → (allowed : Shown → List (ℕ × ℕ) → Bool) → allowed (shown_of p.basis) (chosen_pairs cs) ≡ true → IsAllowedAt s allowed (state_of p)
-    allowed_here cs p led have allowed h = (λ k. allowed (shown_in-state s a p led.kept have k) (led_pairs cs p led k)) ∙ h
+    allowed_here : (cs : List Choice) (p : Progress) → IsLed s a allows cs p → HaveLeads p.basis.items → (allowed : BasisLeads → List (ℕ × ℕ) → Bool) → allowed (basis_leads p.basis) (chosen_pairs cs) ≡ true → IsAllowedAt s allowed (state_of p)
+    allowed_here cs p led have allowed h = (λ k. allowed (state_leads-state s a p led.kept have k) (led_pairs cs p led k)) ∙ h
 
-    pub allowed_push : (cs : List Choice) (c : Choice) (p : Progress) → IsLed s a allows cs p → HaveLeads p.basis.items → allows (shown_of p.basis) (chosen_pairs cs) c ≡ true → AreAllowed s a allows (cs ++ c ∷ [])
+    pub allowed_push : (cs : List Choice) (c : Choice) (p : Progress) → IsLed s a allows cs p → HaveLeads p.basis.items → allows (basis_leads p.basis) (chosen_pairs cs) c ≡ true → RuleAllowsEach s a allows (cs ++ c ∷ [])
     allowed_push cs c p led have here k d st e reached = by (slice_get-push cs c k d e)
       where
         by : IsOldOrNew cs c k d → IsAllowedAt s (λ shown ps. allows shown ps d) st
@@ -103,10 +97,10 @@ module _ (s : Signature) (a : OperatorMatrix) where
             let there : IsReached s a cs st = subst (λ ds. IsReached s a ds st) (ap (λ n. take n (cs ++ c ∷ [])) h.0 ∙ take-append_seam cs (c ∷ [])) reached in
             subst (λ d. IsAllowedAt s (λ shown ps. allows shown ps d) st) h.1 (subst (λ st. IsAllowedAt s (λ shown ps. allows shown ps c) st) (determined cs (state_of p) st (led_reached cs p led) there) (allowed_here cs p led have (λ shown ps. allows shown ps c) here))
 
-    pub spent_here : (cs : List Choice) (p : Progress) → IsLed s a allows cs p → HaveLeads p.basis.items → (allows_spent : Shown → List (ℕ × ℕ) → Bool) → allows_spent (shown_of p.basis) (chosen_pairs cs) ≡ true → MayBeSpent s a allows_spent cs
+    pub spent_here : (cs : List Choice) (p : Progress) → IsLed s a allows cs p → HaveLeads p.basis.items → (allows_spent : BasisLeads → List (ℕ × ℕ) → Bool) → allows_spent (basis_leads p.basis) (chosen_pairs cs) ≡ true → MayBeSpent s a allows_spent cs
     spent_here cs p led have allows_spent h st reached = subst (IsAllowedAt s allows_spent) (determined cs (state_of p) st (led_reached cs p led) reached) (allowed_here cs p led have allows_spent h)
 
-    pub led_next : (cs : List Choice) (c : Choice) (p q : Progress) → IsLed s a allows cs p → HaveLeads p.basis.items → allows (shown_of p.basis) (chosen_pairs cs) c ≡ true → IsFollowed s p c q → IsLed s a allows (cs ++ c ∷ []) q
+    pub led_next : (cs : List Choice) (c : Choice) (p q : Progress) → IsLed s a allows cs p → HaveLeads p.basis.items → allows (basis_leads p.basis) (chosen_pairs cs) c ≡ true → IsFollowed s p c q → IsLed s a allows (cs ++ c ∷ []) q
     led_next cs c p q led have here f = record {
       start = led.start;
       begun = led.begun;
@@ -132,5 +126,5 @@ module _ (s : Signature) (a : OperatorMatrix) where
       first = first ∙ sym (length-map p.basis.items monic_of);
       cols = cols;
       width = width;
-      allowed = λ k c st e reached. absurd (none_is_some e);
+      allowed = λ k c st e reached. absurd (none-some _ e);
     }

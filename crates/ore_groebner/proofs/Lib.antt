@@ -18,7 +18,7 @@ pub mod LawfulSteps
 pub mod Given
 pub mod Unlisted
 pub mod Stepping
-pub mod Showing
+pub mod StateLeads
 pub mod Leading
 pub mod Ending
 pub mod RunCourses

@@ -8,8 +8,9 @@ use Rattle.std.specs.List.{slice_get, range_with_len}
 use Rattle.std.specs.declared.option.Option.{Option}
 use Rattle.std.specs.declared.option.Option.TheVariants.{None, Some}
 use Rattle.std.proofs.lemmas.List.FromFn.{length-range_with_len}
+use Rattle.std.proofs.lemmas.List.{drop_all}
 use Rattle.ore_algebra.specs.Free.{empty_sum}
-use Rattle.ore_rational.proofs.FractionLaws.{rationals}
+use Rattle.ore_rational.specs.Field.{rationals}
 use Rattle.ore_monomial.specs.LetterRule.{Operator}
 use Rattle.ore_monomial.specs.Monomial.{unit, plain_cmp}
 use Rattle.ore_monomial.specs.Term.{Term}
@@ -19,7 +20,7 @@ use Rattle.ore_rows.specs.RowLead.{IsRowLead, coefficient_at, row_lead}
 use Rattle.ore_rows.specs.Rows.{Row, zero_row}
 use Rattle.ore_pairs.specs.Run.{constant, entry_row, from_rows}
 use Rattle.ore_rows.proofs.GreatestTerms.{row_lead_from}
-use Rattle.ore_groebner.proofs.FirstBasis.{drop_at, drop_end}
+use Rattle.ore_groebner.proofs.FirstBasis.{drop_at}
 
 all_same : (f z : Operator rationals) (at : ℕ → Bool) (places : List ℕ) → f ≡ z → map (λ j. cond (at j) f z) places ≡ replicate (length places) z
 all_same f z at [] e = refl
@@ -61,4 +62,4 @@ module _ (o : Order) (n : ℕ) where
 
   pub from_end : (rows made : List (Row rationals)) (i k : ℕ) → length rows ≤ k → made ++ from_rows rationals o n i (drop k rows) ≡ made
   unfolding from_rows
-  from_end rows made i k h = ap (λ rs. made ++ from_rows rationals o n i rs) (drop_end rows k h) ∙ append-nil made
+  from_end rows made i k h = ap (λ rs. made ++ from_rows rationals o n i rs) (drop_all k rows h) ∙ append-nil made

@@ -24,8 +24,8 @@ use Rattle.ore_rows.specs.Reduction.{row_at}
 use Rattle.ore_rows.specs.declared.choices.Origin.{Origin}
 use Rattle.ore_rows.specs.declared.choices.Origin.TheVariants.{ZeroRow, Event}
 use Rattle.ore_rows.proofs.RowLaws as Rows
-use Rattle.ore_pairs.specs.PairList.{Entry, Pair, Skip, treated_count}
-use Rattle.ore_pairs.specs.Run.{State}
+use Rattle.ore_pairs.specs.PairList.{DealtPair, Pair, Skip, treated_count}
+use Rattle.ore_pairs.specs.Run.{RunState}
 use Rattle.ore_pairs.specs.RunBlocks.{is_origin, row_from, pair_origins, inside_origins, placed}
 use Rattle.ore_groebner.specs.RunLaws.{IsNone, IsFrom}
 
@@ -76,13 +76,13 @@ length-zeros : (K : Domain) (m : ℕ) → length (zero_row K m) ≡ m
 unfolding zero_row
 length-zeros K m = length-replicate m (empty_sum K plain_cmp)
 
-pub length-pair_origins : {K : Domain} (k : ℕ) (es : List (Entry K)) → length (pair_origins k es) ≡ treated_count es
+pub length-pair_origins : {K : Domain} (k : ℕ) (es : List (DealtPair K)) → length (pair_origins k es) ≡ treated_count es
 unfolding pair_origins treated_count
 length-pair_origins k [] = refl
 length-pair_origins k (Pair i j steps ∷ es) = ap suc (length-pair_origins (suc k) es)
 length-pair_origins k (Skip i j via ∷ es) = length-pair_origins (suc k) es
 
-module _ (K : Domain) (q m : ℕ) (st : State K) (inside : List (Row K)) where
+module _ (K : Domain) (q m : ℕ) (st : RunState K) (inside : List (Row K)) where
   abbrev row_of : Origin → Row K
   row_of = row_from st.origins inside (zero_row K m)
 

@@ -16,7 +16,7 @@ use Rattle.std.proofs.lemmas.List.Elements.{All-nil, All-cons, All-push}
 use Rattle.ore_algebra.specs.Free.{empty_sum}
 use Rattle.ore_algebra.specs.Limits.{Cause, program, ◌>>=◌}
 use Rattle.ore_rational.specs.Fraction.{Fraction}
-use Rattle.ore_rational.proofs.FractionLaws.{rationals, rational_inverses}
+use Rattle.ore_rational.specs.Field.{rationals, rational_inverses}
 use Rattle.ore_monomial.specs.Monomial.{unit, plain_cmp}
 use Rattle.ore_monomial.specs.Signature.{Signature}
 use Rattle.ore_monomial.specs.Term.{Term}
@@ -24,17 +24,17 @@ use Rattle.ore_monomial.specs.declared.order.Order.{Order}
 use Rattle.ore_ring.specs.Belongs.{Belongs}
 use Rattle.ore_ring.specs.Ordered.{Ordered}
 use Rattle.ore_rows.specs.Arithmetic.{within}
-use Rattle.ore_rows.specs.Reduction.{Monic, Step, Work, reduce}
+use Rattle.ore_rows.specs.Reduction.{BasisRow, Step, ReductionState, reduce}
 use Rattle.ore_rows.specs.RowLead.{coefficient_at, row_lead}
 use Rattle.ore_rows.specs.Rows.{Row, zero_row}
 use Rattle.ore_pairs.specs.PairRule.{is_listed, HaveSamePairs}
-use Rattle.ore_pairs.specs.Run.{State, unless_zero, monic_multiple}
-use Rattle.ore_pairs.specs.PairList.{Entry, pairs_of}
+use Rattle.ore_pairs.specs.Run.{RunState, unless_zero, monic_multiple}
+use Rattle.ore_pairs.specs.PairList.{DealtPair, pairs_of}
 use Rattle.ore_pairs.proofs.PairRuleLaws.{is_listed-push}
 use Rattle.ore_pairs.specs.PairList as pair
 use Rattle.ore_pairs.specs.Run as run
 use Rattle.ore_rows.specs.Stored.{IsZeroRow, sums_of}
-use Rattle.ore_rows.specs.StoredBasis.{AllBelong, monics}
+use Rattle.ore_rows.specs.StoredBasis.{BasisBelongs, monics}
 use Rattle.ore_rows.specs.declared.choices.Origin.TheVariants as origin
 use Rattle.ore_rows.proofs.GreatestTerms.{row_lead-Some, zero_from}
 use Rattle.ore_rows.proofs.StoredBases.{no_lead_of_zeros}
@@ -150,16 +150,16 @@ choices_push (x ∷ es) e = ap (λ cs. choice_of x ∷ cs) (choices_push es e)
 
 -- ---- what is kept
 
-module _ (p q : Progress) (e : Event) (i j : ℕ) (entry : Entry rationals) (one : pair.first entry ≡ i) (other : pair.second entry ≡ j) (first : q.first ≡ p.first) (events : q.events.items ≡ p.events.items ++ e ∷ []) (entry_is : entries_from (p.first + new_rows p.events.items) (e ∷ []) ≡ entry ∷ []) where
+module _ (p q : Progress) (e : Event) (i j : ℕ) (entry : DealtPair rationals) (one : pair.first entry ≡ i) (other : pair.second entry ≡ j) (first : q.first ≡ p.first) (events : q.events.items ≡ p.events.items ++ e ∷ []) (entry_is : entries_from (p.first + new_rows p.events.items) (e ∷ []) ≡ entry ∷ []) where
   pub entries_more : entries_from q.first q.events.items ≡ entries_from p.first p.events.items ++ entry ∷ []
   entries_more = (λ k. entries_from (first k) (events k)) ∙ entries_from-push p.first p.events.items e ∙ ap (λ ls. entries_from p.first p.events.items ++ ls) entry_is
 
-  pub kept_more : (s : Signature) → IsProgressOf s p → HaveSamePairs q.listed ((i, j) ∷ p.listed) → AllBelong s q.basis.items → length q.basis.items ≡ length p.basis.items + new_rows (e ∷ []) → q.basis.width ≡ p.basis.width → q.syzygies.items ≡ p.syzygies.items → IsProgressOf s q
+  pub kept_more : (s : Signature) → IsProgressOf s p → HaveSamePairs q.listed ((i, j) ∷ p.listed) → BasisBelongs s q.basis.items → length q.basis.items ≡ length p.basis.items + new_rows (e ∷ []) → q.basis.width ≡ p.basis.width → q.syzygies.items ≡ p.syzygies.items → IsProgressOf s q
   unfolding is_listed
   kept_more s kept adds belongs count width syzygies = record {
     belongs = belongs;
     listed = λ x y. adds x y ∙ ap (λ b. (nat_eq x i && nat_eq y j) || b) (kept.listed x y)
-        ∙ sym (ap (is_listed x y) (ap pairs_of entries_more ∙ map-append (λ (e : Entry rationals). (pair.first e, pair.second e)) (entries_from p.first p.events.items) (entry ∷ []))
+        ∙ sym (ap (is_listed x y) (ap pairs_of entries_more ∙ map-append (λ (e : DealtPair rationals). (pair.first e, pair.second e)) (entries_from p.first p.events.items) (entry ∷ []))
         ∙ is_listed-push x y (pairs_of (entries_from p.first p.events.items)) (pair.first entry, pair.second entry)
         ∙ (λ k. (nat_eq x (one k) && nat_eq y (other k)) || is_listed x y (pairs_of (entries_from p.first p.events.items))));
     counted = counts (length q.basis.items) (length p.basis.items) p.first (new_rows p.events.items) (new_rows (e ∷ [])) (new_rows q.events.items) count kept.counted (ap new_rows events ∙ new_rows-push p.events.items e) ∙ ap (λ n. n + new_rows q.events.items) (sym first);
@@ -170,13 +170,9 @@ module _ (p q : Progress) (e : Event) (i j : ℕ) (entry : Entry rationals) (one
       counts : (a b f m d n : ℕ) → a ≡ b + d → b ≡ f + m → n ≡ m + d → a ≡ f + n
       counts a b f m d n h k l = omega arith
 
-pub append_nil : {A : Type 0} (xs : List A) → xs ++ [] ≡ xs
-append_nil [] = refl
-append_nil (x ∷ xs) = λ k. x ∷ append_nil xs k
-
 pub more_syzygies : (s : Signature) (p q : Progress) (r : List Ordered) → IsProgressOf s p → q.first ≡ p.first → q.basis ≡ p.basis → q.listed ≡ p.listed → q.events.items ≡ p.events.items → q.syzygies.items ≡ p.syzygies.items ++ r ∷ [] → length r ≡ p.basis.width → All (Belongs s) r → IsProgressOf s q
 more_syzygies s p q r kept first basis listed events syzygies wide of = record {
-  belongs = subst (λ b. AllBelong s b.items) (sym basis) kept.belongs;
+  belongs = subst (λ b. BasisBelongs s b.items) (sym basis) kept.belongs;
   listed = λ x y. ap (is_listed x y) listed ∙ kept.listed x y ∙ (λ k. is_listed x y (pairs_of (entries_from (sym first k) (sym events k))));
   counted = (λ k. length (basis k).items) ∙ kept.counted ∙ (λ k. sym first k + new_rows (sym events k));
   wide = subst (λ n. All (λ (r : List Ordered). length r ≡ n) q.syzygies.items) (λ k. (sym basis k).width) (subst (λ rs. All (λ (r : List Ordered). length r ≡ p.basis.width) rs) (sym syzygies) (All-push (λ (r : List Ordered). length r ≡ p.basis.width) p.syzygies.items r kept.wide wide));
@@ -185,27 +181,27 @@ more_syzygies s p q r kept first basis listed events syzygies wide of = record {
 
 -- ---- the states of a run
 
-pub zero_state : (o : Order) (p q : Progress) (i j n : ℕ) (w : Work rationals) → n ≡ length p.events.items → entries_from q.first q.events.items ≡ entries_from p.first p.events.items ++ pair.Pair i j w.steps ∷ [] → q.basis ≡ p.basis → map sums_of q.syzygies.items ≡ map sums_of p.syzygies.items ++ unless_zero rationals o w.cofactor → q.origins.items ≡ p.origins.items ++ map (λ _. origin.Event n) (unless_zero rationals o w.cofactor) → state_of q ≡ run.with_syzygy rationals o (state_of p) i j w
+pub zero_state : (o : Order) (p q : Progress) (i j n : ℕ) (w : ReductionState rationals) → n ≡ length p.events.items → entries_from q.first q.events.items ≡ entries_from p.first p.events.items ++ pair.Pair i j w.steps ∷ [] → q.basis ≡ p.basis → map sums_of q.syzygies.items ≡ map sums_of p.syzygies.items ++ unless_zero rationals o w.cofactor → q.origins.items ≡ p.origins.items ++ map (λ _. origin.Event n) (unless_zero rationals o w.cofactor) → state_of q ≡ run.with_syzygy rationals o (state_of p) i j w
 unfolding run.with_syzygy
 zero_state o p q i j n w place entries basis syzygies origins = λ k. record { basis = monics (basis k); listed = entries k; syzygies = syzygies k; origins = (origins ∙ ap (λ m. p.origins.items ++ map (λ _. origin.Event m) (unless_zero rationals o w.cofactor)) (place ∙ sym (length-entries_from p.first p.events.items))) k }
 
-module _ (s : Signature) (p : Progress) (i j : ℕ) (w : Work rationals) (t : Term) where
-  abbrev made : Result (Monic (Row rationals)) Cause
+module _ (s : Signature) (p : Progress) (i j : ℕ) (w : ReductionState rationals) (t : Term) where
+  abbrev made : Result (BasisRow (Row rationals)) Cause
   made = monic_multiple rationals rational_inverses (within program s) w.row w.cofactor t
 
-  abbrev finish : Monic (Row rationals) → Result (State rationals) Cause
+  abbrev finish : BasisRow (Row rationals) → Result (RunState rationals) Cause
   finish b = Ok (record { basis = monics p.basis ++ b ∷ []; listed = run.entries_with rationals (state_of p) (pair.Pair i j (w.steps ++ record { index = length (monics p.basis); monomial = unit; number = coefficient_at rationals w.row t } ∷ [])); syzygies = map sums_of p.syzygies.items; origins = p.origins.items })
 
   pub row_stops : (c : Cause) → basis_with (monics p.basis) made ≡ Err c → run.with_row rationals rational_inverses (within program s) (state_of p) i j w t ≡ Err c
   unfolding run.with_row
   row_stops c e = by made refl e
     where
-      by : (x : Result (Monic (Row rationals)) Cause) → made ≡ x → basis_with (monics p.basis) x ≡ Err c → (made >>= finish) ≡ Err c
+      by : (x : Result (BasisRow (Row rationals)) Cause) → made ≡ x → basis_with (monics p.basis) x ≡ Err c → (made >>= finish) ≡ Err c
       by (Ok b) f e = absurd (ok_is_err e)
         where
           ok_is_err : {A : Type 0} {x : A} → ◌≡◌ {A = Result A Cause} (Ok x) (Err c) → ⊥
           ok_is_err e = cc
-      by (Err d) f e = ap (λ (x : Result (Monic (Row rationals)) Cause). x >>= finish) f ∙ ap Err (same_err d c e)
+      by (Err d) f e = ap (λ (x : Result (BasisRow (Row rationals)) Cause). x >>= finish) f ∙ ap Err (same_err d c e)
         where
           same_err : {A : Type 0} (x y : Cause) → ◌≡◌ {A = Result A Cause} (Err x) (Err y) → x ≡ y
           same_err x y e = cc
@@ -214,49 +210,49 @@ module _ (s : Signature) (p : Progress) (i j : ℕ) (w : Work rationals) (t : Te
   unfolding run.with_row
   row_state q k stands place entries syzygies origins e = by made refl e
     where
-      by : (x : Result (Monic (Row rationals)) Cause) → made ≡ x → basis_with (monics p.basis) x ≡ Ok (monics q.basis) → (made >>= finish) ≡ Ok (state_of q)
+      by : (x : Result (BasisRow (Row rationals)) Cause) → made ≡ x → basis_with (monics p.basis) x ≡ Ok (monics q.basis) → (made >>= finish) ≡ Ok (state_of q)
       by (Err d) f e = absurd (err_is_ok e)
         where
           err_is_ok : {A : Type 0} {x : A} → ◌≡◌ {A = Result A Cause} (Err d) (Ok x) → ⊥
           err_is_ok e = cc
       by (Ok b) f e =
-          ap (λ (x : Result (Monic (Row rationals)) Cause). x >>= finish) f
+          ap (λ (x : Result (BasisRow (Row rationals)) Cause). x >>= finish) f
           ∙ (λ n. Ok (record { basis = same_ok _ _ e n; listed = (as_entries ∙ sym entries) n; syzygies = map sums_of (sym syzygies n); origins = sym origins n }))
         where
-          same_ok : (x y : List (Monic (Row rationals))) → ◌≡◌ {A = Result (List (Monic (Row rationals))) Cause} (Ok x) (Ok y) → x ≡ y
+          same_ok : (x y : List (BasisRow (Row rationals))) → ◌≡◌ {A = Result (List (BasisRow (Row rationals))) Cause} (Ok x) (Ok y) → x ≡ y
           same_ok x y e = cc
 
           as_entries : run.entries_with rationals (state_of p) (pair.Pair i j (w.steps ++ record { index = length (monics p.basis); monomial = unit; number = coefficient_at rationals w.row t } ∷ [])) ≡ entries_from p.first p.events.items ++ pair.Pair i j (w.steps ++ record { index = p.first + new_rows p.events.items; monomial = unit; number = k } ∷ []) ∷ []
           as_entries = λ n. entries_from p.first p.events.items ++ pair.Pair i j (w.steps ++ record { index = place n; monomial = unit; number = stands n } ∷ []) ∷ []
 
-module _ (s : Signature) (st : State rationals) (i j : ℕ) (w : Work rationals) where
-  abbrev settled : Result (State rationals) Cause
-  settled = run.settle rationals rational_inverses s.order (within program s) st i j w
+module _ (s : Signature) (st : RunState rationals) (i j : ℕ) (w : ReductionState rationals) where
+  abbrev stepped : Result (RunState rationals) Cause
+  stepped = run.with_remainder rationals rational_inverses s.order (within program s) st i j w
 
-  pub settle_none : row_lead rationals s.order w.row ≡ None → settled ≡ Ok (run.with_syzygy rationals s.order st i j w)
-  unfolding run.settle
-  settle_none e = ap (λ (x : Option Term). elim x [ None ↦ Ok (run.with_syzygy rationals s.order st i j w) | Some t ↦ run.with_row rationals rational_inverses (within program s) st i j w t ]) e
+  pub remainder_none : row_lead rationals s.order w.row ≡ None → stepped ≡ Ok (run.with_syzygy rationals s.order st i j w)
+  unfolding run.with_remainder
+  remainder_none e = ap (λ (x : Option Term). elim x [ None ↦ Ok (run.with_syzygy rationals s.order st i j w) | Some t ↦ run.with_row rationals rational_inverses (within program s) st i j w t ]) e
 
-  pub settle_some : (t : Term) → row_lead rationals s.order w.row ≡ Some t → settled ≡ run.with_row rationals rational_inverses (within program s) st i j w t
-  unfolding run.settle
-  settle_some t e = ap (λ (x : Option Term). elim x [ None ↦ Ok (run.with_syzygy rationals s.order st i j w) | Some t ↦ run.with_row rationals rational_inverses (within program s) st i j w t ]) e
+  pub remainder_some : (t : Term) → row_lead rationals s.order w.row ≡ Some t → stepped ≡ run.with_row rationals rational_inverses (within program s) st i j w t
+  unfolding run.with_remainder
+  remainder_some t e = ap (λ (x : Option Term). elim x [ None ↦ Ok (run.with_syzygy rationals s.order st i j w) | Some t ↦ run.with_row rationals rational_inverses (within program s) st i j w t ]) e
 
-module _ (s : Signature) (st : State rationals) (i j : ℕ) where
-  abbrev treated : Result (State rationals) Cause
+module _ (s : Signature) (st : RunState rationals) (i j : ℕ) where
+  abbrev treated : Result (RunState rationals) Cause
   treated = run.treat rationals rational_inverses s.order (within program s) st i j
 
   pub treat_first : (c : Cause) → run.s_rows rationals (within program s) st.basis i j ≡ Err c → treated ≡ Err c
   unfolding run.treat
-  treat_first c e = λ n. e n >>= λ start. reduce rationals s.order (within program s) st.basis start >>= λ rest. run.settle rationals rational_inverses s.order (within program s) st i j rest
+  treat_first c e = λ n. e n >>= λ start. reduce rationals s.order (within program s) st.basis start >>= λ rest. run.with_remainder rationals rational_inverses s.order (within program s) st i j rest
 
-  pub treat_second : (w : Work rationals) (c : Cause) → run.s_rows rationals (within program s) st.basis i j ≡ Ok w → reduce rationals s.order (within program s) st.basis w ≡ Err c → treated ≡ Err c
+  pub treat_second : (w : ReductionState rationals) (c : Cause) → run.s_rows rationals (within program s) st.basis i j ≡ Ok w → reduce rationals s.order (within program s) st.basis w ≡ Err c → treated ≡ Err c
   unfolding run.treat
   treat_second w c e f =
-      (λ n. e n >>= λ start. reduce rationals s.order (within program s) st.basis start >>= λ rest. run.settle rationals rational_inverses s.order (within program s) st i j rest)
-      ∙ ap (λ (x : Result (Work rationals) Cause). x >>= λ rest. run.settle rationals rational_inverses s.order (within program s) st i j rest) f
+      (λ n. e n >>= λ start. reduce rationals s.order (within program s) st.basis start >>= λ rest. run.with_remainder rationals rational_inverses s.order (within program s) st i j rest)
+      ∙ ap (λ (x : Result (ReductionState rationals) Cause). x >>= λ rest. run.with_remainder rationals rational_inverses s.order (within program s) st i j rest) f
 
-  pub treat_last : (w v : Work rationals) → run.s_rows rationals (within program s) st.basis i j ≡ Ok w → reduce rationals s.order (within program s) st.basis w ≡ Ok v → treated ≡ run.settle rationals rational_inverses s.order (within program s) st i j v
+  pub treat_last : (w v : ReductionState rationals) → run.s_rows rationals (within program s) st.basis i j ≡ Ok w → reduce rationals s.order (within program s) st.basis w ≡ Ok v → treated ≡ run.with_remainder rationals rational_inverses s.order (within program s) st i j v
   unfolding run.treat
   treat_last w v e f =
-      (λ n. e n >>= λ start. reduce rationals s.order (within program s) st.basis start >>= λ rest. run.settle rationals rational_inverses s.order (within program s) st i j rest)
-      ∙ ap (λ (x : Result (Work rationals) Cause). x >>= λ rest. run.settle rationals rational_inverses s.order (within program s) st i j rest) f
+      (λ n. e n >>= λ start. reduce rationals s.order (within program s) st.basis start >>= λ rest. run.with_remainder rationals rational_inverses s.order (within program s) st i j rest)
+      ∙ ap (λ (x : Result (ReductionState rationals) Cause). x >>= λ rest. run.with_remainder rationals rational_inverses s.order (within program s) st i j rest) f

@@ -26,20 +26,21 @@ use Rattle.ore_monomial.specs.Term.{Term}
 use Rattle.ore_monomial.proofs.Declared.{MonomialOf-quotient, MonomialOf-unit}
 use Rattle.ore_monomial.proofs.Operators
 use Rattle.ore_ring.proofs.Belonging.{of_single}
-use Rattle.ore_rows.specs.Arithmetic.{Arithmetic, IsSound}
-use Rattle.ore_rows.specs.Reduction.{Monic, Step, Work, basis_rows, cofactors_of, origin, row_at, step_operator}
+use Rattle.ore_rows.specs.Arithmetic.{Arithmetic, IsSoundArithmetic}
+use Rattle.ore_rows.specs.Reduction.{BasisRow, Step, ReductionState, basis_rows, cofactors_of, origin, row_at, step_operator}
 use Rattle.ore_rows.specs.ReduceRows.{Reductions, AllReduce, LeavesRest, negated, reduce_row, reduce_rows_from}
 use Rattle.ore_rows.specs.RowLead.{coefficient_at, IsRowLead, row_lead}
 use Rattle.ore_rows.specs.Rows.{Row, RowOf, AreLong, zero_row, row_plus, row_minus, row_scale, combine, matrix_times}
 use Rattle.ore_rows.proofs.Differences.{number-times, of_row_minus, length-row_minus, combine-row_minus}
 use Rattle.ore_rows.proofs.GreatestTerms.{row_lead-Some, zero_from}
 use Rattle.ore_rows.proofs.RowLaws as Rows
-use Rattle.ore_division.proofs.Reductions.{taken, kept}
+use Rattle.ore_rows.proofs.RowLaws.{plus-zero_row}
+use Rattle.ore_division.proofs.Reductions.{state_after_step, kept}
 use Rattle.ore_algebra.proofs.ResultLaws.{same_ok, no_ok}
-use Rattle.ore_division.proofs.Steps.{IsStep, next_step-Some, step_inside}
-use Rattle.ore_pairs.specs.Run.{State}
+use Rattle.ore_division.proofs.Steps.{IsReductionStep, next_step-Some, step_inside}
+use Rattle.ore_pairs.specs.Run.{RunState}
 use Rattle.ore_pairs.specs.Steps.{AreStepsOf}
-use Rattle.ore_pairs.proofs.RowSums.{row_assoc, plus-zero_row}
+use Rattle.ore_pairs.proofs.RowSums.{row_assoc}
 use Rattle.ore_groebner.specs.RunLaws.{IsBasisRow}
 use Rattle.ore_groebner.proofs.Growing.{inside_map}
 use Rattle.ore_groebner.proofs.Holding.{Holds, are_monic, are_wide, of_rows, of_cofactors}
@@ -77,11 +78,11 @@ module _ (K : Domain) where
 
 -- ---- one row
 
-module _ (K : Domain) (s : Signature) (lawful : IsLawful s) (n : ℕ) (a : List (Row K)) (long : AreLong K n a) (st : State K) (h : Holds K s s.order n a st) where
+module _ (K : Domain) (s : Signature) (lawful : IsLawful s) (n : ℕ) (a : List (Row K)) (long : AreLong K n a) (st : RunState K) (h : Holds K s s.order n a st) where
   abbrev of_a : Type 0
   of_a = AllByRecursion (RowOf K s) a
 
-  blank : Monic (Row K)
+  blank : BasisRow (Row K)
   blank = record { row = []; cofactor = []; lead = origin }
 
   -- the basis row at a place, with its parts
@@ -95,7 +96,7 @@ module _ (K : Domain) (s : Signature) (lawful : IsLawful s) (n : ℕ) (a : List 
   good i l = All-get_or (IsBasisRow K s s.order n a) st.basis i blank l h.basis
 
   -- together with its cofactor row times a, the row z makes up what is left of it
-  pub record IsRestOf (z : Row K) (w : Work K) : Type 0 where
+  pub record IsRestOf (z : Row K) (w : ReductionState K) : Type 0 where
     pub wide : length w.cofactor ≡ length a
     pub sum : row_plus K z (combine K s n w.cofactor a) ≡ w.row
     pub of_row : of_a → RowOf K s z → RowOf K s w.row
@@ -111,7 +112,7 @@ module _ (K : Domain) (s : Signature) (lawful : IsLawful s) (n : ℕ) (a : List 
     of_steps = λ d e. tt;
   }
 
-  rest_more : (z : Row K) (w : Work K) (t : Step K) → IsRestOf z w → IsStep K s.order st.basis w.row t → IsRestOf z (taken K s st.basis t w)
+  rest_more : (z : Row K) (w : ReductionState K) (t : Step K) → IsRestOf z w → IsReductionStep K s.order st.basis w.row t → IsRestOf z (state_after_step K s st.basis t w)
   unfolding row_minus
   rest_more z w t j due = record {
     wide = length-row_minus K s lawful (length a) w.cofactor multiple j.wide wide_multiple;
@@ -150,8 +151,8 @@ module _ (K : Domain) (s : Signature) (lawful : IsLawful s) (n : ℕ) (a : List 
 
   -- ---- rows in order
 
-  module _ (A : Arithmetic K) (sound : IsSound K s A) where
-    pub rest_reduced : (z : Row K) (rest : Work K) → length z ≡ n → reduce_row K s.order A (length a) st.basis z ≡ Ok rest → (length rest.row ≡ n) × IsRestOf z rest
+  module _ (A : Arithmetic K) (sound : IsSoundArithmetic K s A) where
+    pub rest_reduced : (z : Row K) (rest : ReductionState K) → length z ≡ n → reduce_row K s.order A (length a) st.basis z ≡ Ok rest → (length rest.row ≡ n) × IsRestOf z rest
     rest_reduced z rest l e =
         kept K s lawful s.order A sound st.basis n (are_monic K s s.order n a st.basis h.basis) (are_wide K s s.order n a st.basis h.basis) (IsRestOf z)
         (λ w t m j due. rest_more z w t j (next_step-Some K s.order st.basis w.row t due)) (record { row = z; cofactor = zero_row K (length a); steps = [] }) rest l (rest_start z l) e
@@ -162,7 +163,7 @@ module _ (K : Domain) (s : Signature) (lawful : IsLawful s) (n : ℕ) (a : List 
       pub product : combine K s n c a ≡ z
       pub of_row : of_a → RowOf K s z → RowOf K s c
 
-    reduced_combination : (z : Row K) (rest : Work K) → length z ≡ n → reduce_row K s.order A (length a) st.basis z ≡ Ok rest → row_lead K s.order rest.row ≡ None → IsCombination z (negated K rest.cofactor)
+    reduced_combination : (z : Row K) (rest : ReductionState K) → length z ≡ n → reduce_row K s.order A (length a) st.basis z ≡ Ok rest → row_lead K s.order rest.row ≡ None → IsCombination z (negated K rest.cofactor)
     reduced_combination z rest l e empty_sum =
         let r = rest_reduced z rest l e in
         let zeros : row_plus K z (combine K s n rest.cofactor a) ≡ zero_row K (length z) = r.1.sum ∙ zero_from K s.order rest.row empty_sum ∙ ap (zero_row K) (r.0 ∙ sym l) in
@@ -186,22 +187,22 @@ module _ (K : Domain) (s : Signature) (lawful : IsLawful s) (n : ℕ) (a : List 
 
     -- one row z before others
     module _ (k : ℕ) (before : List (Row K)) (z : Row K) (rows : List (Row K)) (result : Reductions K) (lz : length z ≡ n) where
-      abbrev goes_on : Work K → Option Term → Result (Reductions K) Cause
+      abbrev goes_on : ReductionState K → Option Term → Result (Reductions K) Cause
       goes_on w t = elim t [ None ↦ reduce_rows_from K s.order A (length a) st.basis (suc k) (before ++ negated K w.cofactor ∷ []) rows | Some u ↦ Ok (LeavesRest k w) ]
 
       abbrev Later : Type 0
       Later = (b : List (Row K)) → reduce_rows_from K s.order A (length a) st.basis (suc k) b rows ≡ Ok result → IsReducedTo (suc k) b rows result
 
-      one_more : (x : Reductions K) (w : Work K) → IsCombination z (negated K w.cofactor) → IsReducedTo (suc k) (before ++ negated K w.cofactor ∷ []) rows x → IsReducedTo k before (z ∷ rows) x
+      one_more : (x : Reductions K) (w : ReductionState K) → IsCombination z (negated K w.cofactor) → IsReducedTo (suc k) (before ++ negated K w.cofactor ∷ []) rows x → IsReducedTo k before (z ∷ rows) x
       unfolding AreCombinations
       one_more (AllReduce all) w c (more, same, are) = (negated K w.cofactor ∷ more, same ∙ append_assoc before (negated K w.cofactor ∷ []) more, (c, are))
       one_more (LeavesRest i v) w c (j, place, less, e, t, g) = (suc j, omega (arith, place), omega (arith, less), e, t, g)
 
-      ends : (w : Work K) → reduce_row K s.order A (length a) st.basis z ≡ Ok w → (t : Option Term) → row_lead K s.order w.row ≡ t → goes_on w t ≡ Ok result → Later → IsReducedTo k before (z ∷ rows) result
+      ends : (w : ReductionState K) → reduce_row K s.order A (length a) st.basis z ≡ Ok w → (t : Option Term) → row_lead K s.order w.row ≡ t → goes_on w t ≡ Ok result → Later → IsReducedTo k before (z ∷ rows) result
       ends w f None g i later = one_more result w (reduced_combination z w lz f g) (later (before ++ negated K w.cofactor ∷ []) i)
       ends w f (Some t) g i later = subst (IsReducedTo k before (z ∷ rows)) (same_ok (LeavesRest k w) result i) (0, omega arith, omega arith, f, t, g)
 
-      first_reduced : (x : Result (Work K) Cause) → reduce_row K s.order A (length a) st.basis z ≡ x → (x >>= (λ w. goes_on w (row_lead K s.order w.row))) ≡ Ok result → Later → IsReducedTo k before (z ∷ rows) result
+      first_reduced : (x : Result (ReductionState K) Cause) → reduce_row K s.order A (length a) st.basis z ≡ x → (x >>= (λ w. goes_on w (row_lead K s.order w.row))) ≡ Ok result → Later → IsReducedTo k before (z ∷ rows) result
       first_reduced (Ok w) f g later = ends w f (row_lead K s.order w.row) refl g later
       first_reduced (Err c) f g later = absurd (no_ok g)
 

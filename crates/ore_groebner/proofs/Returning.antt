@@ -25,8 +25,8 @@ use Rattle.ore_ring.proofs.Belonging.{of_single}
 use Rattle.ore_ring.proofs.Product.{times-linear_right, times-one}
 use Rattle.ore_rows.specs.Rows.{Row, RowOf, AreLong, zero_row, unit_entry, unit_row, row_plus, row_minus, row_scale, combine, matrix_times}
 use Rattle.ore_rows.specs.RowLead.{coefficient_at, row_lead}
-use Rattle.ore_rows.specs.Reduction.{Monic, basis_rows, cofactors_of, row_at}
-use Rattle.ore_pairs.specs.Run.{State, constant, entry_row, from_rows}
+use Rattle.ore_rows.specs.Reduction.{BasisRow, basis_rows, cofactors_of, row_at}
+use Rattle.ore_pairs.specs.Run.{RunState, constant, entry_row, from_rows}
 use Rattle.ore_rows.specs.declared.choices.Origin.{Origin}
 use Rattle.ore_rows.specs.declared.choices.Origin.TheVariants.{ZeroRow}
 use Rattle.ore_rows.proofs.Differences.{row_minus_self}
@@ -96,13 +96,13 @@ module _ (K : Domain) (s : Signature) (lawful : IsLawful s) where
         by (Some t) e same next = ap length (from_rows-some i r rs t e) ∙ ap suc next
 
   -- such a row times rows that basis rows have
-  pub combine-from : (f : Monic (Row K) → Row K) (p : ℕ) (basis : List (Monic (Row K))) → AreLong K p (map f basis) → (i : ℕ) (g : Operator K) → i < length basis → combine K s p (place K s (length basis) i g) (map f basis) ≡ row_scale K s g (row_at (map f basis) i)
+  pub combine-from : (f : BasisRow (Row K) → Row K) (p : ℕ) (basis : List (BasisRow (Row K))) → AreLong K p (map f basis) → (i : ℕ) (g : Operator K) → i < length basis → combine K s p (place K s (length basis) i g) (map f basis) ≡ row_scale K s g (row_at (map f basis) i)
   combine-from f p basis long i g h =
       let e = length-map basis f in
       subst (λ m. combine K s p (place K s m i g) (map f basis) ≡ row_scale K s g (row_at (map f basis) i)) e (combine-place K s lawful p i g (map f basis) (subst (λ m. i < m) (sym e) h) long)
 
   module _ (o : Order) (n : ℕ) (a : List (Row K)) where
-    from_right : (basis : List (Monic (Row K))) → AllByRecursion (IsBasisRow K s o n a) basis → (origins : List Origin) (syzygies : List (Row K)) (i k : ℕ) (rs : List (Row K)) → AreLong K n rs → AreBack K s o (length a) i k rs basis origins syzygies
+    from_right : (basis : List (BasisRow (Row K))) → AllByRecursion (IsBasisRow K s o n a) basis → (origins : List Origin) (syzygies : List (Row K)) (i k : ℕ) (rs : List (Row K)) → AreLong K n rs → AreBack K s o (length a) i k rs basis origins syzygies
         → matrix_times K s n (from_rows K o (length basis) i rs) (basis_rows basis) ≡ rs
     unfolding matrix_times from_rows
     from_right basis good origins syzygies i k [] long h = refl
@@ -113,7 +113,7 @@ module _ (K : Domain) (s : Signature) (lawful : IsLawful s) where
         ap (λ rows. matrix_times K s n rows (basis_rows basis)) (from_rows-some o (length basis) i r rs t e)
         ∙ (λ j. (combine-from (λ b. b.row) n basis (long_rows K s o n a basis good) i (constant K (coefficient_at K r t)) b.0 ∙ b.1) j ∷ from_right basis good origins syzygies (suc i) (suc k) rs long.1 h j)
 
-    module _ (basis : List (Monic (Row K))) (good : AllByRecursion (IsBasisRow K s o n a) basis) (origins : List Origin) (syzygies : List (Row K)) where
+    module _ (basis : List (BasisRow (Row K))) (good : AllByRecursion (IsBasisRow K s o n a) basis) (origins : List Origin) (syzygies : List (Row K)) where
       abbrev wide : ℕ
       wide = length a
 
@@ -143,7 +143,7 @@ module _ (K : Domain) (s : Signature) (lawful : IsLawful s) where
       left_from i k (r ∷ rs) (inr (t, some, b, empty_sum, h)) (suc j) m e lt =
           subst (λ rows. Left m (row_at rows (suc j))) (sym (from_rows-some o (length basis) i r rs t some)) (left_from (suc i) (suc k) rs h j m (omega arith) (omega arith))
 
-    pub keeps : AreLong K n a → (st : State K) → Holds K s o n a st → IsStateOf K s o n a st
+    pub keeps : AreLong K n a → (st : RunState K) → Holds K s o n a st → IsStateOf K s o n a st
     keeps long st h = record {
       basis = h.basis;
       syzygies = h.syzygies;

@@ -18,28 +18,28 @@ use Rattle.ore_course.specs.Following.{Follows, InChoice, Passed, IsLeftIn, IsSp
 use Rattle.ore_course.specs.Leading.{Rule, AreAllowed}
 use Rattle.ore_course.proofs.Calls.{started}
 use Rattle.ore_course.proofs.OneRun.{allowed_path, one_run_answered, one_run_left, one_run_not_begun, one_run_stopped}
-use Rattle.ore_rational.proofs.FractionLaws.{rationals, rational_inverses}
+use Rattle.ore_rational.specs.Field.{rationals, rational_inverses}
 use Rattle.ore_monomial.specs.Gives.{Fails}
 use Rattle.ore_monomial.specs.declared.stop.RingStop.{RingStop}
 use Rattle.ore_monomial.specs.Signature.{Signature}
 use Rattle.ore_monomial.specs.Term.{Term}
 use Rattle.ore_rows.specs.Arithmetic.{within}
 use Rattle.ore_rows.specs.Reduction.{leads_of}
-use Rattle.ore_rows.specs.Shown.{Shown}
+use Rattle.ore_rows.specs.BasisLeads.{BasisLeads}
 use Rattle.ore_rows.specs.Stored.{OperatorMatrix, rows_of, sums_of}
 use Rattle.ore_rows.specs.StoredBasis.{monics}
 use Rattle.ore_rows.specs.declared.choices.Choice.{Choice}
 use Rattle.ore_rows.specs.declared.choices.Choice.TheVariants.{Treat}
 use Rattle.ore_pairs.specs.PairList.{pairs_of}
 use Rattle.ore_pairs.specs.PairRule.{is_lawful, none_treatable, AreAllListed, HasUnlisted}
-use Rattle.ore_pairs.specs.Reached.{first_state, rule_of, IsReached, IsStopped, MayBeSpent}
+use Rattle.ore_pairs.specs.Reached.{first_state, rule_of, IsReached, TreatmentStops, MayBeSpent}
 use Rattle.ore_pairs.specs.Reached as reached
-use Rattle.ore_pairs.specs.Run.{State}
+use Rattle.ore_pairs.specs.Run.{RunState}
 use Rattle.ore_pairs.specs.Runner.{runner_within, run_within}
 use Rattle.ore_pairs.proofs.CompleteStates.{tested, treatable_left, unlawful_step}
 use Rattle.ore_groebner.specs.Choosing.{present, next_kept, Settings}
 use Rattle.ore_groebner.specs.Following.{IsLed}
-use Rattle.ore_groebner.specs.Courses.{last_of, place_of, FollowsTo, HaltsIn}
+use Rattle.ore_groebner.specs.Courses.{last_of, place_in_course, FollowsTo, HaltsIn}
 use Rattle.ore_groebner.specs.Halting as halting
 use Rattle.ore_groebner.specs.Honest.{IsStoppedAt, IsHalted, HasOneMoreRun, HasRunsAt, HasRunsAfter}
 use Rattle.ore_groebner.specs.RunProgress.{state_of, entries_from, new_rows, IsProgressOf}
@@ -66,20 +66,20 @@ last_led s p f kept basis events syzygies origins = λ k. record { basis = monic
     first : p.first ≡ length f.basis.items - new_rows f.events
     first = taken (length p.basis.items) p.first (new_rows p.events.items) kept.counted ∙ (λ k. length (sym basis k).items - new_rows (sym events k))
 
-module _ (s : Signature) (allows : Shown → List (ℕ × ℕ) → Choice → Bool) (allows_spent : Shown → List (ℕ × ℕ) → Bool) (a : OperatorMatrix) where
-  abbrev rule : Rule (State rationals) Choice
+module _ (s : Signature) (allows : BasisLeads → List (ℕ × ℕ) → Choice → Bool) (allows_spent : BasisLeads → List (ℕ × ℕ) → Bool) (a : OperatorMatrix) where
+  abbrev rule : Rule (RunState rationals) Choice
   rule = rule_of s allows allows_spent
 
-  abbrev R : Runner (State rationals) Choice
+  abbrev R : Runner (RunState rationals) Choice
   R = runner_within program s
 
-  abbrev course : Course (State rationals) (State rationals)
+  abbrev course : Course (RunState rationals) (RunState rationals)
   course = run_within program s (rows_of a)
 
   abbrev AllAllowed : List Choice → Type 0
-  AllAllowed cs = reached.AreAllowed s a allows cs
+  AllAllowed cs = reached.RuleAllowsEach s a allows cs
 
-  allowed : (start : State rationals) (cs : List Choice) → first_state s a ≡ Ok start → AllAllowed cs → AreAllowed R rule start cs
+  allowed : (start : RunState rationals) (cs : List Choice) → first_state s a ≡ Ok start → AllAllowed cs → AreAllowed R rule start cs
   allowed start cs begun h = allowed_path R rule start cs (λ k c last g e. h k c last g (record { start = start; begun = begun; led = e }))
 
   module _ (before given : List (List Choice)) where
@@ -94,18 +94,18 @@ module _ (s : Signature) (allows : Shown → List (ℕ × ℕ) → Choice → Bo
     forced_halts same settings r h e f = subst (HaltsIn s allows allows_spent course before given settings) (sym e)
         (work_halts s allows allows_spent given settings (first_state s a) (λ st. Runs st Done) r f (subst (λ runs. Follows R rule course before runs course) (sym same) (started R rule course before)))
 
-    left_in : (last : State rationals) (P : State rationals → Type 0) → IsReached s a (present given) last → AllAllowed (present given) → P last → IsLeftIn R rule course (present given ∷ []) P
+    left_in : (last : RunState rationals) (P : RunState rationals → Type 0) → IsReached s a (present given) last → AllAllowed (present given) → P last → IsLeftIn R rule course (present given ∷ []) P
     left_in last P h all here = one_run_left R rule (first_state s a) h.start h.begun (present given) last P h.led (allowed h.start (present given) h.begun all) here
 
     module _ (settings : Settings) where
-      run_stopped : (i j : ℕ) (cause : Cause) → IsStopped s a (present given) i j cause → HasOneMoreRun before given → AllAllowed (present given)
+      run_stopped : (i j : ℕ) (cause : Cause) → TreatmentStops s a (present given) i j cause → HasOneMoreRun before given → AllAllowed (present given)
           → IsHaltedIn R rule course before given settings.budget settings.replays settings.kept (Passed cause (InChoice (Treat i j)))
       run_stopped i j cause h more all =
           one_run_stopped R rule (first_state s a) h.reached.start h.reached.begun h.before before given settings.budget settings.replays settings.kept cause (Treat i j) h.state (more ∙ ap (λ cs. before ++ cs ∷ []) h.choices_are) h.reached.led h.stopped
           (allowed h.reached.start (h.before ++ Treat i j ∷ []) h.reached.begun (subst AllAllowed h.choices_are all))
 
       stopped_at : (cause : Cause) (place : StopAt) → IsStoppedAt s a (present given) cause place → HasRunsAt before given place → (HasOneMoreRun before given → AllAllowed (present given))
-          → IsHaltedIn R rule course before given settings.budget settings.replays settings.kept (Passed cause (place_of place))
+          → IsHaltedIn R rule course before given settings.budget settings.replays settings.kept (Passed cause (place_in_course place))
       unfolding IsHaltedIn
       stopped_at cause at.Forced h runs all = one_run_not_begun R rule (first_state s a) before given cause h runs
       stopped_at cause (at.Treat i j) h runs all = run_stopped i j cause h runs (all runs)
@@ -129,7 +129,7 @@ module _ (s : Signature) (allows : Shown → List (ℕ × ℕ) → Choice → Bo
         h.answered.1,
       )
         where
-          none_lawful : (last : State rationals) → (next : Option Choice) → IfSome next (λ c. is_lawful (leads_of last.basis) (pairs_of last.listed) c ≡ false) → IfSome next (λ c. R.step last c ≡ Err Unlawful)
+          none_lawful : (last : RunState rationals) → (next : Option Choice) → IfSome next (λ c. is_lawful (leads_of last.basis) (pairs_of last.listed) c ≡ false) → IfSome next (λ c. R.step last c ≡ Err Unlawful)
           none_lawful last None h = tt
           none_lawful last (Some c) h = unlawful_step rationals rational_inverses s.order (within program s) last c h
       run_halted halt.Memory h runs all spent = tt

@@ -1,5 +1,5 @@
 -- What the syzygies of a state come from.
---     all_at, all_imply        what holds of the items of a list
+--     all_imply                what holds of the items of a list
 --     slice_split, slice_front, slice_behind    the item at a place of a list with more behind it
 --     none_other, none_more, no_event    no syzygy comes from an origin that isn't among theirs
 --     from_more, from_new, from_zeros    the row that comes from an origin: with more syzygies, with its own, and with none
@@ -10,14 +10,14 @@
 --     grown_many, grown_places    there is an origin for each syzygy, at a place
 use Rattle.std.proofs.Common.{◌≡◌, ◌≢◌, ◌⊎◌, inl, inr, ℕ, zero, suc, ◌+◌, ◌<◌, List, [], ◌∷◌, ◌++◌, length, refl, sym, ap, ◌∙◌, subst, append-nil, arith}
 use Rattle.std.specs.Prelude.{slice_get}
-use Rattle.std.specs.declared.option.Option.{Option}
-use Rattle.std.specs.declared.option.Option.TheVariants.{None, Some}
+use Rattle.std.specs.declared.option.Option.TheVariants.{Some}
 use Rattle.std.specs.List.{AllByRecursion}
 use Rattle.std.proofs.ByRecursion.{All-append}
 use Rattle.std.proofs.lemmas.Bool.{cases_eq}
 use Rattle.std.proofs.lemmas.List.{length-append}
-use Rattle.std.proofs.lemmas.Option.{get_or_from_slice_get, slice_get_within}
+use Rattle.std.proofs.lemmas.Option.{get_or_from_slice_get, slice_get_within, same_Some, none-some}
 use Rattle.ore_algebra.specs.Domain.{Domain}
+use Rattle.ore_algebra.proofs.ListLaws.{AllByRecursion-at}
 use Rattle.ore_monomial.specs.Signature.{Signature, IsLawful}
 use Rattle.ore_rows.specs.Rows.{Row, AreLong, zero_row, InRowModule}
 use Rattle.ore_rows.specs.declared.choices.Origin.{Origin}
@@ -26,17 +26,6 @@ use Rattle.ore_rows.proofs.RowModules.{module_row, module_zero}
 use Rattle.ore_groebner.specs.RunLaws.{IsNone, IsFrom, IsPlaceIn}
 
 -- ---- places of lists
-
-none_is_some : {X : Type 0} {x : X} → ◌≡◌ {A = Option X} None (Some x) → ⊥
-none_is_some e = cc
-
-same_some : {X : Type 0} (x y : X) → ◌≡◌ {A = Option X} (Some x) (Some y) → x ≡ y
-same_some x y e = cc
-
-all_at : {X : Type 0} (P : X → Type 0) (xs : List X) (m : ℕ) (x : X) → AllByRecursion P xs → slice_get xs m ≡ Some x → P x
-all_at P [] m x h e = absurd (none_is_some e)
-all_at P (y ∷ xs) zero x h e = subst P (same_some y x e) h.0
-all_at P (y ∷ xs) (suc m) x h e = all_at P xs m x h.1 e
 
 pub all_imply : {X : Type 0} (P Q : X → Type 0) → ((x : X) → P x → Q x) → (xs : List X) → AllByRecursion P xs → AllByRecursion Q xs
 all_imply P Q h [] a = tt
@@ -52,7 +41,7 @@ slice_split (y ∷ xs) ys (suc m) x e = by (slice_split xs ys m x e)
     by (inr h) = inr (h.0, let f = h.1 in omega arith, h.2)
 
 slice_front : {X : Type 0} (xs ys : List X) (m : ℕ) (x : X) → slice_get xs m ≡ Some x → slice_get (xs ++ ys) m ≡ Some x
-slice_front [] ys m x e = absurd (none_is_some e)
+slice_front [] ys m x e = absurd (none-some _ e)
 slice_front (y ∷ xs) ys zero x e = e
 slice_front (y ∷ xs) ys (suc m) x e = slice_front xs ys m x e
 
@@ -68,7 +57,7 @@ module _ (K : Domain) (q : ℕ) (o : Origin) where
   Other os = AllByRecursion (λ x. x ≢ o) os
 
   pub none_other : (os : List Origin) → Other os → IsNone os o
-  none_other os h m e = all_at (λ x. x ≢ o) os m o h e refl
+  none_other os h m e = AllByRecursion-at (λ x. x ≢ o) os m o h e refl
 
   pub none_more : (os more : List Origin) → IsNone os o → Other more → IsNone (os ++ more) o
   none_more os more none other m e = by (slice_split os more m o e)
@@ -90,7 +79,7 @@ module _ (K : Domain) (q : ℕ) (o : Origin) where
       where
         last : (m k : ℕ) → m ≡ length os + k → slice_get (o ∷ []) k ≡ Some o → slice_get (rs ++ c ∷ []) m ≡ Some c
         last m zero e f = let z : length rs ≡ m = omega arith in subst (λ m. slice_get (rs ++ c ∷ []) m ≡ Some c) z (slice_behind rs c)
-        last m (suc k) e f = absurd (none_is_some f)
+        last m (suc k) e f = absurd (none-some _ f)
 
         by : (m : ℕ) → (slice_get os m ≡ Some o) ⊎ ((k : ℕ) × (m ≡ length os + k) × (slice_get (o ∷ []) k ≡ Some o)) → slice_get (rs ++ c ∷ []) m ≡ Some c
         by m (inl f) = absurd (none m f)
@@ -123,11 +112,11 @@ same_or_other (Event i) (Event k) = by (cases_eq i k)
     by (inr n) = inr (λ e. n (event_place i k e))
 
 find : (os : List Origin) (o : Origin) → ((m : ℕ) × (slice_get os m ≡ Some o)) ⊎ IsNone os o
-find [] o = inr (λ m e. none_is_some e)
+find [] o = inr (λ m e. none-some _ e)
 find (x ∷ os) o = by (same_or_other x o) (find os o)
   where
     behind : x ≢ o → IsNone os o → IsNone (x ∷ os) o
-    behind n h zero e = n (same_some x o e)
+    behind n h zero e = n (same_Some x o e)
     behind n h (suc m) e = h m e
 
     by : (x ≡ o) ⊎ (x ≢ o) → ((m : ℕ) × (slice_get os m ≡ Some o)) ⊎ IsNone os o → ((m : ℕ) × (slice_get (x ∷ os) m ≡ Some o)) ⊎ IsNone (x ∷ os) o
@@ -145,7 +134,7 @@ from_inside K s lawful q os rs long o c h = by (find os o)
 -- ---- the origins of a state
 
 pub no_event : (q n : ℕ) (os : List Origin) → AllByRecursion (IsPlaceIn q n) os → IsNone os (Event n)
-no_event q n os h m e = past n (all_at (IsPlaceIn q n) os m (Event n) h e)
+no_event q n os h m e = past n (AllByRecursion-at (IsPlaceIn q n) os m (Event n) h e)
   where
     past : (n : ℕ) → n < n → ⊥
     past n l = omega arith

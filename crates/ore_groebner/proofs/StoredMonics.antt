@@ -18,7 +18,8 @@ use Rattle.ore_algebra.proofs.DomainLaws
 use Rattle.ore_rational.specs.Fraction.{Fraction, whole, inverse, div, abs-neg}
 use Rattle.ore_rational.specs.Range.{InRange}
 use Rattle.ore_rational.specs.Within.{fits}
-use Rattle.ore_rational.proofs.FractionLaws.{rationals, rational_inverses, mul-inverse}
+use Rattle.ore_rational.specs.Field.{rationals, rational_inverses}
+use Rattle.ore_rational.specs.FractionRing.{mul-inverse}
 use Rattle.ore_rational.proofs.Reciprocals.{inverse_negative, inverse_positive}
 use Rattle.ore_monomial.specs.LetterRule.{Operator}
 use Rattle.ore_monomial.specs.Monomial.{unit, plain_cmp}
@@ -28,7 +29,7 @@ use Rattle.ore_monomial.proofs.Monomials.{product-unit}
 use Rattle.ore_monomial.proofs.Signatures.{lawful}
 use Rattle.ore_ring.specs.Ordered.{Ordered}
 use Rattle.ore_rows.specs.Arithmetic.{within, scaled}
-use Rattle.ore_rows.specs.Reduction.{Monic}
+use Rattle.ore_rows.specs.Reduction.{BasisRow}
 use Rattle.ore_rows.specs.RowLead.{IsRowLead, coefficient_at}
 use Rattle.ore_rows.specs.Rows.{Row, row_scale}
 use Rattle.ore_pairs.specs.Run.{constant, inverse_of, monic_multiple}
@@ -120,5 +121,5 @@ module _ (s : Signature) (b c : StoredBasis) (r q : List Ordered) (u : Term) (gr
   pub monics_pushed : monics c ≡ monics b ++ monic_with u (r, q) ∷ []
   monics_pushed = ap monics grown ∙ map-append monic_of b.items (record { row = r; cofactor = q; lead = u } ∷ [])
 
-  pub pushed_gives : (t : Term) (made : Result (Monic (Row rationals)) Cause) → u ≡ t → made ≡ Ok (monic_with t (r, q)) → basis_with (monics b) made ≡ Ok (monics c)
+  pub pushed_gives : (t : Term) (made : Result (BasisRow (Row rationals)) Cause) → u ≡ t → made ≡ Ok (monic_with t (r, q)) → basis_with (monics b) made ≡ Ok (monics c)
   pushed_gives t made e h = ap (basis_with (monics b)) h ∙ ap Ok (sym (monics_pushed ∙ ap (λ v. monics b ++ monic_with v (r, q) ∷ []) e))

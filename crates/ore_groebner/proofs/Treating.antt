@@ -1,7 +1,7 @@
 -- What treating or skipping a pair makes of a state.
 --     advance, advance_same    a state with one more entry, more basis rows and more syzygies holds; without more rows
 --     may_now, skip_holds      so does a state with a skipped pair
---     Part                     steps lead from the pair's rows to what is left, below their common multiple
+--     IsPairReduction          steps lead from the pair's rows to what is left, below their common multiple
 --     part_start, reduced_part    so it is before a reduction and after it
 --     syzygy_holds             where nothing is left, the next state holds
 --     row_holds                where something is left, it does too
@@ -21,20 +21,20 @@ use Rattle.ore_monomial.proofs.Declared.{MonomialOf-unit, MonomialOf-lcm}
 use Rattle.ore_rows.specs.Rows.{Row, RowOf, AreLong, zero_row, row_minus, row_scale, combine, matrix_times}
 use Rattle.ore_rows.specs.RowLead.{coefficient_at, row_lead}
 use Rattle.ore_rows.specs.Arithmetic.{exact}
-use Rattle.ore_rows.specs.Reduction.{Monic, Step, Work, basis_rows, cofactors_of, leads_of, origin, after, reduce}
+use Rattle.ore_rows.specs.Reduction.{BasisRow, Step, ReductionState, basis_rows, cofactors_of, leads_of, origin, remainder_after, reduce}
 use Rattle.ore_pairs.specs.PairRule.{may_treat, may_skip}
-use Rattle.ore_pairs.specs.Run.{State, constant, entries_with, unless_zero, with_syzygy}
+use Rattle.ore_pairs.specs.Run.{RunState, constant, entries_with, unless_zero, with_syzygy}
 use Rattle.ore_pairs.proofs.PairRuleLaws.{CanTreat, SameLeads, treat_to, treat_same, skip_same, treat_longer}
 use Rattle.ore_pairs.proofs.SRows.{of_s_row, below_s_row}
 use Rattle.ore_rows.specs.declared.choices.Origin.{Origin}
 use Rattle.ore_rows.specs.declared.choices.Origin.TheVariants.{Event}
 use Rattle.ore_rows.proofs.Differences.{row_minus_self}
 use Rattle.ore_rows.proofs.GreatestTerms.{row_lead-Some, zero_from}
-use Rattle.ore_division.proofs.Reductions.{after-push}
-use Rattle.ore_pairs.specs.Steps.{lead_at, pair_term, s_row, AreLeads}
-use Rattle.ore_pairs.specs.PairList.{Entry, pairs_of, IsBelowStep, IsTreated, IsLawfulEntry, AreLawful, AreEntriesOf}
+use Rattle.ore_division.proofs.Reductions.{remainder_after-push}
+use Rattle.ore_pairs.specs.Steps.{lead_at, lcm_of_leads, s_row, AreLeads}
+use Rattle.ore_pairs.specs.PairList.{DealtPair, pairs_of, IsBelowStep, IsTreated, IsLawfulEntry, AreLawful, AreEntriesOf}
 use Rattle.ore_pairs.specs.PairList as pair
-use Rattle.ore_pairs.proofs.Syzygies.{AreStepsWithin, within_lawful, length-after, length-s_row, combine-after, combine-s_row}
+use Rattle.ore_pairs.proofs.Syzygies.{AreStepsWithin, within_lawful, length-remainder_after, length-s_row, combine-remainder_after, combine-s_row}
 use Rattle.ore_groebner.specs.RunLaws.{IsBasisRow, IsSyzygy, IsNone, IsFrom, IsPlaceIn, HasItsSyzygy}
 use Rattle.ore_groebner.proofs.Limited.{monic_of, start_of, state_with}
 use Rattle.ore_groebner.proofs.Growing.{SameRows, within_steps, left_same, pair_same, below_same, lawful_same, shown_same, shown_push, inside_map, map_inside, map_longer, map_grow}
@@ -46,11 +46,11 @@ use Rattle.ore_groebner.proofs.Parts.{lead_of_signature, IsPart, part_reduced}
 
 -- ---- one more entry
 
-module _ (K : Domain) (s : Signature) (o : Order) (n : ℕ) (a : List (Row K)) (st : State K) (holds : Holds K s o n a st) where
+module _ (K : Domain) (s : Signature) (o : Order) (n : ℕ) (a : List (Row K)) (st : RunState K) (holds : Holds K s o n a st) where
   abbrev q : ℕ
   q = length a
 
-  pub advance : (more : List (Monic (Row K))) (syzygies : List (Row K)) (origins : List Origin) (l : Entry K) → Grown K (length st.listed) st.origins st.syzygies origins syzygies
+  pub advance : (more : List (BasisRow (Row K))) (syzygies : List (Row K)) (origins : List Origin) (l : DealtPair K) → Grown K (length st.listed) st.origins st.syzygies origins syzygies
       → AllByRecursion (IsBasisRow K s o n a) (st.basis ++ more) → AllByRecursion (IsSyzygy K s o n a) syzygies
       → IsLawfulEntry K s o n (basis_rows (st.basis ++ more)) (leads_of (st.basis ++ more)) (latest [] st.listed) l
       → (AllByRecursion (RowOf K s) a → AreEntriesOf K s (l ∷ [])) → HasItsSyzygy K s q (leads_of (st.basis ++ more)) (cofactors_of (st.basis ++ more)) origins syzygies (length st.listed) l
@@ -72,20 +72,20 @@ module _ (K : Domain) (s : Signature) (o : Order) (n : ℕ) (a : List (Row K)) (
     places = subst (λ k. AllByRecursion (IsPlaceIn q k) origins) (let e = length-append st.listed (l ∷ []) in let z : suc (length st.listed) ≡ length (st.listed ++ l ∷ []) = omega arith in z) (grown_places K q (length st.listed) st.origins st.syzygies origins syzygies grown holds.places);
   }
     where
-      longer : List (Monic (Row K))
+      longer : List (BasisRow (Row K))
       longer = st.basis ++ more
 
       long : length (leads_of st.basis) ≤ length (leads_of (st.basis ++ more))
-      long = map_longer (λ (b : Monic (Row K)). b.lead) st.basis more
+      long = map_longer (λ (b : BasisRow (Row K)). b.lead) st.basis more
 
       same_leads : SameLeads (length (leads_of st.basis)) (leads_of st.basis) (leads_of (st.basis ++ more))
-      same_leads i h = map_grow (λ (b : Monic (Row K)). b.lead) origin st.basis more i (map_inside (λ (b : Monic (Row K)). b.lead) st.basis i h)
+      same_leads i h = map_grow (λ (b : BasisRow (Row K)). b.lead) origin st.basis more i (map_inside (λ (b : BasisRow (Row K)). b.lead) st.basis i h)
 
-      same : (f : Monic (Row K) → Row K) → SameRows (length (leads_of st.basis)) (map f st.basis) (map f (st.basis ++ more))
-      same f i h = map_grow f [] st.basis more i (map_inside (λ (b : Monic (Row K)). b.lead) st.basis i h)
+      same : (f : BasisRow (Row K) → Row K) → SameRows (length (leads_of st.basis)) (map f st.basis) (map f (st.basis ++ more))
+      same f i h = map_grow f [] st.basis more i (map_inside (λ (b : BasisRow (Row K)). b.lead) st.basis i h)
 
   -- with no more basis rows
-  pub advance_same : (syzygies : List (Row K)) (origins : List Origin) (l : Entry K) → Grown K (length st.listed) st.origins st.syzygies origins syzygies → AllByRecursion (IsSyzygy K s o n a) syzygies
+  pub advance_same : (syzygies : List (Row K)) (origins : List Origin) (l : DealtPair K) → Grown K (length st.listed) st.origins st.syzygies origins syzygies → AllByRecursion (IsSyzygy K s o n a) syzygies
       → IsLawfulEntry K s o n (basis_rows st.basis) (leads_of st.basis) (latest [] st.listed) l
       → (AllByRecursion (RowOf K s) a → AreEntriesOf K s (l ∷ [])) → HasItsSyzygy K s q (leads_of st.basis) (cofactors_of st.basis) origins syzygies (length st.listed) l
       → Holds K s o n a (record { basis = st.basis; listed = st.listed ++ l ∷ []; syzygies = syzygies; origins = origins })
@@ -94,8 +94,8 @@ module _ (K : Domain) (s : Signature) (o : Order) (n : ℕ) (a : List (Row K)) (
       subst (λ basis. Holds K s o n a (record { basis = basis; listed = st.listed ++ l ∷ []; syzygies = syzygies; origins = origins })) (append-nil st.basis)
       (advance [] syzygies origins l grown
       (subst (AllByRecursion (IsBasisRow K s o n a)) e holds.basis) all
-      (subst (λ (basis : List (Monic (Row K))). IsLawfulEntry K s o n (basis_rows basis) (leads_of basis) (latest [] st.listed) l) e entry) of
-      (subst (λ (basis : List (Monic (Row K))). HasItsSyzygy K s q (leads_of basis) (cofactors_of basis) origins syzygies (length st.listed) l) e shows))
+      (subst (λ (basis : List (BasisRow (Row K))). IsLawfulEntry K s o n (basis_rows basis) (leads_of basis) (latest [] st.listed) l) e entry) of
+      (subst (λ (basis : List (BasisRow (Row K))). HasItsSyzygy K s q (leads_of basis) (cofactors_of basis) origins syzygies (length st.listed) l) e shows))
 
   -- the pair may be treated by the same pairs with the latest first
   pub may_now : (i j : ℕ) → may_treat (leads_of st.basis) (pairs_of st.listed) i j ≡ true → may_treat (leads_of st.basis) (pairs_of (latest [] st.listed)) i j ≡ true
@@ -107,27 +107,27 @@ module _ (K : Domain) (s : Signature) (o : Order) (n : ℕ) (a : List (Row K)) (
 
 -- ---- a treated pair
 
-module _ (K : Domain) (inverses : HasInverses K) (s : Signature) (lawful : IsLawful s) (o : Order) (n : ℕ) (a : List (Row K)) (st : State K) (holds : Holds K s o n a st) (i j : ℕ) (can : CanTreat (leads_of st.basis) (pairs_of st.listed) i j) where
+module _ (K : Domain) (inverses : HasInverses K) (s : Signature) (lawful : IsLawful s) (o : Order) (n : ℕ) (a : List (Row K)) (st : RunState K) (holds : Holds K s o n a st) (i j : ℕ) (can : CanTreat (leads_of st.basis) (pairs_of st.listed) i j) where
   abbrev width : ℕ
   width = length a
 
   abbrev leads : List Term
   leads = leads_of st.basis
 
-  abbrev start : Work K
+  abbrev start : ReductionState K
   start = start_of K inverses s o st.basis i j
 
-  abbrev pub Part : Work K → Type 0
-  Part w = IsPart K s lawful o n st.basis (are_monic K s o n a st.basis holds.basis) (are_wide K s o n a st.basis holds.basis) (long_at K s o n a st.basis holds.basis) (AllByRecursion (RowOf K s) a) (of_rows K s o n a st.basis holds.basis) (of_cofactors K s o n a st.basis holds.basis)
-      start.row start.cofactor (pair_term leads i j) w
+  abbrev pub IsPairReduction : ReductionState K → Type 0
+  IsPairReduction w = IsPart K s lawful o n st.basis (are_monic K s o n a st.basis holds.basis) (are_wide K s o n a st.basis holds.basis) (long_at K s o n a st.basis holds.basis) (AllByRecursion (RowOf K s) a) (of_rows K s o n a st.basis holds.basis) (of_cofactors K s o n a st.basis holds.basis)
+      start.row start.cofactor (lcm_of_leads leads i j) w
 
   second_inside : j < length st.basis
-  second_inside = map_inside (λ (b : Monic (Row K)). b.lead) st.basis j can.within
+  second_inside = map_inside (λ (b : BasisRow (Row K)). b.lead) st.basis j can.within
 
   first_inside : i < length st.basis
   first_inside = let l = can.ordered in let m = second_inside in omega arith
 
-  inside_of : {X : Type 0} (f : Monic (Row K) → X) (k : ℕ) → k < length st.basis → k < length (map f st.basis)
+  inside_of : {X : Type 0} (f : BasisRow (Row K) → X) (k : ℕ) → k < length st.basis → k < length (map f st.basis)
   inside_of f k h = inside_map f st.basis k h
 
   long_basis : AreLong K n (basis_rows st.basis)
@@ -140,7 +140,7 @@ module _ (K : Domain) (inverses : HasInverses K) (s : Signature) (lawful : IsLaw
   leads_here = leads_are K s o n a st.basis holds.basis
 
   -- the pair's common multiple is of the signature
-  declared : AllByRecursion (RowOf K s) a → MonomialOf s (pair_term leads i j).monomial
+  declared : AllByRecursion (RowOf K s) a → MonomialOf s (lcm_of_leads leads i j).monomial
   declared d = MonomialOf-lcm s _ _ (of_lead i first_inside) (of_lead j second_inside)
     where
       of_lead : (k : ℕ) → k < length st.basis → MonomialOf s (lead_at leads k).monomial
@@ -150,11 +150,11 @@ module _ (K : Domain) (inverses : HasInverses K) (s : Signature) (lawful : IsLaw
   allowed : may_treat leads (pairs_of (latest [] st.listed)) i j ≡ true
   allowed = may_now K s o n a st holds i j (treat_to leads (pairs_of st.listed) i j can)
 
-  none_after : (rows : List (Row K)) (z : Row K) → after K s rows [] z ≡ z
-  unfolding after
+  none_after : (rows : List (Row K)) (z : Row K) → remainder_after K s rows [] z ≡ z
+  unfolding remainder_after
   none_after rows z = refl
 
-  pub part_start : Part start
+  pub part_start : IsPairReduction start
   part_start = record {
     row = none_after (basis_rows st.basis) start.row;
     cofactor = none_after (cofactors_of st.basis) start.cofactor;
@@ -171,26 +171,26 @@ module _ (K : Domain) (inverses : HasInverses K) (s : Signature) (lawful : IsLaw
   start_wide : length start.cofactor ≡ width
   start_wide = length-s_row K s lawful width (cofactors_of st.basis) wide_rows leads i j (inside_of (λ b. b.cofactor) i first_inside) (inside_of (λ b. b.cofactor) j second_inside)
 
-  pub reduced_part : (rest : Work K) → reduce K o (exact K s) st.basis start ≡ Ok rest → (length rest.row ≡ n) × Part rest
+  pub reduced_part : (rest : ReductionState K) → reduce K o (exact K s) st.basis start ≡ Ok rest → (length rest.row ≡ n) × IsPairReduction rest
   reduced_part rest = part_reduced K s lawful o n st.basis (are_monic K s o n a st.basis holds.basis) (are_wide K s o n a st.basis holds.basis) (long_at K s o n a st.basis holds.basis) (AllByRecursion (RowOf K s) a) (of_rows K s o n a st.basis holds.basis) (of_cofactors K s o n a st.basis holds.basis)
-      start.row start.cofactor (pair_term leads i j) start rest start_long part_start
+      start.row start.cofactor (lcm_of_leads leads i j) start rest start_long part_start
 
-  module _ (w : Work K) (long : length w.row ≡ n) (p : Part w) where
+  module _ (w : ReductionState K) (long : length w.row ≡ n) (p : IsPairReduction w) where
     within : AreStepsWithin K (length leads) w.steps
-    within = within_steps K o leads (pair_term leads i j) w.steps p.low
+    within = within_steps K o leads (lcm_of_leads leads i j) w.steps p.low
 
     within_cofactors : AreStepsWithin K (length (cofactors_of st.basis)) w.steps
     within_cofactors = subst (λ k. AreStepsWithin K k w.steps) (length-map st.basis (λ b. b.lead) ∙ sym (length-map st.basis (λ b. b.cofactor))) within
 
     wide : length w.cofactor ≡ width
-    wide = sym (ap length p.cofactor) ∙ length-after K s lawful width (cofactors_of st.basis) wide_rows w.steps _ start_wide within_cofactors
+    wide = sym (ap length p.cofactor) ∙ length-remainder_after K s lawful width (cofactors_of st.basis) wide_rows w.steps _ start_wide within_cofactors
 
     made : combine K s n w.cofactor a ≡ w.row
     made =
         ap (λ c. combine K s n c a) (sym p.cofactor)
-        ∙ combine-after K s lawful width n (cofactors_of st.basis) a wide_rows w.steps _ start_wide within_cofactors
-        ∙ ap (after K s (matrix_times K s n (cofactors_of st.basis) a) w.steps) (combine-s_row K s lawful width n (cofactors_of st.basis) a wide_rows leads i j (inside_of (λ b. b.cofactor) i first_inside) (inside_of (λ b. b.cofactor) j second_inside))
-        ∙ ap (λ m. after K s m w.steps (s_row K s leads m i j)) (to_right K s o n a st.basis holds.basis)
+        ∙ combine-remainder_after K s lawful width n (cofactors_of st.basis) a wide_rows w.steps _ start_wide within_cofactors
+        ∙ ap (remainder_after K s (matrix_times K s n (cofactors_of st.basis) a) w.steps) (combine-s_row K s lawful width n (cofactors_of st.basis) a wide_rows leads i j (inside_of (λ b. b.cofactor) i first_inside) (inside_of (λ b. b.cofactor) j second_inside))
+        ∙ ap (λ m. remainder_after K s m w.steps (s_row K s leads m i j)) (to_right K s o n a st.basis holds.basis)
         ∙ p.row
 
     -- ---- nothing is left
@@ -251,10 +251,10 @@ module _ (K : Domain) (inverses : HasInverses K) (s : Signature) (lawful : IsLaw
       abbrev number : K.Number
       number = coefficient_at K w.row t
 
-      abbrev b : Monic (Row K)
+      abbrev b : BasisRow (Row K)
       b = monic_of K inverses s o w.row w.cofactor t
 
-      abbrev longer : List (Monic (Row K))
+      abbrev longer : List (BasisRow (Row K))
       longer = st.basis ++ b ∷ []
 
       abbrev last : Step K
@@ -264,43 +264,43 @@ module _ (K : Domain) (inverses : HasInverses K) (s : Signature) (lawful : IsLaw
       good = monic_good K inverses s lawful o w.row w.cofactor t something n a long wide made p.of_row p.of_cofactor
 
       same_leads : SameLeads (length leads) leads (leads_of longer)
-      same_leads k h = map_grow (λ (b : Monic (Row K)). b.lead) origin st.basis (b ∷ []) k (map_inside (λ (b : Monic (Row K)). b.lead) st.basis k h)
+      same_leads k h = map_grow (λ (b : BasisRow (Row K)). b.lead) origin st.basis (b ∷ []) k (map_inside (λ (b : BasisRow (Row K)). b.lead) st.basis k h)
 
-      same : (f : Monic (Row K) → Row K) → SameRows (length leads) (map f st.basis) (map f longer)
-      same f k h = map_grow f [] st.basis (b ∷ []) k (map_inside (λ (b : Monic (Row K)). b.lead) st.basis k h)
+      same : (f : BasisRow (Row K) → Row K) → SameRows (length leads) (map f st.basis) (map f longer)
+      same f k h = map_grow f [] st.basis (b ∷ []) k (map_inside (λ (b : BasisRow (Row K)). b.lead) st.basis k h)
 
-      at_last : {Y : Type 0} (f : Monic (Row K) → Y) (d : Y) → get_or (map f longer) (length st.basis) d ≡ f b
+      at_last : {Y : Type 0} (f : BasisRow (Row K) → Y) (d : Y) → get_or (map f longer) (length st.basis) d ≡ f b
       at_last f d = ap (λ ys. get_or ys (length st.basis) d) (map-append f st.basis (b ∷ [])) ∙ get_or_push (map f st.basis) (f b) d (length st.basis) (length-map st.basis f)
 
       -- the last step takes away what is left, of rows as of cofactor rows
-      leaves : (f : Monic (Row K) → Row K) (r : Row K) → after K s (map f st.basis) w.steps (s_row K s leads (map f st.basis) i j) ≡ r → row_scale K s (constant K number) (f b) ≡ r
-          → after K s (map f longer) (w.steps ++ last ∷ []) (s_row K s (leads_of longer) (map f longer) i j) ≡ zero_row K (length r)
+      leaves : (f : BasisRow (Row K) → Row K) (r : Row K) → remainder_after K s (map f st.basis) w.steps (s_row K s leads (map f st.basis) i j) ≡ r → row_scale K s (constant K number) (f b) ≡ r
+          → remainder_after K s (map f longer) (w.steps ++ last ∷ []) (s_row K s (leads_of longer) (map f longer) i j) ≡ zero_row K (length r)
       leaves f r e g =
-          after-push K s (map f longer) w.steps last _
+          remainder_after-push K s (map f longer) w.steps last _
           ∙ (λ k. row_minus K (before k) (row_scale K s (constant K number) (at_last f [] k)))
           ∙ ap (row_minus K r) g ∙ row_minus_self K r
         where
-          before : after K s (map f longer) w.steps (s_row K s (leads_of longer) (map f longer) i j) ≡ r
+          before : remainder_after K s (map f longer) w.steps (s_row K s (leads_of longer) (map f longer) i j) ≡ r
           before = left_same K s (length leads) (map f st.basis) (map f longer) leads (leads_of longer) (same f) same_leads i j w.steps
               (inside_of (λ b. b.lead) i first_inside) (inside_of (λ b. b.lead) j second_inside) within ∙ e
 
       longer_leads : length leads ≤ length (leads_of longer)
-      longer_leads = map_longer (λ (b : Monic (Row K)). b.lead) st.basis (b ∷ [])
+      longer_leads = map_longer (λ (b : BasisRow (Row K)). b.lead) st.basis (b ∷ [])
 
-      pair_is : pair_term (leads_of longer) i j ≡ pair_term leads i j
+      pair_is : lcm_of_leads (leads_of longer) i j ≡ lcm_of_leads leads i j
       pair_is = pair_same K s leads (leads_of longer) same_leads longer_leads i j (inside_of (λ b. b.lead) i first_inside) (inside_of (λ b. b.lead) j second_inside)
 
-      last_low : IsBelowStep K o (leads_of longer) (pair_term leads i j) last
+      last_low : IsBelowStep K o (leads_of longer) (lcm_of_leads leads i j) last
       last_low = record {
-        within = let e = length-map longer (λ (b : Monic (Row K)). b.lead) in let l = length-append st.basis (b ∷ []) in omega arith;
-        low = ap (λ (u : Term). term_cmp o (shift unit u) (pair_term leads i j)) (at_last (λ (b : Monic (Row K)). b.lead) origin) ∙ ap (λ (u : Term). term_cmp o u (pair_term leads i j)) (shift-unit t)
+        within = let e = length-map longer (λ (b : BasisRow (Row K)). b.lead) in let l = length-append st.basis (b ∷ []) in omega arith;
+        low = ap (λ (u : Term). term_cmp o (shift unit u) (lcm_of_leads leads i j)) (at_last (λ (b : BasisRow (Row K)). b.lead) origin) ∙ ap (λ (u : Term). term_cmp o u (lcm_of_leads leads i j)) (shift-unit t)
             ∙ p.below t (row_lead-Some K o w.row t something).apart;
       }
 
       treated : IsTreated K s o n (basis_rows longer) (leads_of longer) i j (w.steps ++ last ∷ [])
       treated = record {
         low = subst (λ t. AllByRecursion (IsBelowStep K o (leads_of longer) t) (w.steps ++ last ∷ [])) (sym pair_is)
-            (All-push (IsBelowStep K o (leads_of longer) (pair_term leads i j)) w.steps last (below_same K s leads (leads_of longer) same_leads longer_leads o (pair_term leads i j) w.steps p.low) last_low);
+            (All-push (IsBelowStep K o (leads_of longer) (lcm_of_leads leads i j)) w.steps last (below_same K s leads (leads_of longer) same_leads longer_leads o (lcm_of_leads leads i j) w.steps p.low) last_low);
         nothing = leaves (λ b. b.row) w.row p.row (monic_row K inverses s lawful o w.row w.cofactor t something) ∙ ap (zero_row K) long;
       }
 

@@ -1,18 +1,18 @@
 -- What a chooser answers, and the choices that it has given, run by run; the present run is the last.
 --     first_of, second_of       the pair of a choice
 --     chosen_pairs              the pairs of some choices, in order
---     treats, treats_in         how many pairs some choices, and some runs, treat
+--     treated_pair_count, treated_pair_count_in  how many pairs some choices, and some runs, treat
 --     present, with_choice      the choices of the present run; one more of them (Choices of ore_course)
 --     next_kept                 of the kept choices the one whose turn it is (there too)
 --     given_after               the runs after an answer
---     BeginsWith                a list begins with another (Shown)
 --     Settings                  what no call of a chooser changes: its budget, whether it replays, and what it keeps
 --     IsPrefixOfKept            the choices given are some of the first that are kept, run by run
---     IsAfforded, AreAfforded   the budget allows a choice; it allowed all that were given
---     IsAnswer                  what is known where an answer is given
+--     IsWithinBudget, AreWithinBudget  the budget allows a choice; it allowed all that were given
+--     IsChooserAnswer           what is known where an answer is given
 use Rattle.std.specs.Prelude.{◌≡◌, ℕ, ◌<◌, ◌≤◌, Bool, true, false, List, [], map, get_or, IfSome}
 use Rattle.std.specs.declared.result.Result.{Result}
 use Rattle.std.specs.declared.result.Result.TheVariants.{Ok, Err}
+use Rattle.ore_algebra.specs.Lists.{BeginsWith}
 unfoldable pub use Rattle.ore_course.specs.Choices.{present, with_choice}
 pub use Rattle.ore_course.specs.Choices.{next_kept}
 use Rattle.ore_course.specs.Choices as course
@@ -22,7 +22,6 @@ use Rattle.ore_rows.specs.declared.choices.Choice.{Choice}
 use Rattle.ore_rows.specs.declared.choices.Choice.TheVariants.{Treat, Skip}
 use Rattle.ore_pairs.specs.PairRule.{is_lawful, AreAllListed, HasUnlisted}
 use Rattle.ore_pairs.specs.Runner.{treats_pair}
-pub use Rattle.ore_groebner.specs.Shown.{BeginsWith}
 use Rattle.ore_groebner.specs.declared.chooser.Next.{Next}
 use Rattle.ore_groebner.specs.declared.chooser.Next.TheVariants.{Choose, Complete, Spent, NoLawful}
 
@@ -41,12 +40,12 @@ abbrev pub chosen_pairs : List Choice → List (ℕ × ℕ)
 chosen_pairs cs = map (λ c. (first_of c, second_of c)) cs
 
 -- how many of the choices treat a pair
-abbrev pub treats : List Choice → ℕ
-treats cs = course.treats treats_pair cs
+abbrev pub treated_pair_count : List Choice → ℕ
+treated_pair_count cs = course.treatment_count treats_pair cs
 
 -- how many of the choices of all runs treat a pair
-abbrev pub treats_in : List (List Choice) → ℕ
-treats_in runs = course.treats_in treats_pair runs
+abbrev pub treated_pair_count_in : List (List Choice) → ℕ
+treated_pair_count_in runs = course.treatment_count_in treats_pair runs
 
 -- a choice stands at the end of the present run, and any other answer changes nothing
 abbrev pub given_after : List (List Choice) → Result Next NoMemory → List (List Choice)
@@ -70,17 +69,17 @@ pub record IsPrefixOfKept (settings : Settings) (given : List (List Choice)) : T
 -- ---- answers
 
 -- a chooser with this budget treats no more pairs in all its runs
-abbrev pub IsAfforded : List (List Choice) → ℕ → Choice → Type 0
-IsAfforded given budget (Treat i j) = treats_in given < budget
-IsAfforded given budget (Skip i j via) = Unit {0}
+abbrev pub IsWithinBudget : List (List Choice) → ℕ → Choice → Type 0
+IsWithinBudget given budget (Treat i j) = treated_pair_count_in given < budget
+IsWithinBudget given budget (Skip i j via) = Unit {0}
 
 -- no more pairs are treated than the budget has
-abbrev pub AreAfforded : List (List Choice) → ℕ → Type 0
-AreAfforded given budget = treats_in given ≤ budget
+abbrev pub AreWithinBudget : List (List Choice) → ℕ → Type 0
+AreWithinBudget given budget = treated_pair_count_in given ≤ budget
 
 -- a lawful choice that the budget allows; nothing is left to choose; the budget is spent; the next kept choice is absent or not lawful
-abbrev pub IsAnswer : List Term → List (ℕ × ℕ) → (given : List (List Choice)) → Settings → Next → Type 0
-IsAnswer leads listed given settings (Choose c) = (is_lawful leads listed c ≡ true) × IsAfforded given settings.budget c
-IsAnswer leads listed given settings Complete = AreAllListed leads listed
-IsAnswer leads listed given settings Spent = HasUnlisted leads listed × (settings.replays ≡ false) × (treats_in given ≡ settings.budget)
-IsAnswer leads listed given settings NoLawful = HasUnlisted leads listed × (settings.replays ≡ true) × IfSome (next_kept settings.kept given) (λ c. is_lawful leads listed c ≡ false)
+abbrev pub IsChooserAnswer : List Term → List (ℕ × ℕ) → (given : List (List Choice)) → Settings → Next → Type 0
+IsChooserAnswer leads listed given settings (Choose c) = (is_lawful leads listed c ≡ true) × IsWithinBudget given settings.budget c
+IsChooserAnswer leads listed given settings Complete = AreAllListed leads listed
+IsChooserAnswer leads listed given settings Spent = HasUnlisted leads listed × (settings.replays ≡ false) × (treated_pair_count_in given ≡ settings.budget)
+IsChooserAnswer leads listed given settings NoLawful = HasUnlisted leads listed × (settings.replays ≡ true) × IfSome (next_kept settings.kept given) (λ c. is_lawful leads listed c ≡ false)

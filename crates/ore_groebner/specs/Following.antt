@@ -3,9 +3,9 @@
 --     given_with              the runs with one more choice, or as they were
 --     IsNext                  what is known where a choice comes next, or none is left
 --     IsNextAllowed           a rule allows the choice
---     IsRefusal               why no choice comes, though a pair is left
+--     IsChooserRefusal        why no choice comes, though a pair is left
 --     IsRefusalAllowed        a rule allows it
---     step_of                 what a choice makes of a state
+--     state_after_choice      what a choice makes of a state
 --     IsFollowed              what a choice makes of the progress
 --     IsStopIn, IsStopOf      why following a choice halts
 --     IsLed                   some choices lead to the progress
@@ -16,20 +16,20 @@ use Rattle.std.specs.declared.result.Result.{Result}
 use Rattle.std.specs.declared.result.Result.TheVariants.{Ok, Err}
 use Rattle.ore_algebra.specs.Limits.{Cause, program}
 use Rattle.ore_algebra.specs.Limits as cause
-use Rattle.ore_rational.proofs.FractionLaws.{rationals, rational_inverses}
+use Rattle.ore_rational.specs.Field.{rationals, rational_inverses}
 use Rattle.ore_monomial.specs.Signature.{Signature}
 use Rattle.ore_monomial.specs.Term.{Term}
 use Rattle.ore_rows.specs.Arithmetic.{within}
 use Rattle.ore_pairs.specs.PairRule.{HaveSamePairs, is_lawful, AreAllListed}
-use Rattle.ore_pairs.specs.Run.{State, Refusal, Stopped}
+use Rattle.ore_pairs.specs.Run.{RunState, Refusal, Stopped}
 use Rattle.ore_pairs.specs.Run as run
 use Rattle.ore_rows.specs.Stored.{OperatorMatrix}
 use Rattle.ore_rows.specs.declared.choices.Choice.{Choice}
 use Rattle.ore_rows.specs.declared.choices.Choice.TheVariants as choice
-use Rattle.ore_groebner.specs.Choosing.{first_of, second_of, chosen_pairs, with_choice, Settings, IsAfforded, IsAnswer}
-use Rattle.ore_groebner.specs.Honest.{first_state, state_after, AreAllowed}
+use Rattle.ore_groebner.specs.Choosing.{first_of, second_of, chosen_pairs, with_choice, Settings, IsWithinBudget, IsChooserAnswer}
+use Rattle.ore_groebner.specs.Honest.{first_state, state_after, RuleAllowsEach}
 use Rattle.ore_groebner.specs.RunProgress.{state_of, choices_of, IsProgressOf, HasShapeOf}
-use Rattle.ore_groebner.specs.Shown.{Shown}
+use Rattle.ore_groebner.specs.BasisLeads.{BasisLeads}
 use Rattle.ore_groebner.specs.declared.chooser.Next.TheVariants as next
 use Rattle.ore_groebner.specs.declared.outcome.Halt.{Halt}
 use Rattle.ore_groebner.specs.declared.outcome.Halt.TheVariants as halt
@@ -51,22 +51,22 @@ given_with runs (Some c) = with_choice runs c
 -- a lawful choice that the budget allows, or nothing is left
 abbrev pub IsNext : List Term → List (ℕ × ℕ) → List (List Choice) → ℕ → Option Choice → Type 0
 IsNext leads listed given budget None = AreAllListed leads listed
-IsNext leads listed given budget (Some c) = (is_lawful leads listed c ≡ true) × IsAfforded given budget c
+IsNext leads listed given budget (Some c) = (is_lawful leads listed c ≡ true) × IsWithinBudget given budget c
 
-abbrev pub IsNextAllowed : (Shown → List (ℕ × ℕ) → Choice → Bool) → Shown → List (ℕ × ℕ) → Option Choice → Type 0
+abbrev pub IsNextAllowed : (BasisLeads → List (ℕ × ℕ) → Choice → Bool) → BasisLeads → List (ℕ × ℕ) → Option Choice → Type 0
 IsNextAllowed allows shown ps None = Unit {0}
 IsNextAllowed allows shown ps (Some c) = allows shown ps c ≡ true
 
 -- the budget is spent, or the next kept choice is absent or not lawful, or memory ran out
-abbrev pub IsRefusal : List Term → List (ℕ × ℕ) → List (List Choice) → Settings → Halt → Type 0
-IsRefusal leads listed given settings halt.Spent = IsAnswer leads listed given settings next.Spent
-IsRefusal leads listed given settings halt.NoLawful = IsAnswer leads listed given settings next.NoLawful
-IsRefusal leads listed given settings halt.Memory = Unit {0}
-IsRefusal leads listed given settings (halt.Overflow place) = ⊥
-IsRefusal leads listed given settings (halt.Degree place) = ⊥
+abbrev pub IsChooserRefusal : List Term → List (ℕ × ℕ) → List (List Choice) → Settings → Halt → Type 0
+IsChooserRefusal leads listed given settings halt.Spent = IsChooserAnswer leads listed given settings next.Spent
+IsChooserRefusal leads listed given settings halt.NoLawful = IsChooserAnswer leads listed given settings next.NoLawful
+IsChooserRefusal leads listed given settings halt.Memory = Unit {0}
+IsChooserRefusal leads listed given settings (halt.Overflow place) = ⊥
+IsChooserRefusal leads listed given settings (halt.Degree place) = ⊥
 
 -- the budget is spent only where a rule allows it
-abbrev pub IsRefusalAllowed : (Shown → List (ℕ × ℕ) → Bool) → Shown → List (ℕ × ℕ) → Halt → Type 0
+abbrev pub IsRefusalAllowed : (BasisLeads → List (ℕ × ℕ) → Bool) → BasisLeads → List (ℕ × ℕ) → Halt → Type 0
 IsRefusalAllowed allows_spent shown ps halt.Spent = allows_spent shown ps ≡ true
 IsRefusalAllowed allows_spent shown ps halt.NoLawful = Unit {0}
 IsRefusalAllowed allows_spent shown ps halt.Memory = Unit {0}
@@ -75,22 +75,22 @@ IsRefusalAllowed allows_spent shown ps (halt.Degree place) = Unit {0}
 
 -- ---- a choice that is followed
 
-abbrev pub step_of : Signature → State rationals → Choice → Result (State rationals) Refusal
-step_of s st c = run.step rationals rational_inverses s.order (within program s) st c
+abbrev pub state_after_choice : Signature → RunState rationals → Choice → Result (RunState rationals) Refusal
+state_after_choice s st c = run.step rationals rational_inverses s.order (within program s) st c
 
 -- the state is the one that the choice makes, and what is kept fits it; one pair is added, in one more event
 pub record IsFollowed (s : Signature) (p : Progress) (c : Choice) (q : Progress) : Type 0 where
-  pub made : step_of s (state_of p) c ≡ Ok (state_of q)
+  pub made : state_after_choice s (state_of p) c ≡ Ok (state_of q)
   pub kept : IsProgressOf s q
   pub shape : HasShapeOf p c q
   pub listed : HaveSamePairs q.listed ((first_of c, second_of c) ∷ p.listed)
 
 -- the choice treats the pair of the place, which stops
-abbrev pub IsStopIn : Signature → State rationals → Choice → Cause → StopAt → Type 0
+abbrev pub IsStopIn : Signature → RunState rationals → Choice → Cause → StopAt → Type 0
 IsStopIn s st c k at.Forced = ⊥
-IsStopIn s st c k (at.Treat i j) = (c ≡ choice.Treat i j) × (step_of s st c ≡ Err (Stopped k))
+IsStopIn s st c k (at.Treat i j) = (c ≡ choice.Treat i j) × (state_after_choice s st c ≡ Err (Stopped k))
 
-abbrev pub IsStopOf : Signature → State rationals → Choice → Halt → Type 0
+abbrev pub IsStopOf : Signature → RunState rationals → Choice → Halt → Type 0
 IsStopOf s st c (halt.Overflow place) = IsStopIn s st c cause.Overflow place
 IsStopOf s st c (halt.Degree place) = IsStopIn s st c cause.Degree place
 IsStopOf s st c halt.Spent = ⊥
@@ -100,8 +100,8 @@ IsStopOf s st c halt.Memory = Unit {0}
 -- ---- some choices
 
 -- the choices lead from the first state of a run on a to that of the progress, and are allowed; what is kept fits them
-pub record IsLed (s : Signature) (a : OperatorMatrix) (allows : Shown → List (ℕ × ℕ) → Choice → Bool) (choices : List Choice) (p : Progress) : Type 0 where
-  pub start : State rationals
+pub record IsLed (s : Signature) (a : OperatorMatrix) (allows : BasisLeads → List (ℕ × ℕ) → Choice → Bool) (choices : List Choice) (p : Progress) : Type 0 where
+  pub start : RunState rationals
   pub begun : first_state s a ≡ Ok start
   pub led : state_after s a start choices ≡ Ok (state_of p)
   pub kept : IsProgressOf s p
@@ -110,4 +110,4 @@ pub record IsLed (s : Signature) (a : OperatorMatrix) (allows : Shown → List (
   pub first : p.first ≡ length start.basis
   pub cols : p.basis.cols ≡ a.cols
   pub width : p.basis.width ≡ length a.rows
-  pub allowed : AreAllowed s a allows choices
+  pub allowed : RuleAllowsEach s a allows choices

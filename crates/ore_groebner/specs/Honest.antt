@@ -1,5 +1,5 @@
 -- What a run answers, beside the definition of a run and of the states that choices lead to (ore_pairs).
---     IsHonest                a complete run
+--     IsHonestRun             a complete run
 --     IsStoppedAt             the first basis, or the last of some choices, stops
 --     IsAnswered              some choices lead to a state at which a chooser may so answer
 --     IsHalted                why a run stopped
@@ -10,17 +10,17 @@ use Rattle.std.specs.List.{All}
 use Rattle.std.specs.declared.result.Result.TheVariants.{Ok, Err}
 use Rattle.ore_algebra.specs.Limits.{Cause}
 use Rattle.ore_algebra.specs.Limits as cause
-use Rattle.ore_rational.proofs.FractionLaws.{rationals}
+use Rattle.ore_rational.specs.Field.{rationals}
 use Rattle.ore_monomial.specs.Signature.{Signature}
 use Rattle.ore_ring.specs.Belongs.{Belongs}
 use Rattle.ore_rows.specs.Stored.{OperatorMatrix, rows_of}
 use Rattle.ore_rows.specs.Reduction.{leads_of}
-use Rattle.ore_rows.specs.StoredBasis.{AllBelong, monics}
+use Rattle.ore_rows.specs.StoredBasis.{BasisBelongs, monics}
 use Rattle.ore_rows.specs.declared.choices.Choice.{Choice}
 use Rattle.ore_pairs.specs.PairList.{pairs_of}
-use Rattle.ore_pairs.specs.Run.{State, IsComplete, from_rows}
-pub use Rattle.ore_pairs.specs.Reached.{first_state, state_after, IsReached, IsStopped, shown_in, IsAllowedAt, AreAllowed, MayBeSpent}
-use Rattle.ore_groebner.specs.Choosing.{present, Settings, IsAnswer}
+use Rattle.ore_pairs.specs.Run.{RunState, IsComplete, from_rows}
+pub use Rattle.ore_pairs.specs.Reached.{first_state, state_after, IsReached, TreatmentStops, state_leads, IsAllowedAt, RuleAllowsEach, MayBeSpent}
+use Rattle.ore_groebner.specs.Choosing.{present, Settings, IsChooserAnswer}
 use Rattle.ore_groebner.specs.RunProgress.{entries_from, new_rows, choices_of}
 use Rattle.ore_groebner.specs.declared.chooser.Next.{Next}
 use Rattle.ore_groebner.specs.declared.chooser.Next.TheVariants as next
@@ -33,9 +33,9 @@ use Rattle.ore_groebner.specs.declared.outcome.StopAt.TheVariants as at
 module _ (s : Signature) (a : OperatorMatrix) where
   -- the choices lead to a complete state, whose parts are those of the answer; its events follow the choices in order, and
   -- some of them made the basis rows behind the first
-  pub record IsHonest (choices : List Choice) (f : Finished) : Type 0 where
-    pub start : State rationals
-    pub last : State rationals
+  pub record IsHonestRun (choices : List Choice) (f : Finished) : Type 0 where
+    pub start : RunState rationals
+    pub last : RunState rationals
     pub begun : first_state s a ≡ Ok start
     pub led : state_after s a start choices ≡ Ok last
     pub complete : IsComplete rationals last
@@ -50,20 +50,20 @@ module _ (s : Signature) (a : OperatorMatrix) where
     pub syzygy_cols : f.syzygies.cols ≡ length a.rows
     pub cols : f.basis.cols ≡ a.cols
     pub width : f.basis.width ≡ length a.rows
-    pub basis_of : AllBelong s f.basis.items
+    pub basis_of : BasisBelongs s f.basis.items
     pub from_of : All (All (Belongs s)) f.from.rows
     pub syzygies_of : All (All (Belongs s)) f.syzygies.rows
 
   -- in making the first basis, or inside the treatment of the pair of the last choice
   abbrev pub IsStoppedAt : List Choice → Cause → StopAt → Type 0
   IsStoppedAt choices c at.Forced = first_state s a ≡ Err c
-  IsStoppedAt choices c (at.Treat i j) = IsStopped s a choices i j c
+  IsStoppedAt choices c (at.Treat i j) = TreatmentStops s a choices i j c
 
   -- the choices lead to a state at which the chooser may so answer
   pub record IsAnswered (given : List (List Choice)) (settings : Settings) (answer : Next) : Type 0 where
-    pub last : State rationals
+    pub last : RunState rationals
     pub reached : IsReached s a (present given) last
-    pub answered : IsAnswer (leads_of last.basis) (pairs_of last.listed) given settings answer
+    pub answered : IsChooserAnswer (leads_of last.basis) (pairs_of last.listed) given settings answer
 
   abbrev pub IsHalted : List (List Choice) → Settings → Halt → Type 0
   IsHalted given settings (halt.Overflow where_at) = IsStoppedAt (present given) cause.Overflow where_at

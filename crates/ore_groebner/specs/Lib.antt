@@ -3,7 +3,7 @@ pub mod BlockLaws
 pub mod Choosing
 pub mod RunProgress
 pub mod Honest
-pub mod Shown
+pub mod BasisLeads
 pub mod Rules
 pub mod Halting
 pub mod Following

@@ -15,20 +15,20 @@ use Rattle.std.specs.List.{All}
 use Rattle.std.specs.declared.result.Result.{Result}
 use Rattle.std.specs.declared.result.Result.TheVariants.{Ok}
 use Rattle.ore_algebra.specs.Limits.{Cause, ◌>>=◌}
-use Rattle.ore_rational.proofs.FractionLaws.{rationals}
+use Rattle.ore_rational.specs.Field.{rationals}
 use Rattle.ore_monomial.specs.Monomial.{unit}
 use Rattle.ore_monomial.specs.Signature.{Signature}
 use Rattle.ore_monomial.specs.Term.{Term}
 use Rattle.ore_ring.specs.Belongs.{Belongs}
 use Rattle.ore_ring.specs.Ordered.{Ordered}
-use Rattle.ore_rows.specs.Reduction.{Monic}
+use Rattle.ore_rows.specs.Reduction.{BasisRow}
 use Rattle.ore_rows.specs.Rows.{Row}
-use Rattle.ore_pairs.specs.PairList.{Entry, pairs_of}
+use Rattle.ore_pairs.specs.PairList.{DealtPair, pairs_of}
 use Rattle.ore_pairs.specs.PairList as pair
 use Rattle.ore_pairs.specs.PairRule.{HaveSamePairs}
-use Rattle.ore_pairs.specs.Run.{State}
+use Rattle.ore_pairs.specs.Run.{RunState}
 use Rattle.ore_rows.specs.Stored.{sums_of}
-use Rattle.ore_rows.specs.StoredBasis.{AllBelong, monics}
+use Rattle.ore_rows.specs.StoredBasis.{BasisBelongs, monics}
 use Rattle.ore_rows.specs.declared.choices.Choice.{Choice}
 use Rattle.ore_rows.specs.declared.choices.Choice.TheVariants.{Treat, Skip}
 use Rattle.ore_groebner.specs.declared.outcome.Event.{Event}
@@ -36,15 +36,15 @@ use Rattle.ore_groebner.specs.declared.outcome.Event.TheVariants.{Treated, Skipp
 use Rattle.ore_groebner.specs.declared.outcome.Outcome.TheVariants.{Zero, NewRow}
 use Rattle.ore_groebner.specs.declared.progress.Progress.{Progress}
 
-abbrev pub monic_with : Term → List Ordered × List Ordered → Monic (Row rationals)
+abbrev pub monic_with : Term → List Ordered × List Ordered → BasisRow (Row rationals)
 monic_with t p = record { row = sums_of p.0; cofactor = sums_of p.1; lead = t }
 
 -- some basis rows, and one more that is made
-abbrev pub basis_with : List (Monic (Row rationals)) → Result (Monic (Row rationals)) Cause → Result (List (Monic (Row rationals))) Cause
+abbrev pub basis_with : List (BasisRow (Row rationals)) → Result (BasisRow (Row rationals)) Cause → Result (List (BasisRow (Row rationals))) Cause
 basis_with basis made = made >>= λ b. Ok (basis ++ b ∷ [])
 
 -- the last step of a treated pair that made a row has its lead coefficient and its place
-unfoldable pub entries_from : ℕ → List Event → List (Entry rationals)
+unfoldable pub entries_from : ℕ → List Event → List (DealtPair rationals)
 entries_from n [] = []
 entries_from n (Treated i j steps Zero ∷ es) = pair.Pair i j steps ∷ entries_from n es
 entries_from n (Treated i j steps (NewRow k) ∷ es) = pair.Pair i j (steps ++ record { index = n; monomial = unit; number = k } ∷ []) ∷ entries_from (suc n) es
@@ -56,11 +56,11 @@ new_rows (Treated i j steps Zero ∷ es) = new_rows es
 new_rows (Treated i j steps (NewRow k) ∷ es) = suc (new_rows es)
 new_rows (Skipped i j via ∷ es) = new_rows es
 
-abbrev pub state_of : Progress → State rationals
+abbrev pub state_of : Progress → RunState rationals
 state_of p = record { basis = monics p.basis; listed = entries_from p.first p.events.items; syzygies = map sums_of p.syzygies.items; origins = p.origins.items }
 
 pub record IsProgressOf (s : Signature) (p : Progress) : Type 0 where
-  pub belongs : AllBelong s p.basis.items
+  pub belongs : BasisBelongs s p.basis.items
   pub listed : HaveSamePairs p.listed (pairs_of (entries_from p.first p.events.items))
   pub counted : length p.basis.items ≡ p.first + new_rows p.events.items
   pub wide : All (λ r. length r ≡ p.basis.width) p.syzygies.items
@@ -83,7 +83,7 @@ pub record HasShapeOf (p : Progress) (c : Choice) (q : Progress) : Type 0 where
 -- ---- the first basis
 
 -- one more basis row that is made
-abbrev pub with_basis_row : State rationals → Result (Monic (Row rationals)) Cause → Result (State rationals) Cause
+abbrev pub with_basis_row : RunState rationals → Result (BasisRow (Row rationals)) Cause → Result (RunState rationals) Cause
 with_basis_row st made = made >>= λ b. Ok (record st { basis = st.basis ++ b ∷ [] })
 
 -- nothing was done with any pair

@@ -4,8 +4,8 @@ ghost use Rattle.std.specs.Prelude.{◌≡◌, ◌≢◌, List, [], ◌∷◌, �
 ghost use Rattle.ore_rows.specs.declared.choices.Choice as rows;
 ghost use Rattle.ore_rows.specs.Reduction.{leads_of};
 ghost use Rattle.ore_pairs.specs.PairRule.{HaveSamePairs};
-ghost use Rattle.ore_groebner.specs.Choosing.{present, chosen_pairs, given_after, Settings, IsAnswer, IsPrefixOfKept};
-ghost use Rattle.ore_groebner.specs.Shown.{Shown, shown_of, none_shown, IsGrownFrom};
+ghost use Rattle.ore_groebner.specs.Choosing.{present, chosen_pairs, given_after, Settings, IsChooserAnswer, IsPrefixOfKept};
+ghost use Rattle.ore_groebner.specs.BasisLeads.{BasisLeads, basis_leads, no_leads, BeginsWithLeads};
 ghost use Rattle.ore_groebner.specs.Rules.{IsAllowed};
 
 use ore_monomial::NoMemory;
@@ -34,7 +34,7 @@ pub trait Chooser: Rule {
     ghost settings: { Self → Settings };
 
     /// The order of monomials and the leads that it was shown last in the present run.
-    ghost shown: { Self → Shown };
+    ghost shown: { Self → BasisLeads };
 
     /// A new run begins.
     ///
@@ -42,7 +42,7 @@ pub trait Chooser: Rule {
     /// Want of memory. Then no run has begun.
     fn start_run(&mut self) -> Result<(), NoMemory>
         ensures begun { IfOk result (λ _. given self.new ≡ given self.old ++ [] ∷ []) }
-        ensures none_shown { IfOk result (λ _. shown self.new ≡ none_shown) }
+        ensures no_leads { IfOk result (λ _. shown self.new ≡ no_leads) }
         ensures refused { IfErr result (λ _. given self.new ≡ given self.old) }
         ensures settings { settings self.new ≡ settings self.old };
 
@@ -53,11 +53,11 @@ pub trait Chooser: Rule {
     fn next(&mut self, basis: &Basis, listed: &Listed) -> Result<Next, NoMemory>
         requires begun { given self.old ≢ [] }
         requires lists { HaveSamePairs listed.now (chosen_pairs (present (given self.old))) }
-        requires grown { IsGrownFrom (shown self.old) basis.now }
-        ensures answer { IfOk result (IsAnswer (leads_of basis.now.items) listed.now (given self.old) (settings self.old)) }
-        ensures allowed { IfOk result (IsAllowed Self.allows Self.allows_spent (shown_of basis.now) (chosen_pairs (present (given self.old)))) }
+        requires grown { BeginsWithLeads (shown self.old) basis.now }
+        ensures answer { IfOk result (IsChooserAnswer (leads_of basis.now.items) listed.now (given self.old) (settings self.old)) }
+        ensures allowed { IfOk result (IsAllowed Self.allows Self.allows_spent (basis_leads basis.now) (chosen_pairs (present (given self.old)))) }
         ensures given { given self.new ≡ given_after (given self.old) result }
-        ensures shown { IfOk result (λ _. shown self.new ≡ shown_of basis.now) }
+        ensures shown { IfOk result (λ _. shown self.new ≡ basis_leads basis.now) }
         ensures settings { settings self.new ≡ settings self.old };
 
     /// One that doesn't replay keeps no choices; one that does has given, in each run, a front of those that it keeps.

@@ -3,9 +3,9 @@
 ghost use Rattle.std.specs.Prelude.{◌≡◌, ◌≤◌, ◌<◌, ◌+◌, ◌^◌, ◌∷◌, List, cond, length, IfOk};
 ghost use Rattle.std.specs.List.{All};
 ghost use Rattle.ore_algebra.specs.Free.{empty_sum};
-ghost use Rattle.ore_rational.proofs.FractionLaws.{rationals};
+ghost use Rattle.ore_rational.specs.Field.{rationals};
 ghost use Rattle.ore_monomial.specs.Monomial.{plain_cmp};
-ghost use Rattle.ore_ring.specs.Belongs.{Belongs};
+ghost use Rattle.ore_ring.specs.Belongs.{AllBelong, Belongs};
 ghost use Rattle.ore_rows.specs.Rows as rows;
 ghost use Rattle.ore_pairs.specs.Run as run;
 ghost use Rattle.ore_rows.specs.Stored.{rows_of, sums_of};
@@ -21,11 +21,11 @@ use std::alloc::Global;
 /// # Errors
 /// Want of memory.
 pub fn from_matrix(alloc: Global, sig: &Signature, a: &Matrix, n: usize) -> Result<Matrix, NoMemory>
-    requires of { All (All (Belongs sig.now)) a.now.rows }
+    requires of { All (AllBelong sig.now) a.now.rows }
     requires few { n < 2 ^ 63 }
     ensures value { IfOk result (λ m. rows_of m ≡ run.from_rows rationals sig.now.order n 0 (rows_of a.now)) }
     ensures cols { IfOk result (λ m. m.cols ≡ n) }
-    ensures of { IfOk result (λ m. All (All (Belongs sig.now)) m.rows) }
+    ensures of { IfOk result (λ m. All (AllBelong sig.now) m.rows) }
 {
     let mut out = Vec::new(alloc);
     let mut next = 0;
@@ -46,12 +46,12 @@ fn from_row(
     n: usize,
     next: usize,
 ) -> Result<(Row, usize), NoMemory>
-    requires of { All (Belongs sig.now) row.now }
+    requires of { AllBelong sig.now row.now }
     requires few { next < 2 ^ 63 }
     ensures value { IfOk result (λ p. (rest : List (rows.Row rationals)) → run.from_rows rationals sig.now.order n next (sums_of row.now ∷ rest) ≡ sums_of p.0 ∷ run.from_rows rationals sig.now.order n p.1 rest) }
     ensures after { IfOk result (λ p. p.1 ≤ next + 1) }
     ensures width { IfOk result (λ p. length p.0 ≡ n) }
-    ensures of { IfOk result (λ p. All (Belongs sig.now) p.0) }
+    ensures of { IfOk result (λ p. AllBelong sig.now p.0) }
 {
     match row_lead(sig, row) {
         None => Ok((entry_row(alloc, sig, n, n, Rational::zero())?, next)),
@@ -72,7 +72,7 @@ pub fn entry_row(
 ) -> Result<Row, NoMemory>
     ensures value { IfOk result (λ r. sums_of r ≡ run.entry_row rationals n i (run.constant rationals coef)) }
     ensures width { IfOk result (λ r. length r ≡ n) }
-    ensures of { IfOk result (All (Belongs sig.now)) }
+    ensures of { IfOk result (AllBelong sig.now) }
 {
     let mut out = Vec::with_capacity(alloc, n)?;
     for k in 0..n {

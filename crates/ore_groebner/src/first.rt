@@ -3,10 +3,10 @@
 ghost use Rattle.std.specs.Prelude.{◌≡◌, ◌≤◌, ◌<◌, ◌+◌, ◌++◌, ◌∷◌, [], length, map, IfOk, IfErr};
 ghost use Rattle.std.specs.List.{All};
 ghost use Rattle.ore_algebra.specs.Limits.{program};
-ghost use Rattle.ore_rational.proofs.FractionLaws.{rationals, rational_inverses};
+ghost use Rattle.ore_rational.specs.Field.{rationals, rational_inverses};
 ghost use Rattle.ore_monomial.specs.Gives.{Gives};
 ghost use Rattle.ore_monomial.specs.Term.{Term};
-ghost use Rattle.ore_ring.specs.Belongs.{Belongs};
+ghost use Rattle.ore_ring.specs.Belongs.{AllBelong};
 ghost use Rattle.ore_rows.specs.Arithmetic.{within};
 ghost use Rattle.ore_rows.specs.RowLead.{IsRowLead};
 ghost use Rattle.ore_rows.specs.Rows as rows;
@@ -30,7 +30,7 @@ use std::alloc::Global;
 /// # Errors
 /// The stop of the first product that stops, and want of memory.
 pub fn begin<R: OreRing>(ring: &R, alloc: Global, a: &Matrix) -> Result<Progress, RingStop>
-    requires { All (All (Belongs (R.sig ring.now))) a.now.rows }
+    requires { All (AllBelong (R.sig ring.now)) a.now.rows }
     ensures gives { Gives state_of result (run.begin rationals rational_inverses (R.sig ring.now).order (within program (R.sig ring.now)) (rows_of a.now)) }
     ensures kept { IfOk result (IsProgressOf (R.sig ring.now)) }
     ensures begun { IfOk result IsBegun }
@@ -61,7 +61,7 @@ fn begin_row<R: OreRing>(
     k: usize,
 ) -> Result<Progress, RingStop>
     requires row_width { length row.now ≡ progress.basis.cols }
-    requires row_of { All (Belongs (R.sig ring.now)) row.now }
+    requires row_of { AllBelong (R.sig ring.now) row.now }
     requires kept { IsProgressOf (R.sig ring.now) progress }
     requires begun { IsBegun progress }
     ensures gives { Gives state_of result (run.begin_row rationals rational_inverses (R.sig ring.now).order (within program (R.sig ring.now)) progress.basis.width k (sums_of row.now) (state_of progress)) }
@@ -85,7 +85,7 @@ fn begin_zero(
     k: usize,
 ) -> Result<Progress, NoMemory>
     requires width { length unit ≡ progress.basis.width }
-    requires of { All (Belongs sig.now) unit }
+    requires of { AllBelong sig.now unit }
     requires kept { IsProgressOf sig.now progress }
     requires begun { IsBegun progress }
     ensures state { IfOk result (λ p. state_of p ≡ record (state_of progress) { syzygies = (state_of progress).syzygies ++ sums_of unit ∷ []; origins = (state_of progress).origins ++ origins.ZeroRow k ∷ [] }) }
@@ -113,8 +113,8 @@ fn begin_monic<R: OreRing>(
     requires lead { (t : Term) × IsRowLead rationals (R.sig ring.now).order (sums_of row.now) t coef }
     requires row_width { length row.now ≡ progress.basis.cols }
     requires unit_width { length unit.now ≡ progress.basis.width }
-    requires row_of { All (Belongs (R.sig ring.now)) row.now }
-    requires unit_of { All (Belongs (R.sig ring.now)) unit.now }
+    requires row_of { AllBelong (R.sig ring.now) row.now }
+    requires unit_of { AllBelong (R.sig ring.now) unit.now }
     requires kept { IsProgressOf (R.sig ring.now) progress }
     requires begun { IsBegun progress }
     ensures gives { (t : Term) → IsRowLead rationals (R.sig ring.now).order (sums_of row.now) t coef → Gives state_of result (with_basis_row (state_of progress) (run.monic_multiple rationals rational_inverses (within program (R.sig ring.now)) (sums_of row.now) (sums_of unit.now) t)) }

@@ -1,21 +1,20 @@
 //! Rows that are made monic.
 
 ghost use Rattle.std.specs.Prelude.{◌≡◌, ◌≢◌, ◌+◌, length, pos, IfOk, IfErr};
-ghost use Rattle.std.specs.List.{All};
 ghost use Rattle.ore_algebra.specs.Free.{single};
 ghost use Rattle.ore_algebra.specs.Limits.{program};
 ghost use Rattle.ore_rational.specs.Fraction.{whole, inverse as inverse_of};
-ghost use Rattle.ore_rational.proofs.FractionLaws.{rationals, rational_inverses};
+ghost use Rattle.ore_rational.specs.Field.{rationals, rational_inverses};
 ghost use Rattle.ore_monomial.specs.Gives.{Gives};
 ghost use Rattle.ore_monomial.specs.Monomial.{unit, plain_cmp};
 ghost use Rattle.ore_monomial.specs.Term.{Term};
 ghost use Rattle.ore_monomial.specs.declared.stop.RingStop.TheVariants.{Memory};
-ghost use Rattle.ore_ring.specs.Belongs.{Belongs};
+ghost use Rattle.ore_ring.specs.Belongs.{AllBelong, Belongs};
 ghost use Rattle.ore_rows.specs.Arithmetic.{within};
 ghost use Rattle.ore_rows.specs.RowLead.{IsRowLead};
 ghost use Rattle.ore_pairs.specs.Run as run;
 ghost use Rattle.ore_rows.specs.Stored.{sums_of};
-ghost use Rattle.ore_rows.specs.StoredBasis.{AllBelong, monics};
+ghost use Rattle.ore_rows.specs.StoredBasis.{BasisBelongs, monics};
 ghost use Rattle.ore_groebner.specs.RunProgress.{monic_with, basis_with};
 
 use ore_monomial::{Exps, RingStop};
@@ -57,12 +56,12 @@ fn monic_multiple<R: OreRing>(
     coef: Rational,
 ) -> Result<(Row, Row), RingStop>
     requires lead { (t : Term) × IsRowLead rationals (R.sig ring.now).order (sums_of row.now) t coef }
-    requires row_of { All (Belongs (R.sig ring.now)) row.now }
-    requires cofactor_of { All (Belongs (R.sig ring.now)) cofactor.now }
+    requires row_of { AllBelong (R.sig ring.now) row.now }
+    requires cofactor_of { AllBelong (R.sig ring.now) cofactor.now }
     ensures gives { (t : Term) → IsRowLead rationals (R.sig ring.now).order (sums_of row.now) t coef → Gives (monic_with t) result (run.monic_multiple rationals rational_inverses (within program (R.sig ring.now)) (sums_of row.now) (sums_of cofactor.now) t) }
     ensures monic { IfOk result (λ p. (t : Term) → IsRowLead rationals (R.sig ring.now).order (sums_of row.now) t coef → IsRowLead rationals (R.sig ring.now).order (sums_of p.0) t rationals.one) }
-    ensures row_of { IfOk result (λ p. All (Belongs (R.sig ring.now)) p.0) }
-    ensures cofactor_of { IfOk result (λ p. All (Belongs (R.sig ring.now)) p.1) }
+    ensures row_of { IfOk result (λ p. AllBelong (R.sig ring.now) p.0) }
+    ensures cofactor_of { IfOk result (λ p. AllBelong (R.sig ring.now) p.1) }
     ensures row_width { IfOk result (λ p. length p.0 ≡ length row.now) }
     ensures cofactor_width { IfOk result (λ p. length p.1 ≡ length cofactor.now) }
 {
@@ -87,11 +86,11 @@ pub fn push_monic<R: OreRing>(
     requires lead { (t : Term) × IsRowLead rationals (R.sig ring.now).order (sums_of row.now) t coef }
     requires row_width { length row.now ≡ basis.cols }
     requires cofactor_width { length cofactor.now ≡ basis.width }
-    requires row_of { All (Belongs (R.sig ring.now)) row.now }
-    requires cofactor_of { All (Belongs (R.sig ring.now)) cofactor.now }
-    requires basis_of { AllBelong (R.sig ring.now) basis.items }
+    requires row_of { AllBelong (R.sig ring.now) row.now }
+    requires cofactor_of { AllBelong (R.sig ring.now) cofactor.now }
+    requires basis_of { BasisBelongs (R.sig ring.now) basis.items }
     ensures gives { (t : Term) → IsRowLead rationals (R.sig ring.now).order (sums_of row.now) t coef → Gives monics result (basis_with (monics basis) (run.monic_multiple rationals rational_inverses (within program (R.sig ring.now)) (sums_of row.now) (sums_of cofactor.now) t)) }
-    ensures basis_of { IfOk result (λ b. AllBelong (R.sig ring.now) b.items) }
+    ensures basis_of { IfOk result (λ b. BasisBelongs (R.sig ring.now) b.items) }
     ensures cols { IfOk result (λ b. b.cols ≡ basis.cols) }
     ensures width { IfOk result (λ b. b.width ≡ basis.width) }
     ensures count { IfOk result (λ b. length b.items ≡ length basis.items + 1) }

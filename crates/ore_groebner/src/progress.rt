@@ -1,13 +1,12 @@
 //! What a run has made so far.
 
 ghost use Rattle.std.specs.Prelude.{◌≡◌, ◌<◌, ◌∷◌, ◌++◌, length, map, IfOk, IfErr};
-ghost use Rattle.std.specs.List.{All};
 ghost use Rattle.ore_algebra.specs.Limits.{program};
-ghost use Rattle.ore_rational.proofs.FractionLaws.{rationals, rational_inverses};
+ghost use Rattle.ore_rational.specs.Field.{rationals, rational_inverses};
 ghost use Rattle.ore_monomial.specs.Gives.{Gives};
 ghost use Rattle.ore_monomial.specs.Signature.{Signature as Lawful};
 ghost use Rattle.ore_monomial.specs.Term.{Term};
-ghost use Rattle.ore_ring.specs.Belongs.{Belongs};
+ghost use Rattle.ore_ring.specs.Belongs.{AllBelong};
 ghost use Rattle.ore_rows.specs.Arithmetic.{within};
 ghost use Rattle.ore_rows.specs.Reduction.{basis_lead};
 ghost use Rattle.ore_rows.specs.RowLead.{IsRowLead};
@@ -69,7 +68,7 @@ pub fn treat<R: OreRing>(
 {
     let (row, cofactor) = s_row(ring, alloc, &progress.basis, i, j)?;
     let work = reduce(ring, alloc, &progress.basis, row, cofactor)?;
-    settle(ring, alloc, progress, i, j, work)
+    add_remainder(ring, alloc, progress, i, j, work)
 }
 
 /// The pair of the rows at `i` and `j` is skipped by way of the row at `via`.
@@ -90,7 +89,7 @@ pub fn skip(progress: Progress, i: usize, j: usize, via: usize) -> Result<Progre
 }
 
 // What is left of the S-row of a pair is a basis row, or its cofactor row is a syzygy.
-fn settle<R: OreRing>(
+fn add_remainder<R: OreRing>(
     ring: &R,
     alloc: Global,
     progress: Progress,
@@ -102,21 +101,21 @@ fn settle<R: OreRing>(
     requires kept { IsProgressOf (R.sig ring.now) progress }
     requires row_width { length work.row ≡ progress.basis.cols }
     requires cofactor_width { length work.cofactor ≡ progress.basis.width }
-    requires row_of { All (Belongs (R.sig ring.now)) work.row }
-    requires cofactor_of { All (Belongs (R.sig ring.now)) work.cofactor }
-    ensures gives { Gives state_of result (run.settle rationals rational_inverses (R.sig ring.now).order (within program (R.sig ring.now)) (state_of progress) i j (work_of work)) }
+    requires row_of { AllBelong (R.sig ring.now) work.row }
+    requires cofactor_of { AllBelong (R.sig ring.now) work.cofactor }
+    ensures gives { Gives state_of result (run.with_remainder rationals rational_inverses (R.sig ring.now).order (within program (R.sig ring.now)) (state_of progress) i j (work_of work)) }
     ensures kept { IfOk result (IsProgressOf (R.sig ring.now)) }
     ensures shape { IfOk result (HasShapeOf progress (choices.Treat i j)) }
     ensures listed { IfOk result (λ p. HaveSamePairs p.listed ((i, j) ∷ progress.listed)) }
 {
     match row_lead(ring.signature(), &work.row) {
-        None => Ok(settle_zero(ring.signature(), progress, i, j, work)?),
-        Some(found) => settle_row(ring, alloc, progress, i, j, work, found.2),
+        None => Ok(add_syzygy(ring.signature(), progress, i, j, work)?),
+        Some(found) => add_row(ring, alloc, progress, i, j, work, found.2),
     }
 }
 
 // Nothing is left of the S-row: its cofactor row is a syzygy, unless it is zero.
-fn settle_zero(
+fn add_syzygy(
     sig: &Signature,
     progress: Progress,
     i: usize,
@@ -127,7 +126,7 @@ fn settle_zero(
     requires left { IsZeroRow work.row }
     requires kept { IsProgressOf sig.now progress }
     requires cofactor_width { length work.cofactor ≡ progress.basis.width }
-    requires cofactor_of { All (Belongs sig.now) work.cofactor }
+    requires cofactor_of { AllBelong sig.now work.cofactor }
     ensures state { IfOk result (λ p. state_of p ≡ run.with_syzygy rationals sig.now.order (state_of progress) i j (work_of work)) }
     ensures kept { IfOk result (IsProgressOf sig.now) }
     ensures shape { IfOk result (HasShapeOf progress (choices.Treat i j)) }
@@ -159,7 +158,7 @@ fn with_syzygy(
 ) -> Result<Progress, NoMemory>
     requires kept { IsProgressOf sig.now progress }
     requires width { length cofactor ≡ progress.basis.width }
-    requires of { All (Belongs sig.now) cofactor }
+    requires of { AllBelong sig.now cofactor }
     ensures syzygies { IfOk result (λ p. map sums_of p.syzygies.items ≡ map sums_of progress.syzygies.items ++ run.unless_zero rationals sig.now.order (sums_of cofactor)) }
     ensures kept { IfOk result (IsProgressOf sig.now) }
     ensures origins { IfOk result (λ p. p.origins.items ≡ progress.origins.items ++ map (λ _. origin) (run.unless_zero rationals sig.now.order (sums_of cofactor))) }
@@ -179,7 +178,7 @@ fn with_syzygy(
 }
 
 // What is left of the S-row, with the lead coefficient `coef`, is made monic and stands next in the basis.
-fn settle_row<R: OreRing>(
+fn add_row<R: OreRing>(
     ring: &R,
     alloc: Global,
     progress: Progress,
@@ -193,8 +192,8 @@ fn settle_row<R: OreRing>(
     requires lead { (t : Term) × IsRowLead rationals (R.sig ring.now).order (sums_of work.row) t coef }
     requires row_width { length work.row ≡ progress.basis.cols }
     requires cofactor_width { length work.cofactor ≡ progress.basis.width }
-    requires row_of { All (Belongs (R.sig ring.now)) work.row }
-    requires cofactor_of { All (Belongs (R.sig ring.now)) work.cofactor }
+    requires row_of { AllBelong (R.sig ring.now) work.row }
+    requires cofactor_of { AllBelong (R.sig ring.now) work.cofactor }
     ensures gives { (t : Term) → IsRowLead rationals (R.sig ring.now).order (sums_of work.row) t coef → Gives state_of result (run.with_row rationals rational_inverses (within program (R.sig ring.now)) (state_of progress) i j (work_of work) t) }
     ensures kept { IfOk result (IsProgressOf (R.sig ring.now)) }
     ensures shape { IfOk result (HasShapeOf progress (choices.Treat i j)) }

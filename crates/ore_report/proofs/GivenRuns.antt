@@ -1,26 +1,22 @@
 -- Choices, run by run.
---     treats_in-treated, treats_in-skipped    how many pairs are treated with one more choice that treats, or that skips
+--     treatment_count_in-treated, treatment_count_in-skipped    how many pairs are treated with one more choice that treats, or that skips
 --     with_choice-set                      the choice goes to the end of the last run
---     taken_more                the first items of a list, with one more
 --     but_last-take, without_last-set      the last choice leaves the last run
-use Rattle.std.proofs.Common.{◌≡◌, ◌≢◌, ◌+◌, ◌-◌, ℕ, zero, suc, List, [], ◌∷◌, ◌++◌, length, take, get_or, slice_get, refl, ap, ◌∙◌, arith, set}
-use Rattle.std.specs.declared.option.Option.TheVariants.{Some}
-use Rattle.std.proofs.Math.Seq.{take-suc}
-use Rattle.std.proofs.lemmas.Option.{slice_get_within, get_or_from_slice_get}
+use Rattle.std.proofs.Common.{◌≡◌, ◌≢◌, ◌+◌, ◌-◌, ℕ, zero, suc, List, [], ◌∷◌, ◌++◌, length, take, get_or, refl, ap, arith, set}
 use Rattle.ore_rows.specs.declared.choices.Choice.{Choice}
 use Rattle.ore_rows.specs.declared.choices.Choice.TheVariants.{Treat, Skip}
 use Rattle.ore_course.specs.Choices as course
 use Rattle.ore_course.specs.Choices.{but_last, without_last}
-use Rattle.ore_groebner.specs.Choosing.{treats_in, with_choice}
-use Rattle.ore_groebner.proofs.Given.{treats_in-with_choice}
+use Rattle.ore_groebner.specs.Choosing.{treated_pair_count_in, with_choice}
+use Rattle.ore_groebner.proofs.Given.{treatment_count_in-with_choice}
 
-pub treats_in-treated : (runs : List (List Choice)) (i j : ℕ) → runs ≢ [] → treats_in (with_choice runs (Treat i j)) ≡ suc (treats_in runs)
-unfolding course.treats course.cost
-treats_in-treated runs i j h = let e = treats_in-with_choice runs (Treat i j) h in omega (arith, e)
+pub treatment_count_in-treated : (runs : List (List Choice)) (i j : ℕ) → runs ≢ [] → treated_pair_count_in (with_choice runs (Treat i j)) ≡ suc (treated_pair_count_in runs)
+unfolding course.treatment_count course.cost
+treatment_count_in-treated runs i j h = let e = treatment_count_in-with_choice runs (Treat i j) h in omega (arith, e)
 
-pub treats_in-skipped : (runs : List (List Choice)) (i j via : ℕ) → runs ≢ [] → treats_in (with_choice runs (Skip i j via)) ≡ treats_in runs
-unfolding course.treats course.cost
-treats_in-skipped runs i j via h = let e = treats_in-with_choice runs (Skip i j via) h in omega (arith, e)
+pub treatment_count_in-skipped : (runs : List (List Choice)) (i j via : ℕ) → runs ≢ [] → treated_pair_count_in (with_choice runs (Skip i j via)) ≡ treated_pair_count_in runs
+unfolding course.treatment_count course.cost
+treatment_count_in-skipped runs i j via h = let e = treatment_count_in-with_choice runs (Skip i j via) h in omega (arith, e)
 
 pub with_choice-set : (runs : List (List Choice)) (c : Choice) (k : ℕ) → length runs ≡ suc k → with_choice runs c ≡ set runs k (get_or runs k [] ++ c ∷ [])
 unfolding with_choice
@@ -29,12 +25,6 @@ with_choice-set (r ∷ []) c zero h = refl
 with_choice-set (r ∷ []) c (suc k) h = absurd (omega arith)
 with_choice-set (r ∷ s ∷ runs) c zero h = absurd (omega arith)
 with_choice-set (r ∷ s ∷ runs) c (suc k) h = ap (λ rs. r ∷ rs) (with_choice-set (s ∷ runs) c k (omega arith))
-
-pub taken_more : {A : Type 0} (xs : List A) (k : ℕ) (x : A) → slice_get xs k ≡ Some x → take (k + 1) xs ≡ take k xs ++ x ∷ []
-taken_more xs k x e =
-    ap (λ n. take n xs) (let next : k + 1 ≡ suc k = omega arith in next)
-    ∙ take-suc xs k x (slice_get_within xs k x e)
-    ∙ ap (λ y. take k xs ++ y ∷ []) (get_or_from_slice_get xs k x x e)
 
 pub but_last-take : (cs : List Choice) (n : ℕ) → n ≡ length cs - 1 → take n cs ≡ but_last cs
 unfolding but_last

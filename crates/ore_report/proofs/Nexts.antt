@@ -10,7 +10,7 @@ use Rattle.std.proofs.Common.{◌≡◌, ℕ, ◌<◌, Bool, true, false, List, 
 use Rattle.std.specs.Prelude.{◌&&◌, ◌↔◌, not, nat_lt, IfSome, IsSome}
 use Rattle.std.specs.BTreeMap.{is_at}
 use Rattle.std.specs.BTreeSet.{BTreeSet, btree_set_len, contains, IsLowerBound}
-use Rattle.std.specs.Cmp.{alike_right}
+use Rattle.std.specs.Cmp.{alike_right, Equal-is}
 use Rattle.std.specs.List.{list_any}
 use Rattle.std.specs.Ordering.{is_eq, is_gt, is_lt, ordering_reverse}
 use Rattle.std.specs.declared.cmp.Ordering.{Ordering}
@@ -25,9 +25,9 @@ use Rattle.ore_pairs.proofs.SomePair.{not_true, pair_none, pair_not}
 use Rattle.ore_pairs.proofs.PairRuleLaws.{treat_from}
 use Rattle.ore_report.specs.ChainRule.{pair_cmp, is_next}
 use Rattle.ore_report.specs.Queue.{place_cmp, place_at, is_waiting, IsQueue, IsFirst, IsPlace}
-use Rattle.ore_report.specs.declared.queue.Place.{Place}
+use Rattle.ore_report.specs.declared.queue.QueuedPair.{QueuedPair}
 use Rattle.ore_report.proofs.Places.{place_total, pair_place, tied_pair, rows_are}
-use Rattle.ore_report.proofs.Waiting.{eq_true, waiting_there}
+use Rattle.ore_report.proofs.Waiting.{waiting_there}
 
 no_keys : {K : Type 0} (xs : List K) → (0 < length xs → ⊥) → xs ≡ []
 no_keys [] h = refl
@@ -94,12 +94,12 @@ lt_reversed Greater = refl
 entered_test : (y n rows : ℕ) → rows ≡ n → y < n → nat_lt y rows ≡ true
 entered_test y n rows e l = grind (arith, nat_tests)
 
-module _ (o : Order) (leads : List Term) (ps : List (ℕ × ℕ)) (rows : ℕ) (places : BTreeSet Place) (q : IsQueue o leads ps rows places) (all : rows ≡ length leads) where
+module _ (o : Order) (leads : List Term) (ps : List (ℕ × ℕ)) (rows : ℕ) (places : BTreeSet QueuedPair) (q : IsQueue o leads ps rows places) (all : rows ≡ length leads) where
   -- each pair that may be treated has its place
   there_is : (x y : ℕ) → may_treat leads ps x y ≡ true → contains place_cmp places (place_at o leads x y) ≡ true
   there_is x y m = waiting_there o leads ps (λ i j. nat_lt j rows) places x y q.waiting (entered_test y (length leads) rows all (treat_from leads ps x y m).within) m
 
-  next_first : (p : Place) → contains place_cmp places p ≡ true → IsLowerBound place_cmp places p → IsFirst o leads ps (Some p)
+  next_first : (p : QueuedPair) → contains place_cmp places p ≡ true → IsLowerBound place_cmp places p → IsFirst o leads ps (Some p)
   unfolding is_waiting
   next_first p h low = (next_to o leads ps p.first p.second (record { may = parts.0; least = least }), at)
     where
@@ -107,7 +107,7 @@ module _ (o : Order) (leads : List Term) (ps : List (ℕ × ℕ)) (rows : ℕ) (
       parts = waiting_parts (nat_lt p.second rows) (may_treat leads ps p.first p.second) (is_eq (place_cmp p (place_at o leads p.first p.second))) (sym (q.waiting p) ∙ h)
 
       at : IsPlace o leads p
-      at = eq_true _ parts.1
+      at = (Equal-is _).0 parts.1
 
       least : (x y : ℕ) → may_treat leads ps x y ≡ true → is_lt (pair_cmp o leads (x, y) (p.first, p.second)) ≡ false
       least x y m =
@@ -119,7 +119,7 @@ module _ (o : Order) (leads : List Term) (ps : List (ℕ × ℕ)) (rows : ℕ) (
   none_left e i j = not_true (may_treat leads ps i j) (λ m. true≢false (sym (there_is i j m) ∙ ap (list_any (is_at (place_cmp (place_at o leads i j)))) e))
 
   -- the least place, as it is found
-  pub first_is : (found : Option Place) → IsSome found ↔ (0 < btree_set_len places) → IfSome found (λ p. contains place_cmp places p ≡ true) → IfSome found (IsLowerBound place_cmp places) → IsFirst o leads ps found
+  pub first_is : (found : Option QueuedPair) → IsSome found ↔ (0 < btree_set_len places) → IfSome found (λ p. contains place_cmp places p ≡ true) → IfSome found (IsLowerBound place_cmp places) → IsFirst o leads ps found
   first_is None some member least = none_left (no_keys places.keys (λ l. true≢false (sym (some.1 l))))
   first_is (Some p) some member least = next_first p member least
 

@@ -6,8 +6,8 @@
 --     fronts_begun             a run that begins
 --     behind, front_more       the kept choice behind those given of a run
 --     fronts_next              the next kept choice is given
---     treats-front, fronts_treats     what was given treats no more pairs than what is kept
---     next_afforded            so the budget allows the next kept choice
+--     treatment_count-front, fronts_treats     what was given treats no more pairs than what is kept
+--     next_within_budget            so the budget allows the next kept choice
 --     any_none, any_found      no number passes a test, or one does
 --     none_left, some_left     no pair may be treated, or one may
 --     IsUnchosen, unchosen_..  what is answered without a lawful choice
@@ -20,6 +20,7 @@ use Rattle.std.proofs.lemmas.List.Folds.{list_any_at}
 use Rattle.std.proofs.lemmas.List.FromFn.{length-range_with_len}
 use Rattle.std.proofs.lemmas.Option.{slice_get_past, get_or_from_slice_get}
 use Rattle.std.proofs.Math.Seq.{take-append_seam}
+use Rattle.ore_algebra.specs.Lists.{BeginsWith}
 use Rattle.ore_course.specs.Choices as course
 use Rattle.ore_course.specs.Replaying.{AreFronts}
 use Rattle.ore_monomial.specs.Term.{Term}
@@ -28,14 +29,14 @@ use Rattle.ore_rows.specs.declared.choices.Choice.TheVariants.{Treat, Skip}
 use Rattle.ore_pairs.specs.PairRule.{some_pair, may_treat, is_lawful, AreAllListed, HasUnlisted}
 use Rattle.ore_pairs.proofs.PairRuleLaws.{all_from, treat_from}
 use Rattle.ore_pairs.proofs.SomePair.{not_true, there, pair_some, some_pair_is}
-use Rattle.ore_groebner.specs.Choosing.{treats, treats_in, present, with_choice, next_kept, BeginsWith, IsAfforded}
-use Rattle.ore_groebner.specs.Choosing.{given_after, IsAnswer}
+use Rattle.ore_groebner.specs.Choosing.{treated_pair_count, treated_pair_count_in, present, with_choice, next_kept, IsWithinBudget}
+use Rattle.ore_groebner.specs.Choosing.{given_after, IsChooserAnswer}
 use Rattle.ore_groebner.specs.Rules.{IsAllowed}
-use Rattle.ore_groebner.specs.Shown.{Shown}
+use Rattle.ore_groebner.specs.BasisLeads.{BasisLeads}
 use Rattle.ore_groebner.specs.declared.chooser.Next.{Next}
 use Rattle.ore_groebner.specs.declared.chooser.Next.TheVariants.{Complete, NoLawful}
 use Rattle.ore_report.specs.Replay.{ReplayState, fronts_of, given_by, replay_settings, replay_allows, replay_allows_spent}
-use Rattle.ore_report.proofs.GivenRuns.{treats_in-treated}
+use Rattle.ore_report.proofs.GivenRuns.{treatment_count_in-treated}
 
 -- ---- the runs by their places
 
@@ -108,27 +109,27 @@ fronts_next (ks ∷ kept) (gs ∷ hs ∷ given) c h b e = (h.0, fronts_next kept
 
 -- ---- treatments
 
-treats-front : (gs rest : List Choice) → treats gs ≤ treats (gs ++ rest)
-unfolding course.treats
-treats-front [] rest = omega arith
-treats-front (g ∷ gs) rest = let h = treats-front gs rest in omega (arith, h)
+treatment_count-front : (gs rest : List Choice) → treated_pair_count gs ≤ treated_pair_count (gs ++ rest)
+unfolding course.treatment_count
+treatment_count-front [] rest = omega arith
+treatment_count-front (g ∷ gs) rest = let h = treatment_count-front gs rest in omega (arith, h)
 
-fronts_treats : (kept given : List (List Choice)) → AreFronts kept given → treats_in given ≤ treats_in kept
-unfolding AreFronts course.treats_in course.treats
+fronts_treats : (kept given : List (List Choice)) → AreFronts kept given → treated_pair_count_in given ≤ treated_pair_count_in kept
+unfolding AreFronts course.treatment_count_in course.treatment_count
 fronts_treats kept [] h = omega arith
-fronts_treats [] (gs ∷ given) h = let few = fronts_treats [] given h.1 in let none : treats gs ≡ treats [] = ap treats h.0 in omega (arith, few, none)
+fronts_treats [] (gs ∷ given) h = let few = fronts_treats [] given h.1 in let none : treated_pair_count gs ≡ treated_pair_count [] = ap treated_pair_count h.0 in omega (arith, few, none)
 fronts_treats (ks ∷ kept) (gs ∷ given) h =
     let few = fronts_treats kept given h.1 in
-    let front = treats-front gs h.0.0 in
-    let same : treats ks ≡ treats (gs ++ h.0.0) = ap treats h.0.1 in
+    let front = treatment_count-front gs h.0.0 in
+    let same : treated_pair_count ks ≡ treated_pair_count (gs ++ h.0.0) = ap treated_pair_count h.0.1 in
     omega (arith, few, front, same)
 
-pub next_afforded : (kept given : List (List Choice)) (c : Choice) → AreFronts kept given → given ≢ [] → next_kept kept given ≡ Some c → IsAfforded given (treats_in kept) c
-next_afforded kept given (Treat i j) h b e =
+pub next_within_budget : (kept given : List (List Choice)) (c : Choice) → AreFronts kept given → given ≢ [] → next_kept kept given ≡ Some c → IsWithinBudget given (treated_pair_count_in kept) c
+next_within_budget kept given (Treat i j) h b e =
     let few = fronts_treats kept (with_choice given (Treat i j)) (fronts_next kept given (Treat i j) h b e) in
-    let one = treats_in-treated given i j b in
+    let one = treatment_count_in-treated given i j b in
     omega (arith, few, one)
-next_afforded kept given (Skip i j via) h b e = tt
+next_within_budget kept given (Skip i j via) h b e = tt
 
 -- ---- pairs that are left
 
@@ -162,14 +163,14 @@ module _ (s : ReplayState) (leads : List Term) (ps : List (ℕ × ℕ)) (x : Nex
   abbrev pub IsUnchosen : Type 0
   IsUnchosen = x ≡ cond (some_pair (length leads) (may_treat leads ps)) NoLawful Complete
 
-  pub unchosen_answer : IsUnchosen → IfSome (next_kept s.kept (given_by s)) (λ c. is_lawful leads ps c ≡ false) → IsAnswer leads ps (given_by s) (replay_settings s) x
+  pub unchosen_answer : IsUnchosen → IfSome (next_kept s.kept (given_by s)) (λ c. is_lawful leads ps c ≡ false) → IsChooserAnswer leads ps (given_by s) (replay_settings s) x
   unchosen_answer h unlawful = by (some_pair (length leads) (may_treat leads ps)) refl h
     where
-      by : (b : Bool) → some_pair (length leads) (may_treat leads ps) ≡ b → x ≡ cond b NoLawful Complete → IsAnswer leads ps (given_by s) (replay_settings s) x
-      by true e f = subst (IsAnswer leads ps (given_by s) (replay_settings s)) (sym f) (some_left leads ps e, refl, unlawful)
-      by false e f = subst (IsAnswer leads ps (given_by s) (replay_settings s)) (sym f) (none_left leads ps e)
+      by : (b : Bool) → some_pair (length leads) (may_treat leads ps) ≡ b → x ≡ cond b NoLawful Complete → IsChooserAnswer leads ps (given_by s) (replay_settings s) x
+      by true e f = subst (IsChooserAnswer leads ps (given_by s) (replay_settings s)) (sym f) (some_left leads ps e, refl, unlawful)
+      by false e f = subst (IsChooserAnswer leads ps (given_by s) (replay_settings s)) (sym f) (none_left leads ps e)
 
-  pub unchosen_allowed : IsUnchosen → (shown : Shown) (qs : List (ℕ × ℕ)) → IsAllowed replay_allows replay_allows_spent shown qs x
+  pub unchosen_allowed : IsUnchosen → (shown : BasisLeads) (qs : List (ℕ × ℕ)) → IsAllowed replay_allows replay_allows_spent shown qs x
   unchosen_allowed h shown qs = by (some_pair (length leads) (may_treat leads ps)) h
     where
       by : (b : Bool) → x ≡ cond b NoLawful Complete → IsAllowed replay_allows replay_allows_spent shown qs x

@@ -22,10 +22,10 @@ use Rattle.ore_pairs.proofs.SomePair.{some_pair_is}
 use Rattle.ore_rows.specs.declared.choices.Choice.{Choice}
 use Rattle.ore_rows.specs.declared.choices.Choice.TheVariants.{Treat, Skip}
 use Rattle.ore_pairs.specs.PairList.{pairs_of}
-use Rattle.ore_pairs.specs.Reached.{shown_in}
+use Rattle.ore_pairs.specs.Reached.{state_leads}
 use Rattle.ore_pairs.specs.Runner.{treats_pair}
 use Rattle.ore_groebner.specs.Rules.{IsAllowed}
-use Rattle.ore_groebner.specs.Shown.{Shown}
+use Rattle.ore_groebner.specs.BasisLeads.{BasisLeads}
 use Rattle.ore_groebner.specs.declared.chooser.Next.{Next}
 use Rattle.ore_groebner.specs.declared.chooser.Next.TheVariants.{Choose, Complete, Spent, NoLawful}
 use Rattle.ore_report.specs.ChainRule.{order_shown, pair_cmp, is_next, least_via, chain_allows, chain_allows_spent}
@@ -101,10 +101,10 @@ all_lawful shown ps (Skip i j via) h =
 -- where a treatment may come and a choice may, the choice is that treatment
 pub strict : IsStrictRule chain_allows chain_allows_spent
 strict l s = record {
-  one = λ st c d h k. one_choice (shown_in s st) (pairs_of st.listed) c d h k;
+  one = λ st c d h k. one_choice (state_leads s st) (pairs_of st.listed) c d h k;
   treats_last = λ st c spent h.
-      let treatment = (spent_where (shown_in s st) (pairs_of st.listed)).0 spent in
-      ap treats_pair (one_choice (shown_in s st) (pairs_of st.listed) c (Treat treatment.0 treatment.1) h treatment.2);
+      let treatment = (spent_where (state_leads s st) (pairs_of st.listed)).0 spent in
+      ap treats_pair (one_choice (state_leads s st) (pairs_of st.listed) c (Treat treatment.0 treatment.1) h treatment.2);
 }
 
 -- ---- lists with the same pairs
@@ -118,7 +118,7 @@ module _ (o : Order) (leads : List Term) (ps qs : List (ℕ × ℕ)) (same : Hav
   unfolding least_via
   via_same i j = λ n. position (λ via. skip_same leads ps i j via qs same n) (range_with_len 0 (length leads))
 
-choice_same : (shown : Shown) (ps qs : List (ℕ × ℕ)) → HaveSamePairs ps qs → (c : Choice) → chain_allows shown ps c ≡ chain_allows shown qs c
+choice_same : (shown : BasisLeads) (ps qs : List (ℕ × ℕ)) → HaveSamePairs ps qs → (c : Choice) → chain_allows shown ps c ≡ chain_allows shown qs c
 choice_same shown ps qs same (Treat i j) = λ n. next_same (order_shown shown) shown.leads ps qs same i j n && is_none (via_same (order_shown shown) shown.leads ps qs same i j n)
 choice_same shown ps qs same (Skip i j via) = λ n. next_same (order_shown shown) shown.leads ps qs same i j n && option_eq nat_eq (via_same (order_shown shown) shown.leads ps qs same i j n) (Some via)
 
@@ -126,7 +126,7 @@ pub by_pairs : AllowsByPairs chain_allows chain_allows_spent
 by_pairs shown ps qs same = (choice_same shown ps qs same, λ n. some_pair (length shown.leads) (λ i j. choice_same shown ps qs same (Treat i j) n))
 
 -- an answer that the rule allows by one list it allows by the other
-pub answer_same : (shown : Shown) (ps qs : List (ℕ × ℕ)) → HaveSamePairs ps qs → (x : Next) → IsAllowed chain_allows chain_allows_spent shown ps x → IsAllowed chain_allows chain_allows_spent shown qs x
+pub answer_same : (shown : BasisLeads) (ps qs : List (ℕ × ℕ)) → HaveSamePairs ps qs → (x : Next) → IsAllowed chain_allows chain_allows_spent shown ps x → IsAllowed chain_allows chain_allows_spent shown qs x
 answer_same shown ps qs same (Choose c) h = sym (choice_same shown ps qs same c) ∙ h
 answer_same shown ps qs same Complete h = tt
 answer_same shown ps qs same Spent h = sym (by_pairs shown ps qs same).1 ∙ h

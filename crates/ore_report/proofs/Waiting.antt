@@ -1,5 +1,5 @@
 -- What a queue holds, as pairs enter it and leave it.
---     eq_true, eq_reversed, eq_back     the test of two places, turned round
+--     eq_reversed, eq_back              the test of two places, turned round
 --     both_equal, equal_both    two places of rows, each the same
 --     at_pair, pair_at          whether a place is that of a pair, by its rows
 --     entered_test, entered     one more pair has entered
@@ -16,7 +16,7 @@ use Rattle.ore_algebra.specs.Limits.{program, is_within}
 use Rattle.std.specs.BTreeMap.{is_at}
 use Rattle.std.specs.BTreeSet.{BTreeSet, contains}
 use Rattle.std.specs.List.{list_any}
-use Rattle.std.specs.Cmp.{both_ways, tied_itself}
+use Rattle.std.specs.Cmp.{both_ways, tied_itself, Equal-is}
 use Rattle.std.specs.Ordering.{is_eq, ordering_reverse}
 use Rattle.std.specs.declared.cmp.Ordering.{Ordering}
 use Rattle.std.specs.declared.cmp.Ordering.TheVariants.{Less, Equal, Greater}
@@ -27,23 +27,18 @@ use Rattle.ore_monomial.specs.Term.{Term}
 use Rattle.ore_monomial.specs.declared.order.Order.{Order}
 use Rattle.ore_rows.specs.Reduction.{origin}
 use Rattle.ore_pairs.specs.PairRule.{is_listed, is_pair, may_treat}
-use Rattle.ore_pairs.specs.Steps.{lead_at, pair_term}
+use Rattle.ore_pairs.specs.Steps.{lead_at, lcm_of_leads}
 use Rattle.ore_pairs.proofs.PairRuleLaws.{treat_from, treat_to}
 use Rattle.ore_report.specs.Queue.{place_cmp, place_at, is_waiting, AreWaiting, IsPlace}
-use Rattle.ore_report.specs.declared.queue.Place.{Place}
+use Rattle.ore_report.specs.declared.queue.QueuedPair.{QueuedPair}
 use Rattle.ore_report.proofs.Places.{plain_place, past_place, place_total, tied_pair, rows_are}
-
-pub eq_true : (r : Ordering) → is_eq r ≡ true → r ≡ Equal
-eq_true Less h = absurd (true≢false (sym h))
-eq_true Equal h = refl
-eq_true Greater h = absurd (true≢false (sym h))
 
 eq_reversed : (r : Ordering) → is_eq r ≡ is_eq (ordering_reverse r)
 eq_reversed Less = refl
 eq_reversed Equal = refl
 eq_reversed Greater = refl
 
-eq_back : (p q : Place) → is_eq (place_cmp p q) ≡ is_eq (place_cmp q p)
+eq_back : (p q : QueuedPair) → is_eq (place_cmp p q) ≡ is_eq (place_cmp q p)
 eq_back p q = eq_reversed (place_cmp p q) ∙ ap is_eq (sym (place_total.antisymm q p))
 
 both_equal : (x i y j : ℕ) → (nat_eq x i && nat_eq y j) ≡ true → (x ≡ i) × (y ≡ j)
@@ -54,15 +49,15 @@ equal_both x i y j e f = grind (arith, nat_tests)
 
 module _ (o : Order) (leads : List Term) where
   -- where a place has the rows of a pair, it is that of the pair or of none
-  at_pair : (i j : ℕ) (p : Place) → (nat_eq p.first i && nat_eq p.second j) ≡ true → is_eq (place_cmp p (place_at o leads p.first p.second)) ≡ is_eq (place_cmp (place_at o leads i j) p)
+  at_pair : (i j : ℕ) (p : QueuedPair) → (nat_eq p.first i && nat_eq p.second j) ≡ true → is_eq (place_cmp p (place_at o leads p.first p.second)) ≡ is_eq (place_cmp (place_at o leads i j) p)
   at_pair i j p h =
       let rows = both_equal p.first i p.second j h in
       ap₂ (λ x y. is_eq (place_cmp p (place_at o leads x y))) rows.0 rows.1 ∙ eq_back p (place_at o leads i j)
 
   -- and where it isn't told apart from that of a pair, it has the rows
-  pair_at : (i j : ℕ) (p : Place) → is_eq (place_cmp (place_at o leads i j) p) ≡ true → (nat_eq p.first i && nat_eq p.second j) ≡ true
+  pair_at : (i j : ℕ) (p : QueuedPair) → is_eq (place_cmp (place_at o leads i j) p) ≡ true → (nat_eq p.first i && nat_eq p.second j) ≡ true
   pair_at i j p h =
-      let tied = tied_pair (place_at o leads i j) p (eq_true _ h) in
+      let tied = tied_pair (place_at o leads i j) p ((Equal-is _).0 h) in
       let rows = rows_are o leads i j in
       equal_both p.first i p.second j (sym tied.0 ∙ rows.0) (sym tied.1 ∙ rows.1)
 
@@ -82,8 +77,8 @@ listed_test p b i k h = grind arith
 
 module _ (o : Order) (leads : List Term) (ps : List (ℕ × ℕ)) where
   -- one more pair has entered
-  pub entered : (E F : ℕ → ℕ → Bool) (i j : ℕ) (old new : BTreeSet Place) → ((x y : ℕ) → F x y ≡ (E x y || (nat_eq x i && nat_eq y j))) → AreWaiting o leads ps E old
-      → ((p : Place) → contains place_cmp new p ≡ (contains place_cmp old p || (may_treat leads ps i j && is_eq (place_cmp (place_at o leads i j) p)))) → AreWaiting o leads ps F new
+  pub entered : (E F : ℕ → ℕ → Bool) (i j : ℕ) (old new : BTreeSet QueuedPair) → ((x y : ℕ) → F x y ≡ (E x y || (nat_eq x i && nat_eq y j))) → AreWaiting o leads ps E old
+      → ((p : QueuedPair) → contains place_cmp new p ≡ (contains place_cmp old p || (may_treat leads ps i j && is_eq (place_cmp (place_at o leads i j) p)))) → AreWaiting o leads ps F new
   unfolding is_waiting
   entered E F i j old new more held now p =
       now p ∙ ap (λ b. b || (may_treat leads ps i j && is_eq (place_cmp (place_at o leads i j) p))) (held p)
@@ -93,8 +88,8 @@ module _ (o : Order) (leads : List Term) (ps : List (ℕ × ℕ)) where
       (at_pair o leads i j p) (pair_at o leads i j p)
 
   -- one more pair is listed, and its place is gone
-  pub left : (E : ℕ → ℕ → Bool) (qs : List (ℕ × ℕ)) (place : Place) (old new : BTreeSet Place) → IsPlace o leads place → ((x y : ℕ) → is_listed x y qs ≡ ((nat_eq x place.first && nat_eq y place.second) || is_listed x y ps)) → AreWaiting o leads ps E old
-      → ((p : Place) → contains place_cmp new p ≡ cond (is_eq (place_cmp place p)) false (contains place_cmp old p)) → AreWaiting o leads qs E new
+  pub left : (E : ℕ → ℕ → Bool) (qs : List (ℕ × ℕ)) (place : QueuedPair) (old new : BTreeSet QueuedPair) → IsPlace o leads place → ((x y : ℕ) → is_listed x y qs ≡ ((nat_eq x place.first && nat_eq y place.second) || is_listed x y ps)) → AreWaiting o leads ps E old
+      → ((p : QueuedPair) → contains place_cmp new p ≡ cond (is_eq (place_cmp place p)) false (contains place_cmp old p)) → AreWaiting o leads qs E new
   unfolding is_waiting may_treat
   left E qs place old new is listed held now p =
       let at = place_at o leads place.first place.second in
@@ -106,7 +101,7 @@ module _ (o : Order) (leads : List Term) (ps : List (ℕ × ℕ)) where
       (λ h. pair_at o leads place.first place.second p (same ∙ h))
 
   -- which pairs have entered counts only for those that may be treated
-  pub waiting_same : (E F : ℕ → ℕ → Bool) (places : BTreeSet Place) → ((x y : ℕ) → may_treat leads ps x y ≡ true → E x y ≡ F x y) → AreWaiting o leads ps E places → AreWaiting o leads ps F places
+  pub waiting_same : (E F : ℕ → ℕ → Bool) (places : BTreeSet QueuedPair) → ((x y : ℕ) → may_treat leads ps x y ≡ true → E x y ≡ F x y) → AreWaiting o leads ps E places → AreWaiting o leads ps F places
   unfolding is_waiting
   waiting_same E F places same held p = held p ∙ by (may_treat leads ps p.first p.second) (same p.first p.second)
     where
@@ -114,11 +109,11 @@ module _ (o : Order) (leads : List Term) (ps : List (ℕ × ℕ)) where
       by true h = let e = h refl in grind arith
       by false h = grind arith
 
-  pub waiting_others : (E : ℕ → ℕ → Bool) (qs : List (ℕ × ℕ)) (places : BTreeSet Place) → ((x y : ℕ) → may_treat leads ps x y ≡ may_treat leads qs x y) → AreWaiting o leads ps E places → AreWaiting o leads qs E places
+  pub waiting_others : (E : ℕ → ℕ → Bool) (qs : List (ℕ × ℕ)) (places : BTreeSet QueuedPair) → ((x y : ℕ) → may_treat leads ps x y ≡ may_treat leads qs x y) → AreWaiting o leads ps E places → AreWaiting o leads qs E places
   unfolding is_waiting
   waiting_others E qs places same held p = held p ∙ ap (λ m. E p.first p.second && m && is_eq (place_cmp p (place_at o leads p.first p.second))) (same p.first p.second)
 
-  pub waiting_none : (places : BTreeSet Place) → places.keys ≡ [] → AreWaiting o leads ps (λ i j. nat_lt j 0) places
+  pub waiting_none : (places : BTreeSet QueuedPair) → places.keys ≡ [] → AreWaiting o leads ps (λ i j. nat_lt j 0) places
   unfolding is_waiting
   waiting_none places e p = ap (list_any (is_at (place_cmp p))) e ∙ sym (none (may_treat leads ps p.first p.second) _ p.second)
     where
@@ -126,7 +121,7 @@ module _ (o : Order) (leads : List Term) (ps : List (ℕ × ℕ)) where
       none m w n = grind (arith, nat_tests)
 
   -- a pair that has entered and may be treated has its place
-  pub waiting_there : (E : ℕ → ℕ → Bool) (places : BTreeSet Place) (i j : ℕ) → AreWaiting o leads ps E places → E i j ≡ true → may_treat leads ps i j ≡ true → contains place_cmp places (place_at o leads i j) ≡ true
+  pub waiting_there : (E : ℕ → ℕ → Bool) (places : BTreeSet QueuedPair) (i j : ℕ) → AreWaiting o leads ps E places → E i j ≡ true → may_treat leads ps i j ≡ true → contains place_cmp places (place_at o leads i j) ≡ true
   unfolding is_waiting
   waiting_there E places i j held e m =
       let at = place_at o leads i j in
@@ -173,7 +168,7 @@ module _ (o now : Order) (leads rest : List Term) (ps : List (ℕ × ℕ)) where
           let before = can.ordered in
           treat_to leads ps i j (record { ordered = before; within = l; columns = sym (kept i (omega arith)) ∙ can.columns ∙ kept j l; unlisted = can.unlisted })
 
-  term_kept : (i j : ℕ) → i < length leads → j < length leads → pair_term (leads ++ rest) i j ≡ pair_term leads i j
+  term_kept : (i j : ℕ) → i < length leads → j < length leads → lcm_of_leads (leads ++ rest) i j ≡ lcm_of_leads leads i j
   term_kept i j l m = ap₂ (λ (t u : Term). record { monomial = lcm t.monomial u.monomial; column = t.column }) (first_kept leads rest i l) (first_kept leads rest j m)
 
   place_kept : (i j : ℕ) → i < length leads → j < length leads → place_at o leads i j ≡ place_at o (leads ++ rest) i j
@@ -181,7 +176,7 @@ module _ (o now : Order) (leads rest : List Term) (ps : List (ℕ × ℕ)) where
   place_kept i j l m = ap (λ t. cond (not (is_within program.degree (degree t.monomial))) (past_place i j) (plain_place o t i j)) (sym (term_kept i j l m))
 
   -- a queue goes on where leads are added
-  pub waiting_grown : (rows : ℕ) (places : BTreeSet Place) → rows ≤ length leads → (leads ≢ [] → now ≡ o) → AreWaiting o leads ps (λ i j. nat_lt j rows) places → AreWaiting now (leads ++ rest) ps (λ i j. nat_lt j rows) places
+  pub waiting_grown : (rows : ℕ) (places : BTreeSet QueuedPair) → rows ≤ length leads → (leads ≢ [] → now ≡ o) → AreWaiting o leads ps (λ i j. nat_lt j rows) places → AreWaiting now (leads ++ rest) ps (λ i j. nat_lt j rows) places
   unfolding is_waiting
   waiting_grown rows places few same held p =
       held p ∙ grown_test (nat_lt p.second rows) (may_treat leads ps p.first p.second) (may_treat (leads ++ rest) ps p.first p.second) (is_eq (place_cmp p (place_at o leads p.first p.second))) (is_eq (place_cmp p (place_at now (leads ++ rest) p.first p.second)))

@@ -27,16 +27,16 @@ use Rattle.ore_monomial.specs.declared.order.Order.TheVariants.{DegLex}
 use Rattle.ore_rows.specs.declared.choices.Choice.{Choice}
 use Rattle.ore_rows.specs.declared.choices.Choice.TheVariants.{Treat, Skip}
 use Rattle.ore_pairs.specs.PairRule.{some_pair, may_treat, may_skip}
-use Rattle.ore_pairs.specs.Steps.{pair_term}
-use Rattle.ore_groebner.specs.Shown.{Shown}
+use Rattle.ore_pairs.specs.Steps.{lcm_of_leads}
+use Rattle.ore_groebner.specs.BasisLeads.{BasisLeads}
 
 -- where none is shown there is no row with a lead, and so no pair; then the graded lexicographic order
-abbrev pub order_shown : Shown → Order
+abbrev pub order_shown : BasisLeads → Order
 order_shown shown = elim shown.order [ None ↦ DegLex | Some o ↦ o ]
 
 -- the degree is past the greatest one of the program
 abbrev pub is_past : List Term → ℕ → ℕ → Bool
-is_past leads i j = not (is_within program.degree (degree (pair_term leads i j).monomial))
+is_past leads i j = not (is_within program.degree (degree (lcm_of_leads leads i j).monomial))
 
 -- the lesser first place comes first, then the lesser second
 abbrev pub places_cmp : ℕ × ℕ → ℕ × ℕ → Ordering
@@ -51,7 +51,7 @@ by_limit true true terms places = places
 
 -- by the order of the terms of both pairs, then by their places; pairs past the limit come last
 unfoldable pub pair_cmp : Order → List Term → ℕ × ℕ → ℕ × ℕ → Ordering
-pair_cmp o leads p q = by_limit (is_past leads p.0 p.1) (is_past leads q.0 q.1) (term_cmp o (pair_term leads p.0 p.1) (pair_term leads q.0 q.1)) (places_cmp p q)
+pair_cmp o leads p q = by_limit (is_past leads p.0 p.1) (is_past leads q.0 q.1) (term_cmp o (lcm_of_leads leads p.0 p.1) (lcm_of_leads leads q.0 q.1)) (places_cmp p q)
 
 -- it may be treated, and no pair that may be treated comes before it
 unfoldable pub is_next : Order → List Term → List (ℕ × ℕ) → ℕ → ℕ → Bool
@@ -62,10 +62,10 @@ unfoldable pub least_via : List Term → List (ℕ × ℕ) → ℕ → ℕ → O
 least_via leads ps i j = position (may_skip leads ps i j) (range_with_len 0 (length leads))
 
 -- the next pair is skipped by way of the least row that lets it be, and treated where no row does
-abbrev pub chain_allows : Shown → List (ℕ × ℕ) → Choice → Bool
+abbrev pub chain_allows : BasisLeads → List (ℕ × ℕ) → Choice → Bool
 chain_allows shown ps (Treat i j) = is_next (order_shown shown) shown.leads ps i j && is_none (least_via shown.leads ps i j)
 chain_allows shown ps (Skip i j via) = is_next (order_shown shown) shown.leads ps i j && option_eq nat_eq (least_via shown.leads ps i j) (Some via)
 
 -- the budget may be spent exactly where the choice that comes next is a treatment
-abbrev pub chain_allows_spent : Shown → List (ℕ × ℕ) → Bool
+abbrev pub chain_allows_spent : BasisLeads → List (ℕ × ℕ) → Bool
 chain_allows_spent shown ps = some_pair (length shown.leads) (λ i j. chain_allows shown ps (Treat i j))

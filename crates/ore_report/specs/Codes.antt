@@ -12,7 +12,7 @@ use Rattle.ore_monomial.specs.declared.order.Order.{Order}
 use Rattle.ore_leads.specs.StoredLeads.{leads_code}
 use Rattle.ore_rows.specs.declared.choices.Choice.{Choice}
 use Rattle.ore_rows.specs.declared.choices.Choice.TheVariants.{Treat, Skip}
-use Rattle.ore_groebner.specs.Shown.{Shown}
+use Rattle.ore_groebner.specs.BasisLeads.{BasisLeads}
 
 -- which choice it is, and its places
 abbrev pub choice_numbers : Choice → (ℕ × ℕ) × (ℕ × ℕ)
@@ -33,5 +33,5 @@ choice_code = code_by ((ℕ × ℕ) × (ℕ × ℕ)) (coded× (coded× coded_ℕ
 abbrev pub runs_code : Coded (List (List Choice))
 runs_code = coded_list (coded_list choice_code)
 
-abbrev pub shown_code : Coded Shown
+abbrev pub shown_code : Coded BasisLeads
 shown_code = code_by (Option Order × List Term) (coded× (coded_option order_code) leads_code) (λ s. (s.order, s.leads)) (λ p. record { order = p.0; leads = p.1 }) (λ _. refl)

@@ -18,37 +18,37 @@ use Rattle.ore_monomial.specs.Monomial.{rank}
 use Rattle.ore_monomial.specs.Term.{Term}
 use Rattle.ore_monomial.specs.declared.order.Order.{Order}
 use Rattle.ore_pairs.specs.PairRule.{may_treat}
-use Rattle.ore_pairs.specs.Steps.{pair_term}
+use Rattle.ore_pairs.specs.Steps.{lcm_of_leads}
 use Rattle.ore_report.specs.ChainRule.{is_past, is_next}
-use Rattle.ore_report.specs.declared.queue.Place.{Place}
+use Rattle.ore_report.specs.declared.queue.QueuedPair.{QueuedPair}
 
 -- field by field, where the greater column comes first
-abbrev pub place_cmp : Place → Place → Ordering
+abbrev pub place_cmp : QueuedPair → QueuedPair → Ordering
 place_cmp p q = ordering_then (bool_cmp p.past q.past) (ordering_then (slice_cmp nat_cmp p.rank q.rank) (ordering_then (nat_cmp q.column.0 p.column.0) (ordering_then (nat_cmp p.first q.first) (nat_cmp p.second q.second))))
 
 -- that of a pair past the limit has no term
-unfoldable pub place_at : Order → List Term → ℕ → ℕ → Place
+unfoldable pub place_at : Order → List Term → ℕ → ℕ → QueuedPair
 place_at o leads i j = cond (is_past leads i j)
     (record { past = true; rank = replicate 13 0; column = record { 0 = 0 }; first = i; second = j })
-    (record { past = false; rank = rank o (pair_term leads i j).monomial; column = record { 0 = (pair_term leads i j).column }; first = i; second = j })
+    (record { past = false; rank = rank o (lcm_of_leads leads i j).monomial; column = record { 0 = (lcm_of_leads leads i j).column }; first = i; second = j })
 
 -- as the places of a queue are told apart
-abbrev pub IsPlace : Order → List Term → Place → Type 0
+abbrev pub IsPlace : Order → List Term → QueuedPair → Type 0
 IsPlace o leads p = place_cmp p (place_at o leads p.first p.second) ≡ Equal
 
 module _ (o : Order) (leads : List Term) (ps : List (ℕ × ℕ)) where
-  unfoldable pub is_waiting : (ℕ → ℕ → Bool) → Place → Bool
+  unfoldable pub is_waiting : (ℕ → ℕ → Bool) → QueuedPair → Bool
   is_waiting entered p = entered p.first p.second && may_treat leads ps p.first p.second && is_eq (place_cmp p (place_at o leads p.first p.second))
 
-  abbrev pub AreWaiting : (ℕ → ℕ → Bool) → BTreeSet Place → Type 0
-  AreWaiting entered places = (p : Place) → contains place_cmp places p ≡ is_waiting entered p
+  abbrev pub AreWaiting : (ℕ → ℕ → Bool) → BTreeSet QueuedPair → Type 0
+  AreWaiting entered places = (p : QueuedPair) → contains place_cmp places p ≡ is_waiting entered p
 
   -- the pairs whose second row is one of the first rows have entered
-  pub record IsQueue (rows : ℕ) (places : BTreeSet Place) : Type 0 where
+  pub record IsQueue (rows : ℕ) (places : BTreeSet QueuedPair) : Type 0 where
     pub inside : rows ≤ length leads
     pub waiting : AreWaiting (λ i j. nat_lt j rows) places
 
   -- no pair may be treated, or this is the place of the next one
-  abbrev pub IsFirst : Option Place → Type 0
+  abbrev pub IsFirst : Option QueuedPair → Type 0
   IsFirst None = (i j : ℕ) → may_treat leads ps i j ≡ false
   IsFirst (Some p) = (is_next o leads ps p.first p.second ≡ true) × IsPlace o leads p

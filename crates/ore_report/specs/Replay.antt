@@ -10,19 +10,20 @@ use Rattle.std.specs.Prelude.{◌≡◌, ℕ, zero, suc, Bool, true, List, [], �
 use Rattle.std.proofs.Common.{sym}
 use Rattle.std.proofs.lemmas.List.{take-append-drop}
 use Rattle.std.specs.Coded.{Coded, coded×, coded_list, coded_ℕ, code_by}
+use Rattle.ore_algebra.specs.Lists.{BeginsWith}
 use Rattle.ore_rows.specs.declared.choices.Choice.{Choice}
 use Rattle.ore_pairs.specs.PairRule.{is_lawful, some_pair, may_treat}
-use Rattle.ore_groebner.specs.Choosing.{treats_in, Settings, IsPrefixOfKept, BeginsWith}
-use Rattle.ore_groebner.specs.Shown.{Shown}
+use Rattle.ore_groebner.specs.Choosing.{treated_pair_count_in, Settings, IsPrefixOfKept}
+use Rattle.ore_groebner.specs.BasisLeads.{BasisLeads}
 use Rattle.ore_report.specs.Codes.{runs_code, shown_code}
 
 pub record ReplayState : Type 0 where
   pub kept : List (List Choice)
   pub counts : List ℕ
-  pub shown : Shown
+  pub shown : BasisLeads
 
 abbrev pub replay_code : Coded ReplayState
-replay_code = code_by ((List (List Choice) × List ℕ) × Shown) (coded× (coded× runs_code (coded_list coded_ℕ)) shown_code) (λ s. ((s.kept, s.counts), s.shown)) (λ p. record { kept = p.0.0; counts = p.0.1; shown = p.1 }) (λ _. refl)
+replay_code = code_by ((List (List Choice) × List ℕ) × BasisLeads) (coded× (coded× runs_code (coded_list coded_ℕ)) shown_code) (λ s. ((s.kept, s.counts), s.shown)) (λ p. record { kept = p.0.0; counts = p.0.1; shown = p.1 }) (λ _. refl)
 
 -- no choices of a run for which none are kept
 unfoldable pub fronts_of : List (List Choice) → List ℕ → List (List Choice)
@@ -36,7 +37,7 @@ given_by s = fronts_of s.kept s.counts
 
 -- it replays, and treats as many pairs as it keeps treatments
 abbrev pub replay_settings : ReplayState → Settings
-replay_settings s = record { budget = treats_in s.kept; replays = true; kept = s.kept }
+replay_settings s = record { budget = treated_pair_count_in s.kept; replays = true; kept = s.kept }
 
 take_front : {A : Type 0} (n : ℕ) (xs : List A) → xs ≡ take n xs ++ drop n xs
 take_front n xs = sym (take-append-drop n xs)
@@ -53,9 +54,9 @@ pub gives_kept : (s : ReplayState) → IsPrefixOfKept (replay_settings s) (given
 gives_kept s = record { keeps_none = λ e. cc; gives_kept = λ _ k. front s.kept s.counts k }
 
 -- whatever pair it is
-abbrev pub replay_allows : Shown → List (ℕ × ℕ) → Choice → Bool
+abbrev pub replay_allows : BasisLeads → List (ℕ × ℕ) → Choice → Bool
 replay_allows shown ps c = is_lawful shown.leads ps c
 
 -- while a pair may be treated
-abbrev pub replay_allows_spent : Shown → List (ℕ × ℕ) → Bool
+abbrev pub replay_allows_spent : BasisLeads → List (ℕ × ℕ) → Bool
 replay_allows_spent shown ps = some_pair (length shown.leads) (may_treat shown.leads ps)

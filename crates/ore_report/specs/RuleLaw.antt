@@ -14,29 +14,29 @@ use Rattle.ore_monomial.specs.Signature.{Signature}
 use Rattle.ore_pairs.specs.PairRule.{HaveSamePairs, may_treat, is_lawful}
 use Rattle.ore_pairs.specs.Reached.{rule_of}
 use Rattle.ore_pairs.specs.Runner.{runner_within}
-use Rattle.ore_groebner.specs.Shown.{Shown}
+use Rattle.ore_groebner.specs.BasisLeads.{BasisLeads}
 
 -- two choices that may come are the same
-abbrev pub AllowsOneChoice : (Shown → List (ℕ × ℕ) → Choice → Bool) → Type 0
-AllowsOneChoice allows = (shown : Shown) (ps : List (ℕ × ℕ)) (c d : Choice) → allows shown ps c ≡ true → allows shown ps d ≡ true → c ≡ d
+abbrev pub AllowsOneChoice : (BasisLeads → List (ℕ × ℕ) → Choice → Bool) → Type 0
+AllowsOneChoice allows = (shown : BasisLeads) (ps : List (ℕ × ℕ)) (c d : Choice) → allows shown ps c ≡ true → allows shown ps d ≡ true → c ≡ d
 
 -- where there is a pair that may be treated, there is a choice, of that pair or of another
-abbrev pub AllowsSomeChoice : (Shown → List (ℕ × ℕ) → Choice → Bool) → Type 0
-AllowsSomeChoice allows = (shown : Shown) (ps : List (ℕ × ℕ)) (i j : ℕ) → may_treat shown.leads ps i j ≡ true → (c : Choice) × (allows shown ps c ≡ true)
+abbrev pub AllowsSomeChoice : (BasisLeads → List (ℕ × ℕ) → Choice → Bool) → Type 0
+AllowsSomeChoice allows = (shown : BasisLeads) (ps : List (ℕ × ℕ)) (i j : ℕ) → may_treat shown.leads ps i j ≡ true → (c : Choice) × (allows shown ps c ≡ true)
 
 -- each choice that may come is lawful
-abbrev pub AllowsLawful : (Shown → List (ℕ × ℕ) → Choice → Bool) → Type 0
-AllowsLawful allows = (shown : Shown) (ps : List (ℕ × ℕ)) (c : Choice) → allows shown ps c ≡ true → is_lawful shown.leads ps c ≡ true
+abbrev pub AllowsLawful : (BasisLeads → List (ℕ × ℕ) → Choice → Bool) → Type 0
+AllowsLawful allows = (shown : BasisLeads) (ps : List (ℕ × ℕ)) (c : Choice) → allows shown ps c ≡ true → is_lawful shown.leads ps c ≡ true
 
 -- the answer that the budget is spent may come where some pair may come as a treatment, and only there
-abbrev pub AllowsSpentAtTreatment : (Shown → List (ℕ × ℕ) → Choice → Bool) → (Shown → List (ℕ × ℕ) → Bool) → Type 0
-AllowsSpentAtTreatment allows allows_spent = (shown : Shown) (ps : List (ℕ × ℕ)) → (allows_spent shown ps ≡ true) ↔ ((i : ℕ) × (j : ℕ) × (allows shown ps (Treat i j) ≡ true))
+abbrev pub AllowsSpentAtTreatment : (BasisLeads → List (ℕ × ℕ) → Choice → Bool) → (BasisLeads → List (ℕ × ℕ) → Bool) → Type 0
+AllowsSpentAtTreatment allows allows_spent = (shown : BasisLeads) (ps : List (ℕ × ℕ)) → (allows_spent shown ps ≡ true) ↔ ((i : ℕ) × (j : ℕ) × (allows shown ps (Treat i j) ≡ true))
 
 -- the order in which the pairs were listed doesn't count, nor how often
-abbrev pub AllowsByPairs : (Shown → List (ℕ × ℕ) → Choice → Bool) → (Shown → List (ℕ × ℕ) → Bool) → Type 0
-AllowsByPairs allows allows_spent = (shown : Shown) (ps qs : List (ℕ × ℕ)) → HaveSamePairs ps qs
+abbrev pub AllowsByPairs : (BasisLeads → List (ℕ × ℕ) → Choice → Bool) → (BasisLeads → List (ℕ × ℕ) → Bool) → Type 0
+AllowsByPairs allows allows_spent = (shown : BasisLeads) (ps qs : List (ℕ × ℕ)) → HaveSamePairs ps qs
     → ((c : Choice) → allows shown ps c ≡ allows shown qs c) × (allows_spent shown ps ≡ allows_spent shown qs)
 
 -- one choice at most may come in a state, and where the budget may be spent that choice is a treatment
-abbrev pub IsStrictRule : (Shown → List (ℕ × ℕ) → Choice → Bool) → (Shown → List (ℕ × ℕ) → Bool) → Type 0
+abbrev pub IsStrictRule : (BasisLeads → List (ℕ × ℕ) → Choice → Bool) → (BasisLeads → List (ℕ × ℕ) → Bool) → Type 0
 IsStrictRule allows allows_spent = (l : Limits) (s : Signature) → IsStrict (runner_within l s) (rule_of s allows allows_spent)

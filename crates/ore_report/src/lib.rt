@@ -18,7 +18,7 @@
 //! is that of all the treatments that it keeps, so it is never spent. By where a call that follows a course stops with it,
 //! the first line of the report that fails is known (`law_replay` of `ore_course`).
 //!
-//! [`Given`] is a list of choices, run by run; [`Showing`] is what a run has shown of its basis. The pairs that wait
+//! [`Given`] is a list of choices, run by run; [`ShownLeads`] is what a run has shown of its basis. The pairs that wait
 //! stand in a queue (`specs/Queue.antt`), an ordered set, each with a place whose order is that of the rule. The pairs
 //! of a new basis row enter once, and a choice takes one out.
 //!
@@ -33,10 +33,10 @@ pub mod live;
 mod pairs;
 mod queue;
 pub mod replay;
-pub mod showing;
+pub mod shown_leads;
 
 pub use given::Given;
 pub use laws::law_rule;
 pub use live::LiveChooser;
 pub use replay::ReplayChooser;
-pub use showing::Showing;
+pub use shown_leads::ShownLeads;

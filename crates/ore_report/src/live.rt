@@ -6,20 +6,20 @@ ghost use Rattle.ore_course.specs.Following.{IsReportable, Passed, report_of};
 ghost use Rattle.ore_course.specs.Report.{ByStop};
 ghost use Rattle.ore_cert.specs.CourseReport.{course_report, reported_as};
 ghost use Rattle.ore_pairs.specs.PairRule.{HaveSamePairs};
-ghost use Rattle.ore_groebner.specs.Courses.{halt_of, place_of};
-ghost use Rattle.ore_groebner.specs.Choosing.{present, chosen_pairs, given_after, AreAfforded};
-ghost use Rattle.ore_groebner.specs.Shown.{none_shown, shown_of, IsGrownFrom};
+ghost use Rattle.ore_groebner.specs.Courses.{halt_in_course, place_in_course};
+ghost use Rattle.ore_groebner.specs.Choosing.{present, chosen_pairs, given_after, AreWithinBudget};
+ghost use Rattle.ore_groebner.specs.BasisLeads.{no_leads, basis_leads, BeginsWithLeads};
 ghost use Rattle.ore_groebner.specs.declared.chooser.Next.TheVariants.{Choose};
 ghost use Rattle.ore_rows.specs.Reduction.{leads_of};
 ghost use Rattle.ore_rows.specs.declared.choices.Choice.TheVariants.{Skip};
 ghost use Rattle.ore_report.specs.ChainRule.{chain_allows, chain_allows_spent, order_shown};
-ghost use Rattle.ore_report.specs.Live.{IsPaid, IsSettled, live_settings, keeps_nothing};
+ghost use Rattle.ore_report.specs.Live.{IsTreatmentAnswer, IsNextPairAnswer, live_settings, keeps_nothing};
 ghost use Rattle.ore_report.specs.Queue.{IsFirst, IsPlace};
 
 use crate::given::Given;
 use crate::pairs::least_via;
-use crate::queue::{Place, Queue};
-use crate::showing::Showing;
+use crate::queue::{Queue, QueuedPair};
+use crate::shown_leads::ShownLeads;
 use ore_cert::{Cause, Plan, Report, Stop};
 use ore_groebner::{Chooser, Halt, Next, Rule, StopAt};
 use ore_monomial::NoMemory;
@@ -35,7 +35,7 @@ pub struct LiveChooser {
     budget: u32,
     treated: u32,
     given: Given,
-    shown: Showing,
+    shown: ShownLeads,
     queue: Queue,
 }
 
@@ -55,14 +55,14 @@ impl LiveChooser {
     /// One that has given nothing, and treats so many pairs in all its runs.
     pub fn new(alloc: Global, budget: u32) -> LiveChooser
         requires { budget ≤ 1000000 }
-        ensures { result ≡ record { budget = budget; given = []; shown = none_shown } }
+        ensures { result ≡ record { budget = budget; given = []; shown = no_leads } }
     {
         LiveChooser {
             alloc,
             budget,
             treated: 0,
             given: Given::new(alloc),
-            shown: Showing::new(alloc),
+            shown: ShownLeads::new(alloc),
             queue: Queue::new(alloc),
         }
     }
@@ -70,7 +70,7 @@ impl LiveChooser {
     /// The choices that it gave, run by run. They treat no more pairs than its budget has.
     pub fn into_runs(self) -> Runs
         ensures runs { result ≡ self.given }
-        ensures afforded { AreAfforded self.given self.budget }
+        ensures within_budget { AreWithinBudget self.given self.budget }
     {
         self.given.into_runs()
     }
@@ -78,9 +78,9 @@ impl LiveChooser {
     /// The report of a call of this plan that halted so: why and where it stopped, with the choices that it was given. A
     /// choice whose treatment stopped is the stop, and not one of the choices.
     pub fn into_report(self, plan: Plan, halt: &Halt) -> Report
-        requires { IsReportable (halt_of halt.now) }
+        requires { IsReportable (halt_in_course halt.now) }
         ensures plan { result.plan ≡ plan }
-        ensures report { course_report result ≡ report_of self.given self.budget (halt_of halt.now) }
+        ensures report { course_report result ≡ report_of self.given self.budget (halt_in_course halt.now) }
     {
         match *halt {
             Halt::Overflow(at) => self.stopped(plan, Cause::Overflow, at),
@@ -97,7 +97,7 @@ impl LiveChooser {
     // The report of an operation that stopped for the cause.
     fn stopped(self, plan: Plan, cause: Cause, at: StopAt) -> Report
         ensures plan { result.plan ≡ plan }
-        ensures report { (why : limits.Cause) → reported_as cause ≡ ByStop why → course_report result ≡ report_of self.given self.budget (Passed why (place_of at)) }
+        ensures report { (why : limits.Cause) → reported_as cause ≡ ByStop why → course_report result ≡ report_of self.given self.budget (Passed why (place_in_course at)) }
     {
         let mut given = self.given;
         let stop = match at {
@@ -116,12 +116,12 @@ impl LiveChooser {
     }
 
     // The next pair, if there is one.
-    fn next_place(&mut self, basis: &Basis, listed: &Listed) -> Result<Option<Place>, NoMemory>
+    fn next_place(&mut self, basis: &Basis, listed: &Listed) -> Result<Option<QueuedPair>, NoMemory>
         requires lists { HaveSamePairs listed.now (chosen_pairs (present self.old.given)) }
-        requires grown { IsGrownFrom self.old.shown basis.now }
-        ensures first { IfOk result (IsFirst (order_shown (shown_of basis.now)) (leads_of basis.now.items) listed.now) }
+        requires grown { BeginsWithLeads self.old.shown basis.now }
+        ensures first { IfOk result (IsFirst (order_shown (basis_leads basis.now)) (leads_of basis.now.items) listed.now) }
         ensures given { self.new.given ≡ self.old.given }
-        ensures shown { IfOk result (λ _. self.new.shown ≡ shown_of basis.now) }
+        ensures shown { IfOk result (λ _. self.new.shown ≡ basis_leads basis.now) }
         ensures budget { self.new.budget ≡ self.old.budget }
     {
         self.shown.show(basis)?;
@@ -130,10 +130,10 @@ impl LiveChooser {
     }
 
     // The pair is skipped by way of a row, where there is one, and else treated.
-    fn settle(&mut self, place: &Place, via: Option<usize>) -> Result<Next, NoMemory>
+    fn answer_pair(&mut self, place: &QueuedPair, via: Option<usize>) -> Result<Next, NoMemory>
         requires begun { self.old.given ≢ [] }
         requires place { IsPlace (order_shown self.old.shown) self.old.shown.leads place.now }
-        ensures answer { IfOk result (IsSettled self.old.given self.old.budget place.now.first place.now.second via) }
+        ensures answer { IfOk result (IsNextPairAnswer self.old.given self.old.budget place.now.first place.now.second via) }
         ensures given { self.new.given ≡ given_after self.old.given result }
         ensures shown { self.new.shown ≡ self.old.shown }
         ensures budget { self.new.budget ≡ self.old.budget }
@@ -145,10 +145,10 @@ impl LiveChooser {
     }
 
     // The pair is treated, where the budget allows.
-    fn treat(&mut self, place: &Place) -> Result<Next, NoMemory>
+    fn treat(&mut self, place: &QueuedPair) -> Result<Next, NoMemory>
         requires begun { self.old.given ≢ [] }
         requires place { IsPlace (order_shown self.old.shown) self.old.shown.leads place.now }
-        ensures answer { IfOk result (IsPaid self.old.given self.old.budget place.now.first place.now.second) }
+        ensures answer { IfOk result (IsTreatmentAnswer self.old.given self.old.budget place.now.first place.now.second) }
         ensures given { self.new.given ≡ given_after self.old.given result }
         ensures shown { self.new.shown ≡ self.old.shown }
         ensures budget { self.new.budget ≡ self.old.budget }
@@ -167,7 +167,7 @@ impl LiveChooser {
     }
 
     // The pair is skipped by way of a row.
-    fn skip(&mut self, place: &Place, via: usize) -> Result<Next, NoMemory>
+    fn skip(&mut self, place: &QueuedPair, via: usize) -> Result<Next, NoMemory>
         requires begun { self.old.given ≢ [] }
         requires place { IsPlace (order_shown self.old.shown) self.old.shown.leads place.now }
         ensures answer { IfOk result (λ x. x ≡ Choose (Skip place.now.first place.now.second via)) }
@@ -203,7 +203,7 @@ impl Chooser for LiveChooser {
 
     fn start_run(&mut self) -> Result<(), NoMemory> {
         self.given.begin(self.alloc)?;
-        self.shown = Showing::new(self.alloc);
+        self.shown = ShownLeads::new(self.alloc);
         self.queue = Queue::new(self.alloc);
         Ok(())
     }
@@ -213,7 +213,7 @@ impl Chooser for LiveChooser {
             None => Ok(Next::Complete),
             Some(place) => {
                 let via = least_via(basis.leads(), listed, place.first, place.second);
-                self.settle(&place, via)
+                self.answer_pair(&place, via)
             }
         }
     }

@@ -6,7 +6,7 @@ ghost use Rattle.std.specs.Ordering.{is_eq};
 ghost use Rattle.ore_monomial.specs.Term.{Term};
 ghost use Rattle.ore_pairs.specs.PairRule.{may_treat};
 ghost use Rattle.ore_report.specs.Queue.{place_cmp, place_at, AreWaiting, IsQueue, IsFirst};
-ghost use Rattle.ore_report.specs.declared.queue.Place.{Place as Seen};
+ghost use Rattle.ore_report.specs.declared.queue.QueuedPair.{QueuedPair as Seen};
 
 use ore_leads::Leads;
 use ore_monomial::{NoMemory, Order};
@@ -19,7 +19,7 @@ use std::collections::BTreeSet;
 
 /// Where a pair stands in the queue: by its common multiple and its column, and then by its rows.
 #[derive(Clone, Copy, Debug, PartialEq, Eq, PartialOrd, Ord, Drop)]
-pub struct Place {
+pub struct QueuedPair {
     /// The common multiple has too great a degree. Then it isn't looked at.
     pub past: bool,
     /// Numbers that are ordered as common multiples are.
@@ -36,7 +36,7 @@ pub struct Place {
 #[derive(Drop)]
 pub struct Queue {
     /// The places.
-    pub places: BTreeSet<Place>,
+    pub places: BTreeSet<QueuedPair>,
     /// How many rows have entered.
     pub rows: usize,
 }
@@ -76,7 +76,7 @@ impl Queue {
     }
 
     /// The place of the pair that comes next, if there is one.
-    pub fn first(&self) -> Option<Place>
+    pub fn first(&self) -> Option<QueuedPair>
         ensures { (o : Order) (leads : List Term) (ps : List (ℕ × ℕ)) → IsQueue o leads ps self.now.rows self.now.places → self.now.rows ≡ length leads → IsFirst o leads ps result }
     {
         least(&self.places)
@@ -84,7 +84,7 @@ impl Queue {
 }
 
 // The least of some places, if there is one.
-fn least(places: &BTreeSet<Place>) -> Option<Place>
+fn least(places: &BTreeSet<QueuedPair>) -> Option<QueuedPair>
     ensures some { IsSome result ↔ (0 < btree_set_len places.now) }
     ensures member { IfSome result (λ p. IsTrue (contains place_cmp places.now p)) }
     ensures least { IfSome result (IsLowerBound place_cmp places.now) }
@@ -97,7 +97,7 @@ fn least(places: &BTreeSet<Place>) -> Option<Place>
 
 // The pairs of a row with those before it enter.
 fn add_row(
-    places: &mut BTreeSet<Place>,
+    places: &mut BTreeSet<QueuedPair>,
     order: Order,
     leads: &Leads,
     listed: &Listed,
@@ -115,7 +115,7 @@ fn add_row(
 
 // The pair enters, if it may be treated.
 fn add_pair(
-    places: &mut BTreeSet<Place>,
+    places: &mut BTreeSet<QueuedPair>,
     order: Order,
     leads: &Leads,
     listed: &Listed,
@@ -133,20 +133,20 @@ fn add_pair(
 }
 
 // The place of a pair.
-fn place_of(order: Order, leads: &Leads, i: usize, j: usize) -> Place
+fn place_of(order: Order, leads: &Leads, i: usize, j: usize) -> QueuedPair
     requires first { i < length leads.now }
     requires second { j < length leads.now }
     ensures { result ≡ place_at order leads.now i j }
 {
     match common_multiple(leads, i, j) {
-        Ok(multiple) => Place {
+        Ok(multiple) => QueuedPair {
             past: false,
             rank: multiple.rank(order),
             column: Reverse(leads.get(i).0),
             first: i,
             second: j,
         },
-        Err(_) => Place {
+        Err(_) => QueuedPair {
             past: true,
             rank: [0; 13],
             column: Reverse(0),

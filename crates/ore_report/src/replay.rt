@@ -5,12 +5,12 @@ ghost use Rattle.ore_course.specs.Replaying.{kept_of, kept_with};
 ghost use Rattle.ore_cert.specs.CourseReport.{course_report, stop_as};
 ghost use Rattle.ore_pairs.specs.PairRule.{is_lawful, may_treat, some_pair};
 ghost use Rattle.ore_groebner.specs.Choosing.{next_kept};
-ghost use Rattle.ore_groebner.specs.Shown.{none_shown};
+ghost use Rattle.ore_groebner.specs.BasisLeads.{no_leads};
 ghost use Rattle.ore_report.specs.Replay.{given_by, gives_kept, replay_allows, replay_allows_spent, replay_settings};
 
 use crate::given::Given;
 use crate::pairs::{is_lawful, some_unlisted};
-use crate::showing::Showing;
+use crate::shown_leads::ShownLeads;
 use ore_cert::{Report, Stop};
 use ore_groebner::{Chooser, Next, Rule};
 use ore_leads::Leads;
@@ -26,7 +26,7 @@ pub struct ReplayChooser {
     alloc: Global,
     kept: Given,
     given: Given,
-    shown: Showing,
+    shown: ShownLeads,
 }
 
 impl Model for ReplayChooser {
@@ -50,7 +50,7 @@ impl ReplayChooser {
     /// # Errors
     /// Want of memory.
     pub fn new(alloc: Global, report: &Report) -> Result<ReplayChooser, NoMemory>
-        ensures { IfOk result (λ c. c ≡ record { kept = kept_of (course_report report.now); counts = []; shown = none_shown }) }
+        ensures { IfOk result (λ c. c ≡ record { kept = kept_of (course_report report.now); counts = []; shown = no_leads }) }
     {
         let mut kept = Given::copy_of(alloc, &report.runs)?;
         keep_stop(alloc, &mut kept, report.stop)?;
@@ -58,7 +58,7 @@ impl ReplayChooser {
             alloc,
             kept,
             given: Given::new(alloc),
-            shown: Showing::new(alloc),
+            shown: ShownLeads::new(alloc),
         })
     }
 
@@ -146,7 +146,7 @@ impl Chooser for ReplayChooser {
 
     fn start_run(&mut self) -> Result<(), NoMemory> {
         self.given.begin(self.alloc)?;
-        self.shown = Showing::new(self.alloc);
+        self.shown = ShownLeads::new(self.alloc);
         Ok(())
     }
 

@@ -5,7 +5,7 @@
 --     entries-zero, entries-new, entries-skipped        their entries
 --     entries-none, new_rows-none, origins-none         of no events
 use Rattle.std.proofs.Common.{◌≡◌, ℕ, suc, ◌+◌, List, [], ◌∷◌, ◌++◌, map, refl, sym, ap, ◌∙◌, append_assoc, arith}
-use Rattle.ore_rational.proofs.FractionLaws.{rationals}
+use Rattle.ore_rational.specs.Field.{rationals}
 use Rattle.ore_rational.specs.Fraction.{Fraction}
 use Rattle.ore_rows.specs.Reduction.{Step}
 use Rattle.ore_monomial.specs.Monomial.{unit}

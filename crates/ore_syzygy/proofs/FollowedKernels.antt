@@ -1,32 +1,29 @@
 -- The code of kernels follows its course.
 --     memory_halts               want of memory is a halt of every course
 --     stop_halts                 so is a stop of forced work
---     adjoint_value, adjoint_stop     the transposed adjoint as forced work
 --     RightFollowed              what is left of the course of a right kernel after its first and second statement
 --     begun, adjoint_formed, run_answered, run_halted, answered     the statements in order
-use Rattle.std.proofs.Common.{◌≡◌, ℕ, Bool, List, length, ap}
+use Rattle.std.proofs.Common.{◌≡◌, ℕ, Bool, List}
 use Rattle.std.specs.declared.result.Result.{Result}
-use Rattle.std.specs.declared.result.Result.TheVariants.{Ok, Err}
+use Rattle.std.specs.declared.result.Result.TheVariants.{Ok}
 use Rattle.ore_algebra.specs.Limits.{Cause, program}
 use Rattle.ore_course.specs.Choices.{Runner}
 use Rattle.ore_course.specs.Course.{◌>>=◌, forced, Done}
 use Rattle.ore_course.specs.Following.{Follows, IsHaltedIn, Memory}
 use Rattle.ore_course.specs.Leading.{Rule}
 use Rattle.ore_course.proofs.Calls.{started, worked, called, work_halted, call_halted}
-use Rattle.ore_rational.proofs.FractionLaws.{rationals}
+use Rattle.ore_rational.specs.Field.{rationals}
 use Rattle.ore_monomial.specs.Gives.{Fails}
 use Rattle.ore_monomial.specs.Signature.{Signature}
-use Rattle.ore_monomial.proofs.Stops.{fails_like}
 use Rattle.ore_monomial.specs.declared.stop.RingStop.{RingStop}
 use Rattle.ore_monomial.specs.declared.stop.RingStop.TheVariants as stop
-use Rattle.ore_adjoint.specs.AdjointMatrix.{transpose_adjoint_within}
-use Rattle.ore_rows.specs.Rows.{Row}
-use Rattle.ore_rows.specs.Shown.{Shown}
+use Rattle.ore_rows.specs.BasisLeads.{BasisLeads}
 use Rattle.ore_rows.specs.declared.choices.Choice.{Choice}
 use Rattle.ore_pairs.specs.Reached.{rule_of}
-use Rattle.ore_pairs.specs.Run.{State}
+use Rattle.ore_pairs.specs.Run.{RunState}
 use Rattle.ore_pairs.specs.Runner.{runner_within}
 use Rattle.ore_blocks.specs.CheckBlock.{RowMatrix}
+pub use Rattle.ore_blocks.proofs.TransposedAdjoints.{adjoint_value, adjoint_stop}
 use Rattle.ore_blocks.specs.KernelCourse.{RunCourse, RightKernel, syzygies_of, run_on, transposed_adjoint_within, right_kernel}
 use Rattle.ore_groebner.specs.Choosing.{Settings}
 use Rattle.ore_groebner.specs.Courses.{FollowsTo, HaltsIn}
@@ -34,22 +31,11 @@ use Rattle.ore_groebner.specs.Halting.{halt_of}
 use Rattle.ore_groebner.specs.declared.outcome.Halt.{Halt}
 use Rattle.ore_groebner.specs.declared.outcome.StopAt.TheVariants.{Forced}
 
-pub adjoint_value : (s : Signature) (m : RowMatrix) (rows : List (Row rationals)) → transpose_adjoint_within program s m.cols m.rows ≡ Ok rows → transposed_adjoint_within program s m ≡ Ok (record { cols = length m.rows; rows = rows })
-unfolding transposed_adjoint_within
-adjoint_value s m rows e = ap (λ (x : Result (List (Row rationals)) Cause). elim x [ Ok rows ↦ Ok (record { cols = length m.rows; rows = rows }) | Err cause ↦ Err cause ]) e
-
-adjoint_cause : (s : Signature) (m : RowMatrix) (c : Cause) → transpose_adjoint_within program s m.cols m.rows ≡ Err c → transposed_adjoint_within program s m ≡ Err c
-unfolding transposed_adjoint_within
-adjoint_cause s m c e = ap (λ (x : Result (List (Row rationals)) Cause). elim x [ Ok rows ↦ Ok (record { cols = length m.rows; rows = rows }) | Err cause ↦ Err cause ]) e
-
-pub adjoint_stop : (s : Signature) (m : RowMatrix) (e : RingStop) → Fails e (transpose_adjoint_within program s m.cols m.rows) → Fails e (transposed_adjoint_within program s m)
-adjoint_stop s m e = fails_like e _ _ (adjoint_cause s m)
-
-module _ (s : Signature) (allows : Shown → List (ℕ × ℕ) → Choice → Bool) (allows_spent : Shown → List (ℕ × ℕ) → Bool) where
-  abbrev runner : Runner (State rationals) Choice
+module _ (s : Signature) (allows : BasisLeads → List (ℕ × ℕ) → Choice → Bool) (allows_spent : BasisLeads → List (ℕ × ℕ) → Bool) where
+  abbrev runner : Runner (RunState rationals) Choice
   runner = runner_within program s
 
-  abbrev rule : Rule (State rationals) Choice
+  abbrev rule : Rule (RunState rationals) Choice
   rule = rule_of s allows allows_spent
 
   module _ {X : Type 0} (course : RunCourse X) (before given : List (List Choice)) (settings : Settings) where
@@ -64,7 +50,7 @@ module _ (s : Signature) (allows : Shown → List (ℕ × ℕ) → Choice → Bo
 
   module _ (r : RowMatrix) (before : List (List Choice)) where
     -- of the transposed adjoint and of the last state of its run, the transposed adjoint of the syzygies is left
-    abbrev pub after_run : RowMatrix → State rationals → RunCourse RightKernel
+    abbrev pub after_run : RowMatrix → RunState rationals → RunCourse RightKernel
     after_run adjoint last = forced (transposed_adjoint_within program s (syzygies_of adjoint last)) >>= (λ generators. Done (record { adjoint = adjoint; last = last; generators = generators }))
 
     abbrev pub after_adjoint : RowMatrix → RunCourse RightKernel
@@ -82,7 +68,7 @@ module _ (s : Signature) (allows : Shown → List (ℕ × ℕ) → Choice → Bo
           → HaltsIn s allows allows_spent (right_kernel program s r) before given settings halt
       run_halted given settings halt h = call_halted runner rule given settings.budget settings.replays settings.kept (run_on program s adjoint) (after_run adjoint) _ h adjoint_formed
 
-      module _ (given : List (List Choice)) (last : State rationals) (led : FollowsTo s allows allows_spent (run_on program s adjoint) before given last) where
+      module _ (given : List (List Choice)) (last : RunState rationals) (led : FollowsTo s allows allows_spent (run_on program s adjoint) before given last) where
         pub run_answered : Follows runner rule (right_kernel program s r) before given (after_run adjoint last)
         run_answered = called runner rule (run_on program s adjoint) last (after_run adjoint) led adjoint_formed
 

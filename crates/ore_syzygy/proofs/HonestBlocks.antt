@@ -1,6 +1,7 @@
 -- The parts of a complete run as those of a block.
 --     row_from-map                 a row that is mapped beside an origin
---     ordered-sums, ordered-rows   a row of a signature, and rows, have its order
+--     ordered_row-sums_of          a row of a signature has its order
+--     ordered-rows                 so do rows
 --     matrix_is                    so does a matrix
 --     counted                      the events made some of its basis rows
 --     last_is                      its last state
@@ -11,17 +12,17 @@ use Rattle.std.specs.List.{All}
 use Rattle.std.proofs.lemmas.List.{length-map}
 use Rattle.std.proofs.lemmas.List.Elements.{All-head, All-tail}
 use Rattle.ore_algebra.specs.Limits.{program}
-use Rattle.ore_rational.proofs.FractionLaws.{rationals, rational_inverses}
+use Rattle.ore_rational.specs.Field.{rationals, rational_inverses}
 use Rattle.ore_monomial.specs.Signature.{Signature}
 use Rattle.ore_monomial.proofs.Signatures.{lawful}
 use Rattle.ore_ring.specs.Belongs.{Belongs}
 use Rattle.ore_ring.specs.Ordered.{Ordered}
 use Rattle.ore_rows.specs.Arithmetic.{within}
-use Rattle.ore_rows.specs.Reduction.{Monic, Step}
+use Rattle.ore_rows.specs.Reduction.{BasisRow, Step}
 use Rattle.ore_rows.specs.Reduction as reduction
 use Rattle.ore_rows.specs.Rows.{Row, zero_row}
 use Rattle.ore_rows.specs.Stored.{OperatorMatrix, sums_of, rows_of}
-use Rattle.ore_rows.specs.StoredBasis.{AllBelong, monic_of}
+use Rattle.ore_rows.specs.StoredBasis.{BasisBelongs, monic_of}
 use Rattle.ore_rows.proofs.SoundArithmetic.{within_sound}
 use Rattle.ore_rows.specs.declared.choices.Choice.{Choice}
 use Rattle.ore_rows.specs.declared.choices.Origin.{Origin}
@@ -34,7 +35,7 @@ use Rattle.ore_blocks.specs.CheckBlock.{plain}
 use Rattle.ore_blocks.specs.BlockOfRun.{ordered_row, stored_matrix, stored_entry, exact_block_of, outside_block_of}
 use Rattle.ore_blocks.proofs.Converted.{wide_rows}
 use Rattle.ore_groebner.specs.Courses.{last_of}
-use Rattle.ore_groebner.specs.Honest.{IsHonest}
+use Rattle.ore_groebner.specs.Honest.{IsHonestRun}
 use Rattle.ore_groebner.specs.RunProgress.{entries_from, new_rows}
 use Rattle.ore_groebner.specs.declared.outcome.Finished.{Finished}
 use Rattle.ore_groebner.proofs.Holding.{Holds}
@@ -51,27 +52,27 @@ row_from-map f other o (x ∷ xs) (r ∷ rows) = by (is_origin x o) (row_from-ma
     by false same = same
 
 module _ (s : Signature) where
-  ordered-sums : (r : List Ordered) → All (Belongs s) r → ordered_row s.order (sums_of r) ≡ r
-  ordered-sums [] h = refl
-  ordered-sums (f ∷ r) h = λ i. record { by = sym (All-head (Belongs s) f r h).order i; sum = f.sum } ∷ ordered-sums r (All-tail (Belongs s) f r h) i
+  pub ordered_row-sums_of : (r : List Ordered) → All (Belongs s) r → ordered_row s.order (sums_of r) ≡ r
+  ordered_row-sums_of [] h = refl
+  ordered_row-sums_of (f ∷ r) h = λ i. record { by = sym (All-head (Belongs s) f r h).order i; sum = f.sum } ∷ ordered_row-sums_of r (All-tail (Belongs s) f r h) i
 
   pub ordered-rows : (rows : List (List Ordered)) → All (All (Belongs s)) rows → map (ordered_row s.order) (map sums_of rows) ≡ rows
   ordered-rows [] h = refl
-  ordered-rows (r ∷ rows) h = λ i. ordered-sums r (All-head (All (Belongs s)) r rows h) i ∷ ordered-rows rows (All-tail (All (Belongs s)) r rows h) i
+  ordered-rows (r ∷ rows) h = λ i. ordered_row-sums_of r (All-head (All (Belongs s)) r rows h) i ∷ ordered-rows rows (All-tail (All (Belongs s)) r rows h) i
 
-  ordered-basis_rows : (items : List (Monic (List Ordered))) → AllBelong s items → map (ordered_row s.order) (reduction.basis_rows (map monic_of items)) ≡ reduction.basis_rows items
+  ordered-basis_rows : (items : List (BasisRow (List Ordered))) → BasisBelongs s items → map (ordered_row s.order) (reduction.basis_rows (map monic_of items)) ≡ reduction.basis_rows items
   ordered-basis_rows [] h = refl
   ordered-basis_rows (b ∷ items) h =
-      let P = λ (b : Monic (List Ordered)). All (Belongs s) b.row × All (Belongs s) b.cofactor in
-      λ i. ordered-sums b.row (All-head P b items h).0 i ∷ ordered-basis_rows items (All-tail P b items h) i
+      let P = λ (b : BasisRow (List Ordered)). All (Belongs s) b.row × All (Belongs s) b.cofactor in
+      λ i. ordered_row-sums_of b.row (All-head P b items h).0 i ∷ ordered-basis_rows items (All-tail P b items h) i
 
-  basis_cofactors : (items : List (Monic (List Ordered))) → AllBelong s items → map (ordered_row s.order) (reduction.cofactors_of (map monic_of items)) ≡ reduction.cofactors_of items
+  basis_cofactors : (items : List (BasisRow (List Ordered))) → BasisBelongs s items → map (ordered_row s.order) (reduction.cofactors_of (map monic_of items)) ≡ reduction.cofactors_of items
   basis_cofactors [] h = refl
   basis_cofactors (b ∷ items) h =
-      let P = λ (b : Monic (List Ordered)). All (Belongs s) b.row × All (Belongs s) b.cofactor in
-      λ i. ordered-sums b.cofactor (All-head P b items h).1 i ∷ basis_cofactors items (All-tail P b items h) i
+      let P = λ (b : BasisRow (List Ordered)). All (Belongs s) b.row × All (Belongs s) b.cofactor in
+      λ i. ordered_row-sums_of b.cofactor (All-head P b items h).1 i ∷ basis_cofactors items (All-tail P b items h) i
 
-  module _ (f : Finished) (a : OperatorMatrix) (choices : List Choice) (h : IsHonest s a choices f) where
+  module _ (f : Finished) (a : OperatorMatrix) (choices : List Choice) (h : IsHonestRun s a choices f) where
     abbrev size : ℕ
     size = length f.basis.items
 
@@ -79,10 +80,10 @@ module _ (s : Signature) where
     size_is = ap length h.basis ∙ length-map f.basis.items monic_of
 
     basis_is : stored_matrix s.order a.cols (reduction.basis_rows h.last.basis) ≡ record { cols = f.basis.cols; rows = reduction.basis_rows f.basis.items }
-    basis_is = λ i. record { cols = sym h.cols i; rows = (ap (λ (bs : List (Monic (Row rationals))). map (ordered_row s.order) (reduction.basis_rows bs)) h.basis ∙ ordered-basis_rows f.basis.items h.basis_of) i }
+    basis_is = λ i. record { cols = sym h.cols i; rows = (ap (λ (bs : List (BasisRow (Row rationals))). map (ordered_row s.order) (reduction.basis_rows bs)) h.basis ∙ ordered-basis_rows f.basis.items h.basis_of) i }
 
     to_is : stored_matrix s.order (length (rows_of a)) (reduction.cofactors_of h.last.basis) ≡ record { cols = f.basis.width; rows = reduction.cofactors_of f.basis.items }
-    to_is = λ i. record { cols = (length-map a.rows sums_of ∙ sym h.width) i; rows = (ap (λ (bs : List (Monic (Row rationals))). map (ordered_row s.order) (reduction.cofactors_of bs)) h.basis ∙ basis_cofactors f.basis.items h.basis_of) i }
+    to_is = λ i. record { cols = (length-map a.rows sums_of ∙ sym h.width) i; rows = (ap (λ (bs : List (BasisRow (Row rationals))). map (ordered_row s.order) (reduction.cofactors_of bs)) h.basis ∙ basis_cofactors f.basis.items h.basis_of) i }
 
     from_is : stored_matrix s.order (length (reduction.basis_rows h.last.basis)) (run.from_rows rationals s.order (length h.last.basis) 0 (rows_of a)) ≡ f.from
     from_is = λ i. record { cols = (length-map h.last.basis (λ b. b.row) ∙ sym h.from_cols) i; rows = (ap (map (ordered_row s.order)) (sym h.from) ∙ ordered-rows f.from.rows h.from_of) i }
@@ -141,11 +142,11 @@ module _ (s : Signature) where
           from = (from ∙ sym from_is) i;
           pairs = (pairs ∙ ap (map stored_entry) (sym listed_is)) i;
           quotients = quotients i;
-          rest = (same ∙ sym (ordered-sums rest of)) i;
+          rest = (same ∙ sym (ordered_row-sums_of rest of)) i;
         })
         ∙ ap (λ st. outside_block_of s (plain a) st steps (sums_of rest)) last_is
 
-module _ (s : Signature) (f : Finished) (a : OperatorMatrix) (choices : List Choice) (h : IsHonest s a choices f) (of : MatrixOf s a) where
+module _ (s : Signature) (f : Finished) (a : OperatorMatrix) (choices : List Choice) (h : IsHonestRun s a choices f) (of : MatrixOf s a) where
   pub holds : Holds rationals s s.order a.cols (rows_of a) h.last
   holds =
       reached_holds rationals rational_inverses s (lawful s) s.order a.cols (rows_of a) (wide_rows s a of) (within program s) (within_sound program s) h.last

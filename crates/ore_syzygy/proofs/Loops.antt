@@ -3,11 +3,8 @@
 --     mapped_more                   of what a function makes of them
 use Rattle.std.proofs.Common.{◌≡◌, ◌≤◌, ℕ, ◌+◌, List, [], ◌∷◌, ◌++◌, length, map, take, Some, sym, ap, ◌∙◌}
 use Rattle.std.specs.List.{slice_get}
-use Rattle.std.proofs.lemmas.List.{take_more, take_all, map-append}
-use Rattle.std.proofs.lemmas.Option.{slice_get_within, get_or_from_slice_get}
-
-take_read : {A : Type 0} (xs : List A) (k : ℕ) (x : A) → slice_get xs k ≡ Some x → take (k + 1) xs ≡ take k xs ++ x ∷ []
-take_read xs k x e = take_more xs k x (slice_get_within xs k x e) ∙ ap (λ y. take k xs ++ y ∷ []) (get_or_from_slice_get xs k x x e)
+use Rattle.std.proofs.lemmas.List.{take_all, map-append}
+use Rattle.ore_algebra.proofs.ListLaws.{take_read}
 
 pub copied_more : {A : Type 0} (xs out more : List A) (k : ℕ) (x y : A) → out ≡ take k xs → slice_get xs k ≡ Some x → y ≡ x → more ≡ out ++ y ∷ [] → more ≡ take (k + 1) xs
 copied_more xs out more k x y so_far e same pushed = pushed ∙ (λ i. so_far i ++ same i ∷ []) ∙ sym (take_read xs k x e)

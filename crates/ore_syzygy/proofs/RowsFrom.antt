@@ -7,7 +7,8 @@ use Rattle.std.specs.List.{slice_get}
 use Rattle.std.specs.declared.option.Option.TheVariants.{Some}
 use Rattle.std.proofs.lemmas.List.{drop_more, drop_all, map-append, replicate_more}
 use Rattle.ore_algebra.specs.Free.{empty_sum}
-use Rattle.ore_rational.proofs.FractionLaws.{rationals}
+use Rattle.ore_algebra.proofs.ListLaws.{drop_read}
+use Rattle.ore_rational.specs.Field.{rationals}
 use Rattle.ore_monomial.specs.Monomial.{plain_cmp}
 use Rattle.ore_monomial.specs.declared.order.Order.{Order}
 use Rattle.ore_ring.specs.Ordered.{Ordered}
@@ -15,7 +16,6 @@ use Rattle.ore_rows.specs.Rows.{zero_row}
 use Rattle.ore_rows.specs.declared.choices.Origin.{Origin}
 use Rattle.ore_pairs.specs.RunBlocks.{is_origin, row_from}
 use Rattle.ore_blocks.specs.BlockOfRun.{ordered_row}
-use Rattle.ore_blocks.proofs.ReadItems.{drop_read}
 
 module _ {R : Type 0} (other : R) (o : Origin) where
   row_from-cons : (x : Origin) (xs : List Origin) (r : R) (rows : List R) → row_from (x ∷ xs) (r ∷ rows) other o ≡ cond (is_origin x o) r (row_from xs rows other o)

@@ -9,7 +9,7 @@ use Rattle.std.specs.List.{All}
 use Rattle.std.specs.declared.result.Result.TheVariants.{Ok}
 use Rattle.std.proofs.lemmas.List.{length-map}
 use Rattle.ore_algebra.specs.Limits.{program}
-use Rattle.ore_rational.proofs.FractionLaws.{rationals}
+use Rattle.ore_rational.specs.Field.{rationals}
 use Rattle.ore_monomial.specs.Signature.{Signature}
 use Rattle.ore_monomial.proofs.Signatures.{lawful}
 use Rattle.ore_ring.specs.Belongs.{Belongs}
@@ -24,7 +24,7 @@ use Rattle.ore_blocks.specs.CheckBlock.{plain}
 use Rattle.ore_blocks.proofs.Converted.{wide_rows, rows_are_of}
 use Rattle.ore_groebner.proofs.Complete.{complete_exact}
 use Rattle.ore_groebner.proofs.Holding.{wide_syzygies}
-use Rattle.ore_groebner.specs.Honest.{IsHonest}
+use Rattle.ore_groebner.specs.Honest.{IsHonestRun}
 use Rattle.ore_groebner.specs.declared.outcome.Finished.{Finished}
 use Rattle.ore_groebner.specs.Courses.{last_of}
 use Rattle.ore_syzygy.specs.Kernels.{IsRightKernel, adjoint_rows, right_answer}
@@ -37,7 +37,7 @@ module _ (s : Signature) where
   pub matrix_of : (m : OperatorMatrix) (n : ℕ) → HasColumns n m.rows → n ≡ m.cols → All (All (Belongs s)) m.rows → MatrixOf s m
   matrix_of m n columns e of = record { columns = subst (λ n. HasColumns n m.rows) e columns; of = of }
 
-  module _ (f : Finished) (a : OperatorMatrix) (choices : List Choice) (h : IsHonest s a choices f) where
+  module _ (f : Finished) (a : OperatorMatrix) (choices : List Choice) (h : IsHonestRun s a choices f) where
     pub syzygies_width : f.syzygies.cols ≡ length (rows_of a)
     syzygies_width = h.syzygy_cols ∙ sym (length-map a.rows sums_of)
 
@@ -49,7 +49,7 @@ module _ (s : Signature) where
       generators = record { cols = (length-map f.syzygies.rows sums_of ∙ sym cols) i; rows = rows_of generators };
     }
 
-  module _ (f : Finished) (a : OperatorMatrix) (choices : List Choice) (h : IsHonest s a choices f) (of : MatrixOf s a) where
+  module _ (f : Finished) (a : OperatorMatrix) (choices : List Choice) (h : IsHonestRun s a choices f) (of : MatrixOf s a) where
     pub run_exact : IsExact rationals s a.cols (rows_of a) (rows_of f.syzygies)
     run_exact = subst (IsExact rationals s a.cols (rows_of a)) h.syzygies
         (complete_exact rationals s (lawful s) s.order a.cols (rows_of a) (wide_rows s a of) (rows_are_of s a of) h.last (holds s f a choices h of) h.complete)

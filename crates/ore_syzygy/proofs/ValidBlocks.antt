@@ -7,7 +7,7 @@ use Rattle.std.specs.List.{All}
 use Rattle.std.specs.declared.result.Result.TheVariants.{Ok}
 use Rattle.std.proofs.lemmas.List.{length-map}
 use Rattle.ore_algebra.specs.Limits.{program}
-use Rattle.ore_rational.proofs.FractionLaws.{rationals}
+use Rattle.ore_rational.specs.Field.{rationals}
 use Rattle.ore_monomial.specs.Signature.{Signature}
 use Rattle.ore_monomial.proofs.Signatures.{lawful}
 use Rattle.ore_ring.specs.Belongs.{Belongs}
@@ -22,7 +22,7 @@ use Rattle.ore_rows.proofs.StoredRows.{row_of_stored, rows_of_stored}
 use Rattle.ore_division.specs.StoredWork.{work_of}
 use Rattle.ore_division.specs.declared.division.Reduced.{Reduced}
 use Rattle.ore_pairs.specs.Blocks as blocks
-use Rattle.ore_pairs.specs.Run.{State, from_rows}
+use Rattle.ore_pairs.specs.Run.{RunState, from_rows}
 use Rattle.ore_pairs.specs.RunBlocks.{exact_of_run, outside_of_run}
 use Rattle.ore_parts.specs.OfSignature.{MatrixOf, IsExactOf, IsOutsideOf}
 use Rattle.ore_parts.specs.declared.block.ExactBlock.{ExactBlock}
@@ -41,14 +41,14 @@ use Rattle.ore_groebner.proofs.Holding.{Holds, long_rows, wide_cofactors}
 use Rattle.ore_groebner.proofs.Placing.{long_placed}
 use Rattle.ore_groebner.proofs.Returning.{long_from_rows}
 use Rattle.ore_groebner.proofs.ReducedRows.{IsRestOf, rest_reduced}
-use Rattle.ore_syzygy.specs.RunBlock.{HasRun, IsExactBlockOf, IsOutsideBlockOf}
+use Rattle.ore_syzygy.specs.RunBlock.{HasRun, IsExactBlockOfRun, IsOutsideBlockOfRun}
 use Rattle.ore_syzygy.proofs.HonestBlocks.{holds, last_is}
 
 module _ (s : Signature) (f : Finished) (r : HasRun s f) where
   abbrev a : RowMatrix
   a = plain r.matrix
 
-  abbrev last : State rationals
+  abbrev last : RunState rationals
   last = r.honest.last
 
   here : Holds rationals s s.order r.matrix.cols (rows_of r.matrix) r.honest.last
@@ -72,7 +72,7 @@ module _ (s : Signature) (f : Finished) (r : HasRun s f) where
     valid = subst (λ n. blocks.IsValidExact rationals s s.order r.matrix.cols (rows_of r.matrix) (rows_of m) (exact_of_run rationals s.order (rows_of r.matrix) last n (rows_of inside))) (sym columns)
         (exact_valid rationals s (lawful s) s.order r.matrix.cols (rows_of r.matrix) (wide_rows s r.matrix r.matrix_of) last here r.honest.complete (rows_of m) (rows_of inside) rows.wide rows.annihilates rows.long (rows.product ∙ sym r.honest.syzygies))
 
-    pub exact_right : (b : ExactBlock) → IsExactBlockOf s f inside b → IsValidExactFor s (plain r.matrix) (plain m) b × IsExactOf s b
+    pub exact_right : (b : ExactBlock) → IsExactBlockOfRun s f inside b → IsValidExactFor s (plain r.matrix) (plain m) b × IsExactOf s b
     exact_right b made =
         subst (λ (b : ExactBlock). IsValidExactFor s a (plain m) b × IsExactOf s b) (sym (made r.matrix r.choices r.honest ∙ ap (λ st. exact_block_of s a st (plain inside)) (sym (last_is s f r.matrix r.choices r.honest)))) (
           exact_block-valid s a last (plain inside) (plain m) columns valid,
@@ -96,7 +96,7 @@ module _ (s : Signature) (f : Finished) (r : HasRun s f) where
         outside_valid rationals s (lawful s) (within program s) (within_sound program s) r.matrix.cols (rows_of r.matrix) (wide_rows s r.matrix r.matrix_of) last here r.honest.complete
         (sums_of row) (zero_row rationals (length (rows_of r.matrix))) wide_row (work_of left) reduced more
 
-    pub outside_right : (b : OutsideBlock) → IsOutsideBlockOf s f left.steps left.row b → IsValidOutsideFor s (plain r.matrix) (sums_of row) b × IsOutsideOf s b
+    pub outside_right : (b : OutsideBlock) → IsOutsideBlockOfRun s f left.steps left.row b → IsValidOutsideFor s (plain r.matrix) (sums_of row) b × IsOutsideOf s b
     outside_right b made =
         let of_matrix = rows_are_of s r.matrix r.matrix_of in
         let of_row = row_of_stored s row of in

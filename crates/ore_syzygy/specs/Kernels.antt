@@ -5,7 +5,7 @@
 --     IsRunOnAdjoint     a run by these choices on the transposed adjoint of a matrix
 --     right_answer       the answer of the course of a right kernel
 use Rattle.std.specs.Prelude.{◌≡◌, List, length}
-use Rattle.ore_rational.proofs.FractionLaws.{rationals}
+use Rattle.ore_rational.specs.Field.{rationals}
 use Rattle.ore_monomial.specs.Signature.{Signature}
 use Rattle.ore_rows.specs.Rows.{IsExact, transpose_adjoint}
 use Rattle.ore_rows.specs.Stored.{OperatorMatrix, rows_of}
@@ -13,7 +13,7 @@ use Rattle.ore_rows.specs.declared.choices.Choice.{Choice}
 use Rattle.ore_blocks.specs.CheckBlock.{RowMatrix, plain}
 use Rattle.ore_blocks.specs.KernelCourse.{RightKernel}
 use Rattle.ore_groebner.specs.Courses.{last_of}
-use Rattle.ore_groebner.specs.Honest.{IsHonest}
+use Rattle.ore_groebner.specs.Honest.{IsHonestRun}
 use Rattle.ore_groebner.specs.declared.outcome.Finished.{Finished}
 use Rattle.ore_syzygy.specs.declared.kernel.Kernel.{Kernel}
 
@@ -37,7 +37,7 @@ module _ (s : Signature) where
 
   -- the choices lead to it
   abbrev pub IsRunOnAdjoint : OperatorMatrix → List Choice → Finished → Type 0
-  IsRunOnAdjoint r choices f = (a : OperatorMatrix) × (plain a ≡ adjoint_rows r) × IsHonest s a choices f
+  IsRunOnAdjoint r choices f = (a : OperatorMatrix) × (plain a ≡ adjoint_rows r) × IsHonestRun s a choices f
 
   -- the transposed adjoint, the last state of the run on its rows, and the generators
   abbrev pub right_answer : OperatorMatrix → Kernel → RightKernel

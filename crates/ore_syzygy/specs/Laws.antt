@@ -9,7 +9,7 @@ use Rattle.std.specs.Prelude.{◌≡◌, ◌≢◌, ◌⊎◌, ℕ, List, ◌∷
 use Rattle.std.specs.List.{All, AllByRecursion}
 use Rattle.std.specs.declared.result.Result.TheVariants.{Ok}
 use Rattle.ore_algebra.specs.Limits.{program}
-use Rattle.ore_rational.proofs.FractionLaws.{rationals}
+use Rattle.ore_rational.specs.Field.{rationals}
 use Rattle.ore_monomial.specs.Signature.{Signature}
 use Rattle.ore_ring.specs.Belongs.{Belongs}
 use Rattle.ore_ring.specs.Ordered.{Ordered}
@@ -28,20 +28,20 @@ use Rattle.ore_blocks.specs.CheckBlock.{plain}
 use Rattle.ore_blocks.specs.Valid.{IsValidExactFor, IsValidOutsideFor}
 use Rattle.ore_groebner.specs.BlockLaws.{AreInsideRows}
 use Rattle.ore_groebner.specs.declared.outcome.Finished.{Finished}
-use Rattle.ore_syzygy.specs.RunBlock.{HasRun, IsExactBlockOf, IsOutsideBlockOf}
+use Rattle.ore_syzygy.specs.RunBlock.{HasRun, IsExactBlockOfRun, IsOutsideBlockOfRun}
 
 module _ (s : Signature) where
   -- m has a column for each row of the matrix of the run, and `inside` a row for each syzygy and a column for each row of m
   abbrev pub ExactBlockIsValid : Type 0
   ExactBlockIsValid = (f : Finished) (r : HasRun s f) (m inside : OperatorMatrix) (b : ExactBlock)
       → AreInsideRows s r.matrix.cols (rows_of r.matrix) (rows_of m) (rows_of inside) (rows_of f.syzygies) → inside.cols ≡ length m.rows → All (All (Belongs s)) inside.rows
-      → IsExactBlockOf s f inside b → IsValidExactFor s (plain r.matrix) (plain m) b × IsExactOf s b
+      → IsExactBlockOfRun s f inside b → IsValidExactFor s (plain r.matrix) (plain m) b × IsExactOf s b
 
   -- the row has an entry for each column of the matrix of the run, and its cofactor row begins as zeros
   abbrev pub OutsideBlockIsValid : Type 0
   OutsideBlockIsValid = (f : Finished) (r : HasRun s f) (row : List Ordered) (left : Reduced) (b : OutsideBlock) → length row ≡ r.matrix.cols → All (Belongs s) row
       → reduce_row rationals s.order (within program s) (length r.matrix.rows) (monics f.basis) (sums_of row) ≡ Ok (work_of left) → sums_of left.row ≢ zero_row rationals r.matrix.cols
-      → IsOutsideBlockOf s f left.steps left.row b → IsValidOutsideFor s (plain r.matrix) (sums_of row) b × IsOutsideOf s b
+      → IsOutsideBlockOfRun s f left.steps left.row b → IsValidOutsideFor s (plain r.matrix) (sums_of row) b × IsOutsideOf s b
 
   -- ---- torsion
 

@@ -3,11 +3,11 @@
 ghost use Rattle.std.specs.Prelude.{◌≡◌, length, IfOk, IfErr};
 ghost use Rattle.std.specs.List.{All};
 ghost use Rattle.ore_monomial.specs.declared.stop.RingStop.TheVariants.{Memory};
-ghost use Rattle.ore_ring.specs.Belongs.{Belongs};
+ghost use Rattle.ore_ring.specs.Belongs.{AllBelong};
 ghost use Rattle.ore_parts.specs.OfSignature.{IsExactOf};
-ghost use Rattle.ore_syzygy.specs.RunBlock.{HasRun, IsExactBlockOf, IsOutsideBlockOf};
+ghost use Rattle.ore_syzygy.specs.RunBlock.{HasRun, IsExactBlockOfRun, IsOutsideBlockOfRun};
 
-use crate::copies::{basis_rows, cofactor_rows, matrix_copy, steps_copy};
+use crate::copies::steps_copy;
 use crate::inside::inside_rows;
 use crate::pairs::pairs_of;
 use ore_division::Reduced;
@@ -27,24 +27,57 @@ use std::alloc::Global;
 pub fn exact_block<R: OreRing>(
     ring: &R,
     alloc: Global,
-    run: &Finished,
-    inside_of: &Matrix,
+    run: Finished,
+    inside_of: Matrix,
 ) -> Result<ExactBlock, RingStop>
-    requires run { HasRun (R.sig ring.now) run.now }
-    requires count { length inside_of.now.rows ≡ length run.now.syzygies.rows }
-    requires inside_of { All (All (Belongs (R.sig ring.now))) inside_of.now.rows }
-    ensures value { IfOk result (IsExactBlockOf (R.sig ring.now) run.now inside_of.now) }
+    requires run { HasRun (R.sig ring.now) run }
+    requires count { length inside_of.rows ≡ length run.syzygies.rows }
+    requires inside_of { All (AllBelong (R.sig ring.now)) inside_of.rows }
+    ensures value { IfOk result (IsExactBlockOfRun (R.sig ring.now) run inside_of) }
     ensures of { IfOk result (IsExactOf (R.sig ring.now)) }
     ensures memory { IfErr result (λ e. e ≡ Memory) }
 {
+    let (_, block) = syzygies_with_block(ring, alloc, run, inside_of)?;
+    Ok(block)
+}
+
+/// The syzygies of a complete run, and its [`exact_block`].
+///
+/// # Errors
+/// Want of memory.
+pub fn syzygies_with_block<R: OreRing>(
+    ring: &R,
+    alloc: Global,
+    run: Finished,
+    inside_of: Matrix,
+) -> Result<(Matrix, ExactBlock), RingStop>
+    requires run { HasRun (R.sig ring.now) run }
+    requires count { length inside_of.rows ≡ length run.syzygies.rows }
+    requires inside_of { All (AllBelong (R.sig ring.now)) inside_of.rows }
+    ensures syzygies { IfOk result (λ p. p.0 ≡ run.syzygies) }
+    ensures value { IfOk result (λ p. IsExactBlockOfRun (R.sig ring.now) run inside_of p.1) }
+    ensures of { IfOk result (λ p. IsExactOf (R.sig ring.now) p.1) }
+    ensures memory { IfErr result (λ e. e ≡ Memory) }
+{
     let _fits = inside_of.cols();
-    Ok(ExactBlock {
-        basis: basis_rows(ring, alloc, &run.basis)?,
-        from: matrix_copy(ring, alloc, &run.from)?,
-        to: cofactor_rows(ring, alloc, &run.basis)?,
-        pairs: pairs_of(alloc, run)?,
-        inside: inside_rows(ring, alloc, run, inside_of)?,
-    })
+    let Finished {
+        basis,
+        from,
+        events,
+        syzygies,
+        origins,
+    } = run;
+    let inside = inside_rows(ring, alloc, &syzygies, &events, &origins, &inside_of)?;
+    let pairs = pairs_of(alloc, &basis, events)?;
+    let (rows, cofactors) = basis.into_matrices(alloc)?;
+    let block = ExactBlock {
+        basis: rows,
+        from,
+        to: cofactors,
+        pairs,
+        inside,
+    };
+    Ok((syzygies, block))
 }
 
 /// The outside block of a complete run on a matrix, for a row that was reduced by its basis: basis, combinations and
@@ -55,19 +88,31 @@ pub fn exact_block<R: OreRing>(
 pub fn outside_block<R: OreRing>(
     ring: &R,
     alloc: Global,
-    run: &Finished,
+    run: Finished,
     reduced: &Reduced,
 ) -> Result<OutsideBlock, RingStop>
-    requires run { HasRun (R.sig ring.now) run.now }
-    requires rest_of { All (Belongs (R.sig ring.now)) reduced.now.row }
-    ensures value { IfOk result (IsOutsideBlockOf (R.sig ring.now) run.now reduced.now.steps reduced.now.row) }
+    requires run { HasRun (R.sig ring.now) run }
+    requires rest_of { AllBelong (R.sig ring.now) reduced.now.row }
+    ensures value { IfOk result (IsOutsideBlockOfRun (R.sig ring.now) run reduced.now.steps reduced.now.row) }
     ensures memory { IfErr result (λ e. e ≡ Memory) }
 {
-    Ok(OutsideBlock {
-        basis: basis_rows(ring, alloc, &run.basis)?,
-        from: matrix_copy(ring, alloc, &run.from)?,
-        pairs: pairs_of(alloc, run)?,
-        quotients: steps_copy(alloc, &reduced.steps)?,
-        rest: row_copy(ring, alloc, &reduced.row)?,
-    })
+    let Finished {
+        basis,
+        from,
+        events,
+        syzygies: _,
+        origins: _,
+    } = run;
+    let pairs = pairs_of(alloc, &basis, events)?;
+    let (basis_rows, _) = basis.into_matrices(alloc)?;
+    let quotients = steps_copy(alloc, &reduced.steps)?;
+    let rest = row_copy(ring, alloc, &reduced.row)?;
+    let block = OutsideBlock {
+        basis: basis_rows,
+        from,
+        pairs,
+        quotients,
+        rest,
+    };
+    Ok(block)
 }

@@ -2,7 +2,7 @@
 
 ghost use Rattle.std.specs.Prelude.{◌≡◌, ◌<◌, ◌^◌, ◌++◌, ◌∷◌, List, ℕ, suc, length, map, IfOk, IfErr};
 ghost use Rattle.std.specs.List.{range_with_len};
-ghost use Rattle.ore_rational.proofs.FractionLaws.{rationals};
+ghost use Rattle.ore_rational.specs.Field.{rationals};
 ghost use Rattle.ore_monomial.specs.declared.stop.RingStop.TheVariants.{Memory};
 ghost use Rattle.ore_rows.specs.Rows as rows;
 ghost use Rattle.ore_rows.specs.declared.choices.Origin.TheVariants as origins;
@@ -11,26 +11,28 @@ ghost use Rattle.ore_blocks.specs.BlockOfRun.{ordered_row};
 ghost use Rattle.ore_groebner.specs.RunProgress.{entries_from};
 ghost use Rattle.ore_groebner.specs.declared.outcome.Event.{Event as Done};
 
-use ore_groebner::{Event, Events, Finished, Origins};
+use ore_groebner::{Event, Events, Origins};
 use ore_monomial::{NoMemory, RingStop, Signature};
 use ore_ring::{Op, OreRing};
 use ore_rows::{Matrix, Origin, Row, row_copy};
 use std::alloc::Global;
 
-// A row for each row of the matrix of the run and each treated pair: the one that is given for the syzygy which comes
-// from it, and zeros where none does.
+// A row for each row of the matrix of a run, which is a column of the syzygies, and for each treated pair: the one that is
+// given for the syzygy which comes from it, and zeros where none does.
 pub(crate) fn inside_rows<R: OreRing>(
     ring: &R,
     alloc: Global,
-    run: &Finished,
+    syzygies: &Matrix,
+    events: &Events,
+    origins: &Origins,
     given: &Matrix,
 ) -> Result<Matrix, RingStop>
-    requires { length run.now.origins ≡ length given.now.rows }
-    ensures value { IfOk result (λ x. (n : ℕ) → x ≡ record { cols = given.now.cols; rows = map (row_from run.now.origins given.now.rows (ordered_row (R.sig ring.now).order (rows.zero_row rationals given.now.cols))) (inside_origins run.now.syzygies.cols (entries_from n run.now.events)) }) }
+    requires { length origins.now ≡ length given.now.rows }
+    ensures value { IfOk result (λ x. (n : ℕ) → x ≡ record { cols = given.now.cols; rows = map (row_from origins.now given.now.rows (ordered_row (R.sig ring.now).order (rows.zero_row rationals given.now.cols))) (inside_origins syzygies.now.cols (entries_from n events.now)) }) }
     ensures memory { IfErr result (λ e. e ≡ Memory) }
 {
-    let places = origins_of(alloc, run.syzygies.cols(), &run.events)?;
-    rows_at(ring, alloc, &run.origins, given, &places)
+    let places = origins_of(alloc, syzygies.cols(), events)?;
+    rows_at(ring, alloc, origins, given, &places)
 }
 
 // The rows that stand beside some origins, and zeros where none does.

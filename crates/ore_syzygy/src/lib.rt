@@ -11,7 +11,8 @@
 //! (`ore_blocks/specs/BlockOfRun.antt`), on whatever matrix the run was; they stop for want of memory alone. The law
 //! function of [`laws`] says that such a block is valid, and of the signature (`specs/Laws.antt`).
 //!
-//! A block copies the rows of the run. Its inside rows are looked for beside their origins, from the first on.
+//! A block takes the parts of the run, and [`syzygies_with_block`] gives its syzygies back. Its inside rows are looked for
+//! beside their origins, from the first on.
 //!
 //! The crate stands on `ore_groebner` for runs, on `ore_adjoint` for transposed adjoints, and on `ore_parts` and
 //! `ore_blocks` for blocks. It doesn't stand on the check of certificates.
@@ -24,5 +25,5 @@ pub mod kernel;
 pub mod laws;
 mod pairs;
 
-pub use block::{exact_block, outside_block};
+pub use block::{exact_block, outside_block, syzygies_with_block};
 pub use kernel::{Kernel, left_kernel, right_kernel};

@@ -7,20 +7,19 @@ ghost use Rattle.ore_groebner.specs.RunProgress.{entries_from, new_rows};
 ghost use Rattle.ore_groebner.specs.declared.outcome.Event.{Event as Done};
 ghost use Rattle.ore_groebner.specs.declared.outcome.Event.TheVariants.{Treated};
 
-use crate::copies::steps_copy;
-use ore_groebner::{Event, Events, Finished, Outcome};
+use ore_groebner::{Event, Events, Outcome};
 use ore_monomial::{Exps, NoMemory};
 use ore_parts::{PairEntry, Pairs};
-use ore_rows::{Step, Steps};
+use ore_rows::{Basis, Step, Steps};
 use std::alloc::Global;
 
 // The pairs of a run, each with what was done with it.
-pub(crate) fn pairs_of(alloc: Global, run: &Finished) -> Result<Pairs, NoMemory>
-    requires { new_rows run.now.events ≤ length run.now.basis.items }
-    ensures { IfOk result (λ x. x ≡ map stored_entry (entries_from (length run.now.basis.items - new_rows run.now.events) run.now.events)) }
+pub(crate) fn pairs_of(alloc: Global, basis: &Basis, events: Events) -> Result<Pairs, NoMemory>
+    requires { new_rows events ≤ length basis.now.items }
+    ensures { IfOk result (λ x. x ≡ map stored_entry (entries_from (length basis.now.items - new_rows events) events)) }
 {
-    let first = run.basis.len() - count_new(&run.events);
-    entries(alloc, &run.events, first)
+    let first = basis.len() - count_new(&events);
+    entries(alloc, events, first)
 }
 
 // How many events made a basis row.
@@ -55,15 +54,15 @@ fn rows_made(event: &Event) -> usize
 }
 
 // The entries of events, where so many basis rows stood before the first.
-fn entries(alloc: Global, events: &Events, first: usize) -> Result<Pairs, NoMemory>
+fn entries(alloc: Global, events: Events, first: usize) -> Result<Pairs, NoMemory>
     requires few { first < 2 ^ 63 }
-    ensures { IfOk result (λ x. x ≡ map stored_entry (entries_from first events.now)) }
+    ensures { IfOk result (λ x. x ≡ map stored_entry (entries_from first events)) }
 {
     events.few();
-    let mut out = Vec::new(alloc);
+    let mut out = Vec::with_capacity(alloc, events.len())?;
     let mut next = first;
-    for k in 0..events.len() {
-        let (entry, after) = entry_of(alloc, events.get(k), next)?;
+    for event in events.into_vec() {
+        let (entry, after) = entry_of(event, next)?;
         out.push(entry)?;
         next = after;
     }
@@ -71,9 +70,9 @@ fn entries(alloc: Global, events: &Events, first: usize) -> Result<Pairs, NoMemo
 }
 
 // The entry of an event, where `next` basis rows stand before it, and how many stand behind it.
-fn entry_of(alloc: Global, event: &Event, next: usize) -> Result<(PairEntry, usize), NoMemory>
+fn entry_of(event: Event, next: usize) -> Result<(PairEntry, usize), NoMemory>
     requires few { next + 1 < 2 ^ 64 }
-    ensures value { IfOk result (λ p. (rest : List Done) → map stored_entry (entries_from next (event.now ∷ rest)) ≡ p.0 ∷ map stored_entry (entries_from p.1 rest)) }
+    ensures value { IfOk result (λ p. (rest : List Done) → map stored_entry (entries_from next (event ∷ rest)) ≡ p.0 ∷ map stored_entry (entries_from p.1 rest)) }
     ensures after { IfOk result (λ p. p.1 ≤ next + 1) }
 {
     match event {
@@ -83,47 +82,27 @@ fn entry_of(alloc: Global, event: &Event, next: usize) -> Result<(PairEntry, usi
             steps,
             outcome,
         } => {
-            let (steps, after) = all_steps(alloc, steps, outcome, next)?;
-            Ok((
-                PairEntry::Pair {
-                    i: *i,
-                    j: *j,
-                    steps,
-                },
-                after,
-            ))
+            let (steps, after) = all_steps(steps, outcome, next)?;
+            Ok((PairEntry::Pair { i, j, steps }, after))
         }
-        Event::Skipped { i, j, via } => Ok((
-            PairEntry::Skip {
-                i: *i,
-                j: *j,
-                via: *via,
-            },
-            next,
-        )),
+        Event::Skipped { i, j, via } => Ok((PairEntry::Skip { i, j, via }, next)),
     }
 }
 
 // The steps of a treated pair, with the one that takes a new basis row away, and how many basis rows stand behind it.
-fn all_steps(
-    alloc: Global,
-    steps: &Steps,
-    outcome: &Outcome,
-    next: usize,
-) -> Result<(Steps, usize), NoMemory>
+fn all_steps(steps: Steps, outcome: Outcome, next: usize) -> Result<(Steps, usize), NoMemory>
     requires few { next + 1 < 2 ^ 64 }
-    ensures value { IfOk result (λ p. (i j : ℕ) (rest : List Done) → entries_from next (Treated i j steps.now outcome.now ∷ rest) ≡ listed.Pair i j p.0 ∷ entries_from p.1 rest) }
+    ensures value { IfOk result (λ p. (i j : ℕ) (rest : List Done) → entries_from next (Treated i j steps outcome ∷ rest) ≡ listed.Pair i j p.0 ∷ entries_from p.1 rest) }
     ensures after { IfOk result (λ p. p.1 ≤ next + 1) }
 {
-    let copied = steps_copy(alloc, steps)?;
     match outcome {
-        Outcome::Zero => Ok((copied, next)),
+        Outcome::Zero => Ok((steps, next)),
         Outcome::NewRow { coef } => {
-            let mut taken = copied.into_vec();
+            let mut taken = steps.into_vec();
             taken.push(Step {
                 index: next,
                 exps: Exps::zero(),
-                coef: *coef,
+                coef,
             })?;
             Ok((Steps::from_vec(taken), next + 1))
         }

@@ -1,6 +1,6 @@
 use Rattle.std.proofs.Common.{◌≡◌, ◌≤◌, ◌++◌, map, drop}
 use Rattle.std.specs.List.{All}
-use Rattle.ore_rational.proofs.FractionLaws.{rationals}
+use Rattle.ore_rational.specs.Field.{rationals}
 use Rattle.ore_ring.specs.Belongs.{Belongs}
 use Rattle.ore_pairs.specs.Run.{from_rows}
 use Rattle.ore_rows.specs.Stored.{HasColumns, rows_of, sums_of}

@@ -1,5 +1,5 @@
 use Rattle.std.proofs.Common.{ap, ◌∙◌}
-use Rattle.ore_rational.proofs.FractionLaws.{rationals}
+use Rattle.ore_rational.specs.Field.{rationals}
 use Rattle.ore_monomial.specs.Term.{Term}
 use Rattle.ore_pairs.specs.Run.{constant, entry_row}
 use Rattle.ore_rows.specs.Stored.{sums_of}

@@ -5,7 +5,7 @@ use Rattle.std.proofs.lemmas.List.{length-map}
 use Rattle.std.proofs.lemmas.Option.{slice_get-map}
 use Rattle.std.proofs.lemmas.Result.{err_from_is_err_and}
 use Rattle.ore_algebra.specs.Limits.{program}
-use Rattle.ore_rational.proofs.FractionLaws.{rationals, rational_inverses}
+use Rattle.ore_rational.specs.Field.{rationals, rational_inverses}
 use Rattle.ore_monomial.proofs.Stops.{fails_like}
 use Rattle.ore_ring.specs.Belongs.{Belongs}
 use Rattle.ore_rows.specs.Arithmetic.{within}

@@ -1,6 +1,6 @@
 use Rattle.std.proofs.Common.{◌≡◌, ◌≤◌, length, drop}
 use Rattle.ore_algebra.specs.Limits.{program}
-use Rattle.ore_rational.proofs.FractionLaws.{rationals, rational_inverses}
+use Rattle.ore_rational.specs.Field.{rationals, rational_inverses}
 use Rattle.ore_rows.specs.Arithmetic.{within}
 use Rattle.ore_pairs.specs.Run as run
 use Rattle.ore_rows.specs.Stored.{rows_of}

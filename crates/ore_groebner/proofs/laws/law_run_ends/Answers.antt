@@ -1,6 +1,6 @@
 use Rattle.std.proofs.Common.{refl, sym, subst}
 use Rattle.ore_course.specs.Bounded.{Extends}
-use Rattle.ore_rational.proofs.FractionLaws.{rationals, rational_inverses}
+use Rattle.ore_rational.specs.Field.{rationals, rational_inverses}
 use Rattle.ore_monomial.proofs.Signatures.{lawful}
 use Rattle.ore_rows.specs.Arithmetic.{within}
 use Rattle.ore_rows.proofs.SoundArithmetic.{within_sound, within_unlimited}

@@ -1,4 +1,4 @@
-use Rattle.ore_rational.proofs.FractionLaws.{rationals, rational_inverses}
+use Rattle.ore_rational.specs.Field.{rationals, rational_inverses}
 use Rattle.ore_rows.specs.Arithmetic.{within}
 use Rattle.ore_rows.proofs.SoundArithmetic.{within_sound}
 use Rattle.ore_groebner.proofs.Limited.{follows_most, begin_most, run_follows, begin_comes, run_unlawful}

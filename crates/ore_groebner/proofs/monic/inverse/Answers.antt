@@ -5,7 +5,7 @@ use Rattle.ore_algebra.proofs.DomainLaws
 use Rattle.ore_rational.specs.Fraction.{Fraction, div, inverse}
 use Rattle.ore_rational.specs.Range.{InRange}
 use Rattle.ore_rational.specs.Within.{fits}
-use Rattle.ore_rational.proofs.FractionLaws.{rationals}
+use Rattle.ore_rational.specs.Field.{rationals}
 use Rattle.ore_groebner.proofs.StoredMonics.{fits_inverse}
 use Rattle.ore_groebner.proofs.monic.inverse.Goals as goal
 

@@ -1,9 +1,9 @@
 use Rattle.std.proofs.Common.{subst, sym}
-use Rattle.ore_rational.proofs.FractionLaws.{rationals}
+use Rattle.ore_rational.specs.Field.{rationals}
 use Rattle.ore_monomial.specs.Signature.{Signature}
 use Rattle.ore_rows.specs.RowLead.{IsRowLead}
 use Rattle.ore_rows.specs.Stored.{sums_of}
-use Rattle.ore_rows.specs.StoredBasis.{StoredBasis, AllBelong}
+use Rattle.ore_rows.specs.StoredBasis.{StoredBasis, BasisBelongs}
 use Rattle.ore_rows.proofs.StoredBases.{all_belong-push}
 use Rattle.ore_groebner.proofs.StoredMonics.{same_lead, pushed_gives}
 use Rattle.ore_groebner.proofs.monic.push_monic.Goals as goal
@@ -22,4 +22,4 @@ pub returns-clause-basis_of : goal.returns-clause-basis_of
 returns-clause-basis_of g c =
     let s = g.R.OreRing.sig c.args.ring.now in
     let p = c.in_ok-push.ensures.pushed in
-    subst (λ (b : StoredBasis). AllBelong s b.items) (sym p.2) (all_belong-push s c.args.basis (record { row = c.in_ok-monic.monic; cofactor = c.in_ok-monic.scaled; lead = p.0 }) c.requires.basis_of c.in_ok-monic.ensures.row_of c.in_ok-monic.ensures.cofactor_of)
+    subst (λ (b : StoredBasis). BasisBelongs s b.items) (sym p.2) (all_belong-push s c.args.basis (record { row = c.in_ok-monic.monic; cofactor = c.in_ok-monic.scaled; lead = p.0 }) c.requires.basis_of c.in_ok-monic.ensures.row_of c.in_ok-monic.ensures.cofactor_of)

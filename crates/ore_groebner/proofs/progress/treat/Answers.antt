@@ -17,4 +17,4 @@ returns-in_err-work-clause-gives g c =
     rw (p.1, p.2) (fails_like _ _ _ (λ e h. treat_second (g.R.OreRing.sig c.args.ring.now) (state_of c.args.progress) c.args.i c.args.j _ e c.in_ok-row.ensures.gives h) c.in_err-work.ensures.gives)
 
 pub returns-clause-gives : goal.returns-clause-gives
-returns-clause-gives g c = subst (Gives state_of c.settle.result) (sym (treat_last (g.R.OreRing.sig c.args.ring.now) (state_of c.args.progress) c.args.i c.args.j _ _ c.in_ok-row.ensures.gives c.in_ok-work.ensures.gives)) c.settle.ensures.gives
+returns-clause-gives g c = subst (Gives state_of c.add_remainder.result) (sym (treat_last (g.R.OreRing.sig c.args.ring.now) (state_of c.args.progress) c.args.i c.args.j _ _ c.in_ok-row.ensures.gives c.in_ok-work.ensures.gives)) c.add_remainder.ensures.gives

@@ -1,11 +1,11 @@
 use Rattle.std.proofs.Common.{◌∷◌, [], ◌++◌, map, refl, sym, ap, ◌∙◌, true≢false}
 use Rattle.ore_rows.specs.Stored.{sums_of}
-use Rattle.std.proofs.lemmas.List.{map-append}
-use Rattle.ore_groebner.proofs.ProgressParts.{append_nil, unless_zero-zero, unless_zero-row, more_syzygies}
+use Rattle.std.proofs.lemmas.List.{map-append, append-nil}
+use Rattle.ore_groebner.proofs.ProgressParts.{unless_zero-zero, unless_zero-row, more_syzygies}
 use Rattle.ore_groebner.proofs.progress.with_syzygy.Goals as goal
 
 pub returns-then-is_zero-clause-syzygies : goal.returns-then-is_zero-clause-syzygies
-returns-then-is_zero-clause-syzygies c = sym (ap (λ rs. map sums_of c.args.progress.syzygies.items ++ rs) (unless_zero-zero c.args.sig.now.order c.args.cofactor (c.if-is_zero.ensures.0 refl)) ∙ append_nil _)
+returns-then-is_zero-clause-syzygies c = sym (ap (λ rs. map sums_of c.args.progress.syzygies.items ++ rs) (unless_zero-zero c.args.sig.now.order c.args.cofactor (c.if-is_zero.ensures.0 refl)) ∙ append-nil _)
 
 pub returns-clause-syzygies : goal.returns-clause-syzygies
 returns-clause-syzygies c =
@@ -17,7 +17,7 @@ pub returns-clause-kept : goal.returns-clause-kept
 returns-clause-kept c = more_syzygies c.args.sig.now c.args.progress _ c.args.cofactor c.requires.kept refl refl refl refl c.in_ok-push.ensures.items c.requires.width c.requires.of
 
 pub returns-then-is_zero-clause-origins : goal.returns-then-is_zero-clause-origins
-returns-then-is_zero-clause-origins c = sym (ap (λ rs. c.args.progress.origins.items ++ map (λ _. c.args.origin) rs) (unless_zero-zero c.args.sig.now.order c.args.cofactor (c.if-is_zero.ensures.0 refl)) ∙ append_nil _)
+returns-then-is_zero-clause-origins c = sym (ap (λ rs. c.args.progress.origins.items ++ map (λ _. c.args.origin) rs) (unless_zero-zero c.args.sig.now.order c.args.cofactor (c.if-is_zero.ensures.0 refl)) ∙ append-nil _)
 
 pub returns-clause-origins : goal.returns-clause-origins
 returns-clause-origins c =

@@ -5,14 +5,14 @@ use Rattle.ore_rows.specs.declared.choices.Choice.{Choice}
 use Rattle.ore_rows.specs.Reduction.{leads_of}
 use Rattle.ore_groebner.specs.Choosing.{Settings, present, chosen_pairs}
 use Rattle.ore_groebner.specs.Following.{earlier, given_with, IsNext, IsNextAllowed, IsLed}
-use Rattle.ore_groebner.specs.Honest.{AreAllowed}
+use Rattle.ore_groebner.specs.Honest.{RuleAllowsEach}
 use Rattle.ore_groebner.specs.RunProgress.{state_of}
-use Rattle.ore_groebner.specs.Shown.{Shown, shown_of, IsGrownFrom}
+use Rattle.ore_groebner.specs.BasisLeads.{BasisLeads, basis_leads, BeginsWithLeads}
 use Rattle.ore_groebner.proofs.Bounding.{rows_left, left_smaller}
 use Rattle.ore_groebner.proofs.Ending.{refusal_halts, refusal_spent, stop_halts, stop_not_spent}
-use Rattle.ore_groebner.proofs.Given.{afforded_next, with_choice-begun, present-with_choice, earlier-with_choice}
+use Rattle.ore_groebner.proofs.Given.{within_budget_next, with_choice-begun, present-with_choice, earlier-with_choice}
 use Rattle.ore_groebner.proofs.Leading.{allowed_push, led_next}
-use Rattle.ore_groebner.proofs.Showing.{grown_shown}
+use Rattle.ore_groebner.proofs.StateLeads.{grown_shown}
 use Rattle.ore_groebner.proofs.Stepping.{step_longer}
 use Rattle.ore_groebner.proofs.Unlisted.{unlisted}
 use Rattle.ore_groebner.proofs.run.complete.Goals as goal
@@ -29,7 +29,7 @@ returns-in_err-choice-clause-halted g c =
 pub returns-in_err-choice-clause-allowed : goal.returns-in_err-choice-clause-allowed
 returns-in_err-choice-clause-allowed g c =
     let s = g.R.OreRing.sig c.args.ring.now in
-    subst (λ runs. AreAllowed s c.args.a.now g.C.Rule.allows (present runs)) (sym c.in_err-choice.ensures.same) c.loop-progress.invariant.led.allowed
+    subst (λ runs. RuleAllowsEach s c.args.a.now g.C.Rule.allows (present runs)) (sym c.in_err-choice.ensures.same) c.loop-progress.invariant.led.allowed
 
 pub returns-in_err-choice-clause-spent_allowed : goal.returns-in_err-choice-clause-spent_allowed
 returns-in_err-choice-clause-spent_allowed g c =
@@ -67,8 +67,8 @@ returns-in_err-progress-clause-allowed g c =
     let given = g.C.Chooser.given c.loop-progress.chooser in
     let p = c.loop-progress.progress in
     let now = c.in_ok-choice.ensures.given ∙ ap (λ (o : Option Choice). given_with given o) c.in-Some.is in
-    let allowed = subst (λ (o : Option Choice). IsNextAllowed g.C.Rule.allows (shown_of p.basis) (chosen_pairs (present given)) o) c.in-Some.is c.in_ok-choice.ensures.allowed in
-    subst (AreAllowed s c.args.a.now g.C.Rule.allows) (sym (ap present now ∙ present-with_choice given c.in-Some.choice i.begun)) (allowed_push s c.args.a.now g.C.Rule.allows (present given) c.in-Some.choice p i.led c.chosen.ensures.leads allowed)
+    let allowed = subst (λ (o : Option Choice). IsNextAllowed g.C.Rule.allows (basis_leads p.basis) (chosen_pairs (present given)) o) c.in-Some.is c.in_ok-choice.ensures.allowed in
+    subst (RuleAllowsEach s c.args.a.now g.C.Rule.allows) (sym (ap present now ∙ present-with_choice given c.in-Some.choice i.begun)) (allowed_push s c.args.a.now g.C.Rule.allows (present given) c.in-Some.choice p i.led c.chosen.ensures.leads allowed)
 
 pub returns-in_err-progress-clause-spent_allowed : goal.returns-in_err-progress-clause-spent_allowed
 returns-in_err-progress-clause-spent_allowed g c =
@@ -101,15 +101,15 @@ loop-progress-preserved g c =
     let e = c.in_ok-choice.ensures in
     let f = c.in_ok-progress.ensures.followed in
     let now = e.given ∙ ap (λ (o : Option Choice). given_with given o) c.in-Some.is in
-    let allowed = subst (λ (o : Option Choice). IsNextAllowed g.C.Rule.allows (shown_of p.basis) (chosen_pairs (present given)) o) c.in-Some.is e.allowed in
+    let allowed = subst (λ (o : Option Choice). IsNextAllowed g.C.Rule.allows (basis_leads p.basis) (chosen_pairs (present given)) o) c.in-Some.is e.allowed in
     let longer = step_longer s (state_of p) (state_of q) d f.made in
     let next = subst (λ (o : Option Choice). IsNext (leads_of p.basis.items) p.listed given (g.C.Chooser.settings c.loop-progress.chooser).budget o) c.in-Some.is e.next in
     record {
       begun = λ z. with_choice-begun given d i.begun (sym now ∙ z);
       led = subst (λ cs. IsLed s a g.C.Rule.allows cs q) (sym (ap present now ∙ present-with_choice given d i.begun)) (led_next s a g.C.Rule.allows (present given) d p q i.led c.chosen.ensures.leads allowed f);
-      grown = subst (λ (shown : Shown). IsGrownFrom shown q.basis) (sym e.shown) (grown_shown s p q longer.0 i.led.kept f.kept c.chosen.ensures.leads c.cols-cols.ensures.leads longer.1);
+      grown = subst (λ (shown : BasisLeads). BeginsWithLeads shown q.basis) (sym e.shown) (grown_shown s p q longer.0 i.led.kept f.kept c.chosen.ensures.leads c.cols-cols.ensures.leads longer.1);
       earlier = ap earlier now ∙ earlier-with_choice given d ∙ i.earlier;
-      afforded = λ h. afforded_next given (g.C.Chooser.given c.chosen.new.chooser) (g.C.Chooser.settings c.loop-progress.chooser).budget (g.C.Chooser.settings c.chosen.new.chooser).budget d i.begun now (ap (λ (v : Settings). v.budget) c.chosen.ensures.settings) next.1 (i.afforded h);
+      within_budget = λ h. within_budget_next given (g.C.Chooser.given c.chosen.new.chooser) (g.C.Chooser.settings c.loop-progress.chooser).budget (g.C.Chooser.settings c.chosen.new.chooser).budget d i.begun now (ap (λ (v : Settings). v.budget) c.chosen.ensures.settings) next.1 (i.within_budget h);
       settings = c.chosen.ensures.settings ∙ i.settings;
     }
 
@@ -118,14 +118,14 @@ returns-clause-allowed g c =
     let s = g.R.OreRing.sig c.args.ring.now in
     let given = g.C.Chooser.given c.loop-progress.chooser in
     let now = c.in_ok-choice.ensures.given ∙ ap (λ (o : Option Choice). given_with given o) c.in_default.is in
-    subst (λ runs. AreAllowed s c.args.a.now g.C.Rule.allows (present runs)) (sym now) c.loop-progress.invariant.led.allowed
+    subst (λ runs. RuleAllowsEach s c.args.a.now g.C.Rule.allows (present runs)) (sym now) c.loop-progress.invariant.led.allowed
 
-pub returns-in_err-progress-clause-afforded : goal.returns-in_err-progress-clause-afforded
-returns-in_err-progress-clause-afforded g c h =
+pub returns-in_err-progress-clause-within_budget : goal.returns-in_err-progress-clause-within_budget
+returns-in_err-progress-clause-within_budget g c h =
     let x = c.loop-progress.chooser in
     let i = c.loop-progress.invariant in
     let p = c.loop-progress.progress in
     let given = g.C.Chooser.given x in
     let now = c.in_ok-choice.ensures.given ∙ ap (λ (o : Option Choice). given_with given o) c.in-Some.is in
     let next = subst (λ (o : Option Choice). IsNext (leads_of p.basis.items) p.listed given (g.C.Chooser.settings x).budget o) c.in-Some.is c.in_ok-choice.ensures.next in
-    afforded_next given (g.C.Chooser.given c.chosen.new.chooser) (g.C.Chooser.settings x).budget (g.C.Chooser.settings c.chosen.new.chooser).budget c.in-Some.choice i.begun now (ap (λ (v : Settings). v.budget) c.chosen.ensures.settings) next.1 (i.afforded h)
+    within_budget_next given (g.C.Chooser.given c.chosen.new.chooser) (g.C.Chooser.settings x).budget (g.C.Chooser.settings c.chosen.new.chooser).budget c.in-Some.choice i.begun now (ap (λ (v : Settings). v.budget) c.chosen.ensures.settings) next.1 (i.within_budget h)

@@ -1,7 +1,7 @@
 use Rattle.std.proofs.Common.{◌≡◌, ◌≢◌, []}
-use Rattle.ore_groebner.specs.Choosing.{present, AreAfforded}
+use Rattle.ore_groebner.specs.Choosing.{present, AreWithinBudget}
 use Rattle.ore_groebner.specs.Following.{earlier, IsLed}
-use Rattle.ore_groebner.specs.Shown.{IsGrownFrom}
+use Rattle.ore_groebner.specs.BasisLeads.{BeginsWithLeads}
 use Rattle.ore_groebner.proofs.Bounding.{rows_left}
 use Rattle.ore_groebner.proofs.Unlisted.{unlisted}
 use Rattle.ore_groebner.proofs.run.complete.Given as goal
@@ -10,9 +10,9 @@ abbrev pub invariant-loop-progress : goal.invariant-loop-progress
 invariant-loop-progress g l = record {
   begun : g.C.Chooser.given l.chooser ≢ [];
   led : IsLed (g.R.OreRing.sig l.ring) l.a g.C.Rule.allows (present (g.C.Chooser.given l.chooser)) l.progress;
-  grown : IsGrownFrom (g.C.Chooser.shown l.chooser) l.progress.basis;
+  grown : BeginsWithLeads (g.C.Chooser.shown l.chooser) l.progress.basis;
   earlier : earlier (g.C.Chooser.given l.chooser) ≡ earlier (g.C.Chooser.given l.fn.chooser);
-  afforded : AreAfforded (g.C.Chooser.given l.fn.chooser) (g.C.Chooser.settings l.fn.chooser).budget → AreAfforded (g.C.Chooser.given l.chooser) (g.C.Chooser.settings l.chooser).budget;
+  within_budget : AreWithinBudget (g.C.Chooser.given l.fn.chooser) (g.C.Chooser.settings l.fn.chooser).budget → AreWithinBudget (g.C.Chooser.given l.chooser) (g.C.Chooser.settings l.chooser).budget;
   settings : g.C.Chooser.settings l.chooser ≡ g.C.Chooser.settings l.fn.chooser;
 }
 

@@ -3,16 +3,16 @@ use Rattle.std.proofs.lemmas.Result.{err_from_is_err_and}
 use Rattle.std.specs.List.{All}
 use Rattle.ore_ring.specs.Belongs.{Belongs}
 use Rattle.ore_monomial.specs.Signature.{Signature}
-use Rattle.ore_rational.proofs.FractionLaws.{rationals}
+use Rattle.ore_rational.specs.Field.{rationals}
 use Rattle.ore_rows.specs.Reduction.{leads_of}
 use Rattle.ore_pairs.specs.Run.{from_rows}
 use Rattle.ore_rows.specs.Stored.{OperatorMatrix, rows_of}
 use Rattle.ore_groebner.specs.Choosing.{Settings, present}
 use Rattle.ore_groebner.specs.Following.{earlier, IsLed}
 use Rattle.ore_groebner.specs.RunProgress.{state_of}
-use Rattle.ore_groebner.specs.Shown.{Shown, IsGrownFrom}
+use Rattle.ore_groebner.specs.BasisLeads.{BasisLeads, BeginsWithLeads}
 use Rattle.ore_groebner.proofs.Ending.{led_honest, runs_after}
-use Rattle.ore_groebner.proofs.Given.{present-start, one_more, afforded_start}
+use Rattle.ore_groebner.proofs.Given.{present-start, one_more, within_budget_start}
 use Rattle.ore_course.specs.Following.{IsHaltedIn}
 use Rattle.ore_groebner.proofs.Leading.{led_start}
 use Rattle.ore_groebner.proofs.RunCourses.{last_led, run_answered, run_halted, forced_halts}
@@ -30,7 +30,7 @@ complete-requires-clause-led g c =
 pub complete-requires-clause-grown : goal.complete-requires-clause-grown
 complete-requires-clause-grown g c =
     let basis = c.in-Ok.progress.basis in
-    subst (λ (shown : Shown). IsGrownFrom shown basis) (sym c.in-Ok-start_run.ensures.none_shown) ((leads_of basis.items, refl), λ n. absurd (n refl))
+    subst (λ (shown : BasisLeads). BeginsWithLeads shown basis) (sym c.in-Ok-start_run.ensures.no_leads) ((leads_of basis.items, refl), λ n. absurd (n refl))
 
 pub from_matrix-requires-clause-few : goal.from_matrix-requires-clause-few
 from_matrix-requires-clause-few g c = c.len-rows.ensures.few
@@ -59,23 +59,23 @@ returns-clause-honest g c =
       from_of = subst (λ (m : OperatorMatrix). All (All (Belongs s)) m.rows) (sym f.from) (subst (λ (v : Signature). All (All (Belongs v)) c.in-Ok-from_matrix.from.rows) c.signature.ensures e.of);
     })
 
-pub returns-in_err-progress-clause-afforded : goal.returns-in_err-progress-clause-afforded
-returns-in_err-progress-clause-afforded g c h =
+pub returns-in_err-progress-clause-within_budget : goal.returns-in_err-progress-clause-within_budget
+returns-in_err-progress-clause-within_budget g c h =
     let x = c.args.chooser.now in
     let y = c.start_run.new.self in
-    c.complete.ensures.afforded (afforded_start (g.C.Chooser.given x) (g.C.Chooser.given y) (g.C.Chooser.settings x).budget (g.C.Chooser.settings y).budget c.in-Ok-start_run.ensures.begun (ap (λ (v : Settings). v.budget) c.start_run.ensures.settings) h)
+    c.complete.ensures.within_budget (within_budget_start (g.C.Chooser.given x) (g.C.Chooser.given y) (g.C.Chooser.settings x).budget (g.C.Chooser.settings y).budget c.in-Ok-start_run.ensures.begun (ap (λ (v : Settings). v.budget) c.start_run.ensures.settings) h)
 
-pub returns-in_default-from_matrix-clause-afforded : goal.returns-in_default-from_matrix-clause-afforded
-returns-in_default-from_matrix-clause-afforded g c h =
+pub returns-in_default-from_matrix-clause-within_budget : goal.returns-in_default-from_matrix-clause-within_budget
+returns-in_default-from_matrix-clause-within_budget g c h =
     let x = c.args.chooser.now in
     let y = c.start_run.new.self in
-    c.complete.ensures.afforded (afforded_start (g.C.Chooser.given x) (g.C.Chooser.given y) (g.C.Chooser.settings x).budget (g.C.Chooser.settings y).budget c.in-Ok-start_run.ensures.begun (ap (λ (v : Settings). v.budget) c.start_run.ensures.settings) h)
+    c.complete.ensures.within_budget (within_budget_start (g.C.Chooser.given x) (g.C.Chooser.given y) (g.C.Chooser.settings x).budget (g.C.Chooser.settings y).budget c.in-Ok-start_run.ensures.begun (ap (λ (v : Settings). v.budget) c.start_run.ensures.settings) h)
 
-pub returns-clause-afforded : goal.returns-clause-afforded
-returns-clause-afforded g c h =
+pub returns-clause-within_budget : goal.returns-clause-within_budget
+returns-clause-within_budget g c h =
     let x = c.args.chooser.now in
     let y = c.start_run.new.self in
-    c.complete.ensures.afforded (afforded_start (g.C.Chooser.given x) (g.C.Chooser.given y) (g.C.Chooser.settings x).budget (g.C.Chooser.settings y).budget c.in-Ok-start_run.ensures.begun (ap (λ (v : Settings). v.budget) c.start_run.ensures.settings) h)
+    c.complete.ensures.within_budget (within_budget_start (g.C.Chooser.given x) (g.C.Chooser.given y) (g.C.Chooser.settings x).budget (g.C.Chooser.settings y).budget c.in-Ok-start_run.ensures.begun (ap (λ (v : Settings). v.budget) c.start_run.ensures.settings) h)
 
 pub returns-in-Err-clause-halts : goal.returns-in-Err-clause-halts
 returns-in-Err-clause-halts g c =

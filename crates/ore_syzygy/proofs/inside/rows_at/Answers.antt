@@ -1,6 +1,6 @@
 use Rattle.std.proofs.Common.{rules}
 use Rattle.std.proofs.lemmas.Option.{slice_get-get_or}
-use Rattle.ore_rational.proofs.FractionLaws.{rationals}
+use Rattle.ore_rational.specs.Field.{rationals}
 use Rattle.ore_rows.specs.Rows.{zero_row}
 use Rattle.ore_pairs.specs.RunBlocks.{row_from}
 use Rattle.ore_blocks.specs.BlockOfRun.{ordered_row}

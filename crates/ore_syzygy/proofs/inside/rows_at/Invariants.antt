@@ -1,5 +1,5 @@
 use Rattle.std.proofs.Common.{◌≡◌, map, take}
-use Rattle.ore_rational.proofs.FractionLaws.{rationals}
+use Rattle.ore_rational.specs.Field.{rationals}
 use Rattle.ore_rows.specs.Rows.{zero_row}
 use Rattle.ore_rows.specs.Stored.{HasColumns}
 use Rattle.ore_pairs.specs.RunBlocks.{row_from}

@@ -1,8 +1,8 @@
 use Rattle.std.proofs.Common.{◌++◌, ◌+◌, suc, ◌≡◌, drop, sym, ap, ◌∙◌, append-nil, arith}
 use Rattle.std.proofs.lemmas.List.{drop_all}
+use Rattle.ore_algebra.proofs.ListLaws.{drop_read}
 use Rattle.ore_pairs.specs.RunBlocks.{pair_origins}
 use Rattle.ore_groebner.specs.RunProgress.{entries_from}
-use Rattle.ore_blocks.proofs.ReadItems.{drop_read}
 use Rattle.ore_syzygy.proofs.EventOrigins.{origins-none}
 use Rattle.ore_syzygy.proofs.inside.treated_origins.Goals as goal
 

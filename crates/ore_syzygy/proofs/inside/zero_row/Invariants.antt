@@ -1,5 +1,5 @@
 use Rattle.std.proofs.Common.{◌≡◌, length}
-use Rattle.ore_rational.proofs.FractionLaws.{rationals}
+use Rattle.ore_rational.specs.Field.{rationals}
 use Rattle.ore_rows.specs.Rows.{zero_row}
 use Rattle.ore_blocks.specs.BlockOfRun.{ordered_row}
 use Rattle.ore_syzygy.proofs.inside.zero_row.Given as goal

@@ -1,4 +1,4 @@
-use Rattle.ore_rational.proofs.FractionLaws.{rationals, rational_inverses}
+use Rattle.ore_rational.specs.Field.{rationals, rational_inverses}
 use Rattle.ore_monomial.proofs.Signatures.{lawful}
 use Rattle.ore_laws.proofs.TorsionOrColumn.{torsion_or_column}
 use Rattle.ore_laws.proofs.KernelTorsion.{torsion_of_kernel, nonzero_first}

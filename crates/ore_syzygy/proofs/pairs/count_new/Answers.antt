@@ -1,7 +1,7 @@
 use Rattle.std.proofs.Common.{◌+◌, ap, ◌∙◌, drop, arith}
 use Rattle.std.proofs.lemmas.List.{drop_all}
+use Rattle.ore_algebra.proofs.ListLaws.{drop_read}
 use Rattle.ore_groebner.specs.RunProgress.{new_rows}
-use Rattle.ore_blocks.proofs.ReadItems.{drop_read}
 use Rattle.ore_syzygy.proofs.EventOrigins.{new_rows-none}
 use Rattle.ore_syzygy.proofs.pairs.count_new.Goals as goal
 

@@ -1,6 +1,6 @@
 use Rattle.std.proofs.Common.{sym, ap, ◌∙◌, subst}
 use Rattle.ore_rows.specs.Reduction.{leads_of}
-use Rattle.ore_groebner.specs.Shown.{Shown}
+use Rattle.ore_groebner.specs.BasisLeads.{BasisLeads}
 use Rattle.ore_report.specs.ChainRule.{order_shown}
 use Rattle.ore_report.specs.Live.{LiveState}
 use Rattle.ore_report.specs.Queue.{IsFirst, IsQueue}
@@ -19,7 +19,7 @@ enter-requires c =
     (live_listed a.budget a.treated a.given c.show.new.self a.queue
     (live_shown a.budget a.treated a.given a.shown a.queue c.self.invariant c.show.new.self c.show.ensures.grown c.show.ensures.order)
     c.args.listed.now c.args.self.now.given (ap (λ (s : LiveState). s.given) c.self.view_is) c.requires.lists c.leads.result.now
-    (ap (λ (s : Shown). s.leads) c.in_ok-show.ensures.shown ∙ sym c.leads.ensures))
+    (ap (λ (s : BasisLeads). s.leads) c.in_ok-show.ensures.shown ∙ sym c.leads.ensures))
 
 pub invariant_of-self-in_err-enter : goal.invariant_of-self-in_err-enter
 invariant_of-self-in_err-enter c =
@@ -27,7 +27,7 @@ invariant_of-self-in_err-enter c =
     live_entered a.budget a.treated a.given c.show.new.self a.queue
     (live_shown a.budget a.treated a.given a.shown a.queue c.self.invariant c.show.new.self c.show.ensures.grown c.show.ensures.order)
     c.args.listed.now c.args.self.now.given (ap (λ (s : LiveState). s.given) c.self.view_is) c.requires.lists c.leads.result.now
-    (ap (λ (s : Shown). s.leads) c.in_ok-show.ensures.shown ∙ sym c.leads.ensures)
+    (ap (λ (s : BasisLeads). s.leads) c.in_ok-show.ensures.shown ∙ sym c.leads.ensures)
     c.enter.new.self (subst (λ o. IsQueue o c.leads.result.now c.args.listed.now c.enter.new.self.rows c.enter.new.self.places) c.order.ensures c.enter.ensures.queue)
 
 pub invariant_of-self-2 : goal.invariant_of-self-2
@@ -36,7 +36,7 @@ invariant_of-self-2 c =
     live_entered a.budget a.treated a.given c.show.new.self a.queue
     (live_shown a.budget a.treated a.given a.shown a.queue c.self.invariant c.show.new.self c.show.ensures.grown c.show.ensures.order)
     c.args.listed.now c.args.self.now.given (ap (λ (s : LiveState). s.given) c.self.view_is) c.requires.lists c.leads.result.now
-    (ap (λ (s : Shown). s.leads) c.in_ok-show.ensures.shown ∙ sym c.leads.ensures)
+    (ap (λ (s : BasisLeads). s.leads) c.in_ok-show.ensures.shown ∙ sym c.leads.ensures)
     c.enter.new.self (subst (λ o. IsQueue o c.leads.result.now c.args.listed.now c.enter.new.self.rows c.enter.new.self.places) c.order.ensures c.enter.ensures.queue)
 
 pub returns-clause-first : goal.returns-clause-first

@@ -4,11 +4,11 @@ use Rattle.ore_rows.specs.Reduction.{leads_of}
 use Rattle.ore_rows.specs.declared.choices.Choice.{Choice}
 use Rattle.ore_pairs.specs.PairRule.{is_lawful, may_treat, some_pair}
 use Rattle.ore_pairs.proofs.PairRuleLaws.{lawful_same}
-use Rattle.ore_groebner.specs.Choosing.{next_kept, present, chosen_pairs, treats_in, with_choice, IsAfforded}
-use Rattle.ore_groebner.specs.Shown.{shown_of}
+use Rattle.ore_groebner.specs.Choosing.{next_kept, present, chosen_pairs, treated_pair_count_in, with_choice, IsWithinBudget}
+use Rattle.ore_groebner.specs.BasisLeads.{basis_leads}
 use Rattle.ore_groebner.specs.declared.chooser.Next.TheVariants.{Complete, NoLawful}
 use Rattle.ore_report.specs.Replay.{ReplayState, given_by}
-use Rattle.ore_report.proofs.Replays.{fronts_of-given, fronts_next, next_afforded, unchosen_answer, unchosen_allowed, unchosen_given}
+use Rattle.ore_report.proofs.Replays.{fronts_of-given, fronts_next, next_within_budget, unchosen_answer, unchosen_allowed, unchosen_given}
 use Rattle.ore_report.proofs.replay.ReplayChooserChooser.next.Goals as goal
 
 pub returns-in_default-clause-answer : goal.returns-in_default-clause-answer
@@ -23,7 +23,7 @@ returns-in_default-clause-answer c =
 pub returns-in_default-clause-allowed : goal.returns-in_default-clause-allowed
 returns-in_default-clause-allowed c =
     let self = c.args.self.now in
-    unchosen_allowed self c.leads-in_default.result.now c.args.listed.now c.unchosen.result c.unchosen.ensures (shown_of c.args.basis.now) (chosen_pairs (present (given_by self)))
+    unchosen_allowed self c.leads-in_default.result.now c.args.listed.now c.unchosen.result c.unchosen.ensures (basis_leads c.args.basis.now) (chosen_pairs (present (given_by self)))
 
 pub returns-in_default-clause-given : goal.returns-in_default-clause-given
 returns-in_default-clause-given c =
@@ -42,8 +42,8 @@ module _ (kept given : List (List Choice)) (inv : AreFronts kept given) (self : 
   next_inv : given ≢ [] → (now : List (List Choice)) → now ≡ with_choice given c → AreFronts kept now
   next_inv begun now e = subst (AreFronts kept) (sym e) (fronts_next kept given c inv begun next_is)
 
-  next_paid : given ≢ [] → IsAfforded (given_by self) (treats_in self.kept) c
-  next_paid begun = subst (λ g. IsAfforded g (treats_in self.kept) c) (sym view) (subst (λ k. IsAfforded given (treats_in k) c) (sym kept_is) (next_afforded kept given c inv begun next_is))
+  next_within : given ≢ [] → IsWithinBudget (given_by self) (treated_pair_count_in self.kept) c
+  next_within begun = subst (λ g. IsWithinBudget g (treated_pair_count_in self.kept) c) (sym view) (subst (λ k. IsWithinBudget given (treated_pair_count_in k) c) (sym kept_is) (next_within_budget kept given c inv begun next_is))
 
 pub invariant_of-self-3 : goal.invariant_of-self-3
 invariant_of-self-3 c =
@@ -60,7 +60,7 @@ returns-clause-answer c =
     let view = sym (ap given_by c.self.view_is) ∙ fronts_of-given a.kept a.given c.self.invariant in
     let next = subst (λ (s : ReplayState). next_kept s.kept (given_by s) ≡ Some c.in-Some.choice) c.self.view_is c.in-Some.ensures.0 in (
       subst (λ ts. is_lawful ts c.args.listed.now c.in-Some.choice ≡ true) c.leads.ensures c.in-Some.ensures.1,
-      next_paid a.kept a.given c.self.invariant self view (sym (ap (λ (s : ReplayState). s.kept) c.self.view_is)) c.in-Some.choice next (λ e. c.requires.begun (view ∙ e)),
+      next_within a.kept a.given c.self.invariant self view (sym (ap (λ (s : ReplayState). s.kept) c.self.view_is)) c.in-Some.choice next (λ e. c.requires.begun (view ∙ e)),
     )
 
 pub returns-clause-allowed : goal.returns-clause-allowed

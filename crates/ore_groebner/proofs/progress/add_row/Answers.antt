@@ -11,7 +11,7 @@ use Rattle.ore_groebner.proofs.ProgressParts.{choices_push, entry_row, entries_m
 use Rattle.ore_groebner.specs.declared.outcome.Event.TheVariants.{Treated}
 use Rattle.ore_groebner.specs.declared.outcome.Outcome.TheVariants.{NewRow}
 use Rattle.ore_groebner.specs.declared.progress.Progress.{Progress}
-use Rattle.ore_groebner.proofs.progress.settle_row.Goals as goal
+use Rattle.ore_groebner.proofs.progress.add_row.Goals as goal
 
 pub returns-in_err-basis-clause-gives : goal.returns-in_err-basis-clause-gives
 returns-in_err-basis-clause-gives g c t lead =

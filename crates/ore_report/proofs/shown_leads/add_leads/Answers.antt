@@ -6,7 +6,7 @@ use Rattle.std.proofs.lemmas.List.{append_assoc}
 use Rattle.std.proofs.lemmas.Option.{slice_get_within, get_or_from_slice_get}
 use Rattle.ore_monomial.specs.Term.{Term}
 use Rattle.ore_rows.specs.Reduction.{leads_of}
-use Rattle.ore_report.proofs.showing.add_leads.Goals as goal
+use Rattle.ore_report.proofs.shown_leads.add_leads.Goals as goal
 
 taken_more : (ts : List Term) (k : ℕ) (t : Term) → slice_get ts k ≡ Some t → take (k + 1) ts ≡ take k ts ++ t ∷ []
 taken_more ts k t e =

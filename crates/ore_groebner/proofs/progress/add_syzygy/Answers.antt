@@ -8,7 +8,7 @@ use Rattle.ore_groebner.proofs.ProgressParts.{choices_push, entry_zero, entries_
 use Rattle.ore_groebner.specs.declared.outcome.Event.TheVariants.{Treated}
 use Rattle.ore_groebner.specs.declared.outcome.Outcome.TheVariants.{Zero}
 use Rattle.ore_groebner.specs.declared.progress.Progress.{Progress}
-use Rattle.ore_groebner.proofs.progress.settle_zero.Goals as goal
+use Rattle.ore_groebner.proofs.progress.add_syzygy.Goals as goal
 
 pub returns-clause-state : goal.returns-clause-state
 returns-clause-state c =

@@ -1,7 +1,8 @@
 //! What a run has shown of its basis.
 
 ghost use Rattle.std.specs.Prelude.{◌≡◌, ◌≢◌, [], IfOk};
-ghost use Rattle.ore_groebner.specs.Shown.{BeginsWith, IsGrownFrom, none_shown, order_of, shown_of};
+ghost use Rattle.ore_algebra.specs.Lists.{BeginsWith};
+ghost use Rattle.ore_groebner.specs.BasisLeads.{BeginsWithLeads, no_leads, order_of, basis_leads};
 ghost use Rattle.ore_report.specs.ChainRule.{order_shown};
 ghost use Rattle.ore_rows.specs.Reduction.{leads_of};
 
@@ -13,28 +14,28 @@ use std::marker::Model;
 
 /// The order of monomials, where there is a row, and the leads of the rows.
 #[derive(Drop)]
-pub struct Showing {
+pub struct ShownLeads {
     order: Option<Order>,
     leads: Leads,
 }
 
-impl Model for Showing {
-    ghost use Rattle.ore_groebner.specs.Shown.{Shown};
+impl Model for ShownLeads {
+    ghost use Rattle.ore_groebner.specs.BasisLeads.{BasisLeads};
     ghost use Rattle.ore_report.specs.Codes.{shown_code};
 
-    ghost Value = { Shown };
+    ghost Value = { BasisLeads };
 
     ghost coded = { shown_code };
 
     ghost view = { λ a. record { order = a.order; leads = a.leads } };
 }
 
-impl Showing {
+impl ShownLeads {
     /// Nothing.
-    pub fn new(alloc: Global) -> Showing
-        ensures { result ≡ none_shown }
+    pub fn new(alloc: Global) -> ShownLeads
+        ensures { result ≡ no_leads }
     {
-        Showing {
+        ShownLeads {
             order: None,
             leads: Leads::new(alloc),
         }
@@ -45,8 +46,8 @@ impl Showing {
     /// # Errors
     /// Want of memory. Then some of the new leads may be shown.
     pub fn show(&mut self, basis: &Basis) -> Result<(), NoMemory>
-        requires { IsGrownFrom self.old basis.now }
-        ensures shown { IfOk result (λ _. self.new ≡ shown_of basis.now) }
+        requires { BeginsWithLeads self.old basis.now }
+        ensures shown { IfOk result (λ _. self.new ≡ basis_leads basis.now) }
         ensures grown { BeginsWith self.new.leads self.old.leads }
         ensures order { self.old.leads ≢ [] → self.new.order ≡ self.old.order }
     {
