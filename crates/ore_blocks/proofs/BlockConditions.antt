@@ -15,7 +15,7 @@ use Rattle.std.specs.declared.result.Result.TheVariants.{Ok}
 use Rattle.std.proofs.lemmas.List.{length-drop}
 use Rattle.ore_algebra.specs.Limits.{unlimited}
 use Rattle.ore_rational.specs.Fraction.{Fraction}
-use Rattle.ore_rational.proofs.FractionLaws.{rationals}
+use Rattle.ore_rational.specs.Field.{rationals}
 use Rattle.ore_monomial.specs.Monomial.{Divides, unit}
 use Rattle.ore_monomial.specs.Signature.{Signature}
 use Rattle.ore_monomial.specs.Term.{Term}
@@ -24,7 +24,7 @@ use Rattle.ore_leads.specs.FirstDivisor.{first_divisor}
 use Rattle.ore_leads.proofs.Dividing.{divides_term_true, first_divisor-None, first_divisor-Some}
 use Rattle.ore_ring.specs.Ordered.{Ordered}
 use Rattle.ore_rows.specs.Rows.{Row, AreLong, zero_row, unit_row, row_minus, combine, matrix_times}
-use Rattle.ore_rows.specs.Reduction.{Step, row_at, after}
+use Rattle.ore_rows.specs.Reduction.{Step, row_at, remainder_after}
 use Rattle.ore_rows.specs.RowLead.{coefficient_at, IsRowLead, row_lead}
 use Rattle.ore_rows.specs.RowsWithin.{matrix_times_within}
 use Rattle.ore_rows.specs.Stored.{rows_of, sums_of}
@@ -180,8 +180,8 @@ module _ (s : Signature) where
 
   -- the steps name rows of the basis, and what is left is x
   quotients_iff : (basis : List (Row rationals)) (n : ℕ) (r : Row rationals) (steps : List (Step rationals)) (x : Row rationals)
-      → (quotient_steps unlimited s basis n r steps ≡ Ok x) ↔ (AllByRecursion (λ (t : Step rationals). t.index < length basis) steps × (after rationals s basis steps r ≡ x))
-  unfolding quotient_steps after
+      → (quotient_steps unlimited s basis n r steps ≡ Ok x) ↔ (AllByRecursion (λ (t : Step rationals). t.index < length basis) steps × (remainder_after rationals s basis steps r ≡ x))
+  unfolding quotient_steps remainder_after
   quotients_iff basis n r [] x = (λ h. (tt, same_ok r x h), λ h. ap Ok h.1)
   quotients_iff basis n r (step ∷ steps) x = map_iff
       (gives_iff (quotient_step unlimited s basis (place.Step (suc n)) r step) _ (stepped s basis step r) x (quotient_iff basis (suc n) r step) (λ within.
@@ -231,7 +231,7 @@ module _ (s : Signature) where
     -- what is behind the leads
     abbrev IsBehindLeads : List Term → Type 0
     IsBehindLeads leads = (AreLawful rationals s s.order a.cols (rows_of b.basis) leads [] (entries_of b.pairs) × (length (entries_of b.pairs) ≡ pair_count leads))
-        × (AllByRecursion (λ (t : Step rationals). t.index < length (rows_of b.basis)) b.quotients × ((length b.rest ≡ a.cols) × ((after rationals s (rows_of b.basis) b.quotients w ≡ sums_of b.rest) × IsReduced leads (sums_of b.rest))))
+        × (AllByRecursion (λ (t : Step rationals). t.index < length (rows_of b.basis)) b.quotients × ((length b.rest ≡ a.cols) × ((remainder_after rationals s (rows_of b.basis) b.quotients w ≡ sums_of b.rest) × IsReduced leads (sums_of b.rest))))
 
     outside_from : (leads : List Term) × IsRight s a (plain b.basis) (plain b.from) leads × IsBehindLeads leads → IsValidOutsideFor s a w b
     outside_from (leads, basis, (pairs, (within, (rest, (left, reduced))))) = record {
@@ -270,6 +270,6 @@ module _ (s : Signature) where
         (λ leads. basis_iff s a (plain b.basis) (plain b.from) Body leads (wide_rows s b.basis of.basis)) (λ leads basis.
         goes_iff (check_pairs unlimited s (rows_of b.basis) leads Body b.pairs) _ tt
         (pairs_iff s (rows_of b.basis) leads a.cols (subst (λ n. AreLong rationals n (rows_of b.basis)) basis.columns (wide_rows s b.basis of.basis)) basis.monic.long Body b.pairs) (λ pairs.
-        gives_iff (quotient_steps unlimited s (rows_of b.basis) 0 w b.quotients) _ (after rationals s (rows_of b.basis) b.quotients w) tt (quotients_iff (rows_of b.basis) 0 w b.quotients) (λ within.
-        rest_iff leads a.cols (after rationals s (rows_of b.basis) b.quotients w) b.rest))))
+        gives_iff (quotient_steps unlimited s (rows_of b.basis) 0 w b.quotients) _ (remainder_after rationals s (rows_of b.basis) b.quotients w) tt (quotients_iff (rows_of b.basis) 0 w b.quotients) (λ within.
+        rest_iff leads a.cols (remainder_after rationals s (rows_of b.basis) b.quotients w) b.rest))))
         (outside_from, outside_right)

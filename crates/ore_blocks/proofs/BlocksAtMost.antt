@@ -10,7 +10,7 @@ use Rattle.std.proofs.Common.{◌≡◌, ℕ, suc, ◌+◌, ◌&&◌, List, [], 
 use Rattle.std.specs.declared.result.Result.TheVariants.{Ok}
 use Rattle.ore_algebra.specs.Limits.{Limits, Degree, unlimited, is_within, IsAtMost}
 use Rattle.ore_algebra.proofs.LimitLaws.{most_bind, most_fold, most_test}
-use Rattle.ore_rational.proofs.FractionLaws.{rationals}
+use Rattle.ore_rational.specs.Field.{rationals}
 use Rattle.ore_monomial.specs.Monomial.{Monomial, degree}
 use Rattle.ore_monomial.specs.Signature.{Signature}
 use Rattle.ore_monomial.specs.Term.{Term, shift}
@@ -21,7 +21,7 @@ use Rattle.ore_rows.specs.RowLead.{row_lead}
 use Rattle.ore_rows.specs.Rows.{Row, unit_row}
 use Rattle.ore_rows.specs.Stored.{rows_of}
 use Rattle.ore_rows.proofs.WithinValues.{combine_at_most, difference_at_most, product_at_most, scale_at_most}
-use Rattle.ore_pairs.specs.Steps.{lead_at, pair_term, s_row_within, common_fits}
+use Rattle.ore_pairs.specs.Steps.{lead_at, lcm_of_leads, s_row_within, common_fits}
 use Rattle.ore_pairs.proofs.SRows as SRows
 use Rattle.ore_rows.proofs.SoundArithmetic.{within_sound, within_unlimited}
 use Rattle.ore_parts.specs.declared.block.PairEntry.{PairEntry}
@@ -37,7 +37,7 @@ use Rattle.ore_blocks.specs.declared.place.Place.TheVariants as place
 use Rattle.ore_blocks.specs.declared.reason.Reason.{Reason}
 use Rattle.ore_blocks.specs.declared.reason.Reason.TheVariants as reason
 use Rattle.ore_blocks.specs.Conditions.{is_none, required}
-use Rattle.ore_blocks.specs.CheckBlock.{RowMatrix, plain, pair_of, basis_leads, are_zero, rows_give, check_steps, check_entry, check_entries, check_pairs, rows_inside, pairs_inside, quotient_steps, check_basis, check_to, check_inside, check_rest, check_exact, check_outside}
+use Rattle.ore_blocks.specs.CheckBlock.{RowMatrix, plain, pair_of, monic_leads, are_zero, rows_give, check_steps, check_entry, check_entries, check_pairs, rows_inside, pairs_inside, quotient_steps, check_basis, check_to, check_inside, check_rest, check_exact, check_outside}
 use Rattle.ore_blocks.specs.PlaceConditions.{is_reduced, less_step, less_steps, shifted, row_gives, check_step, quotient_step, row_inside, pair_inside}
 use Rattle.ore_blocks.specs.WithinLimits.{IsCheckedAtMost}
 use Rattle.ore_blocks.proofs.CheckedAtMost.{most_same, most_checked, most_then, most_behind}
@@ -102,9 +102,9 @@ module _ (l : Limits) (s : Signature) where
   unfolding check_entry
   check_entry_most basis leads at k before (Pair i j steps) =
       most_then _ _ _ _ (most_same _) (λ u.
-      most_then _ _ _ _ (most_checked (place.Pair at k 0) _ _ (common_most (pair_term leads i j))) (λ u.
+      most_then _ _ _ _ (most_checked (place.Pair at k 0) _ _ (common_most (lcm_of_leads leads i j))) (λ u.
       most_then _ _ _ _ (most_checked (place.Pair at k 0) _ _ (s_row_most leads basis i j)) (λ r.
-      check_steps_most basis leads (pair_term leads i j) at k 0 r steps)))
+      check_steps_most basis leads (lcm_of_leads leads i j) at k 0 r steps)))
   check_entry_most basis leads at k before (Skip i j via) = most_same _
 
   check_entries_most : (basis : List (Row rationals)) (leads : List Term) (at : Section) (k : ℕ) (before : List (ℕ × ℕ)) (es : List PairEntry)
@@ -154,7 +154,7 @@ module _ (l : Limits) (s : Signature) where
   unfolding check_basis
   check_basis_most a at basis from =
       most_behind (required (place.Header at Basis) reason.Shape (nat_eq basis.cols a.cols)) _ _ (λ u.
-      most_behind (basis_leads s.order at 0 basis.rows) _ _ (λ leads.
+      most_behind (monic_leads s.order at 0 basis.rows) _ _ (λ leads.
       most_behind (required (place.Header at From) reason.Shape (nat_eq (length from.rows) (length a.rows) && nat_eq from.cols (length basis.rows))) _ _ (λ u.
       most_then _ _ _ _ (rows_give_most reason.FromRow a.cols basis.rows at From 0 from.rows a.rows) (λ u. most_same (Ok leads)))))
 

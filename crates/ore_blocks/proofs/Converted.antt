@@ -7,7 +7,7 @@ use Rattle.std.proofs.Common.{◌≡◌, ℕ, List, [], ◌∷◌, map, length, 
 use Rattle.std.specs.List.{All, AllByRecursion}
 use Rattle.std.proofs.lemmas.List.{length-map}
 use Rattle.std.proofs.lemmas.List.Elements.{All-head, All-tail, recursion_from_All}
-use Rattle.ore_rational.proofs.FractionLaws.{rationals}
+use Rattle.ore_rational.specs.Field.{rationals}
 use Rattle.ore_monomial.specs.Signature.{Signature, MonomialOf}
 use Rattle.ore_ring.specs.Ordered.{Ordered}
 use Rattle.ore_rows.specs.Reduction.{Step}
@@ -47,8 +47,8 @@ module _ (s : Signature) where
   entries_are_of (Pair i j steps ∷ es) h = (steps_are_of steps (All-head (IsEntryOf s) (Pair i j steps) es h), entries_are_of es (All-tail (IsEntryOf s) (Pair i j steps) es h))
   entries_are_of (Skip i j via ∷ es) h = entries_are_of es (All-tail (IsEntryOf s) (Skip i j via) es h)
 
-  pub exact_is_of : (b : ExactBlock) → IsExactOf s b → blocks.IsExactBlockOf rationals s (exact_of b)
+  pub exact_is_of : (b : ExactBlock) → IsExactOf s b → blocks.IsExactBlockOfSignature rationals s (exact_of b)
   exact_is_of b h = record { basis = rows_are_of b.basis h.basis; from = rows_are_of b.from h.from; to = rows_are_of b.to h.to; entries = entries_are_of b.pairs h.pairs; inside = rows_are_of b.inside h.inside }
 
-  pub outside_is_of : (b : OutsideBlock) → IsOutsideOf s b → blocks.IsOutsideBlockOf rationals s (outside_of b)
+  pub outside_is_of : (b : OutsideBlock) → IsOutsideOf s b → blocks.IsOutsideBlockOfSignature rationals s (outside_of b)
   outside_is_of b h = record { basis = rows_are_of b.basis h.basis; from = rows_are_of b.from h.from; entries = entries_are_of b.pairs h.pairs; steps = steps_are_of b.quotients h.quotients }

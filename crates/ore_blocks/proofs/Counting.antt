@@ -14,10 +14,10 @@ use Rattle.std.proofs.lemmas.List.Sums.{count_by-le-length, sum_by-cons}
 use Rattle.std.specs.List.{count_by, slice_get}
 use Rattle.std.specs.Option.{unwrap_or}
 use Rattle.std.specs.Ordering.{is_eq, nat_cmp}
+use Rattle.ore_algebra.proofs.ListLaws.{drop_read}
 use Rattle.ore_monomial.specs.Term.{Term}
 use Rattle.ore_pairs.specs.PairList.{pair_count}
 use Rattle.ore_blocks.specs.InnerContracts.{count_at}
-use Rattle.ore_blocks.proofs.ReadItems.{drop_read}
 
 module _ (leads : List Term) (k : ℕ) (t : Term) (inside : k < length leads) (at : slice_get leads (length leads - 1 - k) ≡ Some t) where
   pub behind_next : drop (length leads - (k + 1)) leads ≡ t ∷ drop (length leads - k) leads

@@ -13,8 +13,9 @@ use Rattle.std.specs.declared.result.Result.{Result}
 use Rattle.std.specs.declared.result.Result.TheVariants.{Ok, Err}
 use Rattle.std.proofs.lemmas.List.{at_drop_all}
 use Rattle.std.proofs.lemmas.List.Elements.{All-cons, All-nil}
+use Rattle.std.proofs.lemmas.Bool.{and_parts}
 use Rattle.ore_algebra.specs.Limits.{Limits, Cause, Degree, program}
-use Rattle.ore_rational.proofs.FractionLaws.{rationals}
+use Rattle.ore_rational.specs.Field.{rationals}
 use Rattle.ore_monomial.specs.Monomial.{degree}
 use Rattle.ore_monomial.specs.Signature.{Signature}
 use Rattle.ore_monomial.specs.Term.{Term}
@@ -23,7 +24,7 @@ use Rattle.ore_rows.specs.Reduction.{Step}
 use Rattle.ore_rows.specs.Rows.{Row}
 use Rattle.ore_pairs.specs.PairList.{treated_count}
 use Rattle.ore_pairs.specs.PairRule.{is_listed, HaveSamePairs, may_treat, may_skip}
-use Rattle.ore_pairs.specs.Steps.{pair_term, s_row_within, common_fits}
+use Rattle.ore_pairs.specs.Steps.{lcm_of_leads, s_row_within, common_fits}
 use Rattle.ore_pairs.proofs.PairRuleLaws.{treat_from, treat_same, skip_same}
 use Rattle.ore_parts.specs.declared.block.PairEntry.{PairEntry}
 use Rattle.ore_parts.specs.declared.block.PairEntry.TheVariants.{Pair, Skip}
@@ -35,9 +36,9 @@ use Rattle.ore_algebra.specs.Results.{◌>>=◌}
 use Rattle.ore_blocks.specs.CheckBlock.{check_entries, check_entry, check_steps, entries_of, pair_of, rows_taken}
 use Rattle.ore_blocks.specs.InnerContracts.{IsTreatable}
 use Rattle.ore_blocks.specs.PlaceConditions.{check_step}
-use Rattle.ore_blocks.proofs.Passed.{both_true, formed_then, nat_lt_true, required_then, required_true}
+use Rattle.ore_blocks.proofs.Passed.{formed_then, nat_lt_true, required_then, required_true}
 use Rattle.ore_algebra.proofs.ResultLaws.{bound}
-use Rattle.ore_blocks.proofs.ReadItems.{drop_read}
+use Rattle.ore_algebra.proofs.ListLaws.{drop_read}
 
 -- ---- numbers
 
@@ -65,7 +66,7 @@ more_same p before others h x y = ap (λ t. (nat_eq x p.0 && nat_eq y p.1) || t)
 module _ (l : Limits) (s : Signature) (basis : List (Row rationals)) (leads : List Term) where
   pub entry_same : (at : Section) (k : ℕ) (before others : List (ℕ × ℕ)) (e : PairEntry) → HaveSamePairs before others → check_entry l s basis leads at k before e ≡ check_entry l s basis leads at k others e
   unfolding check_entry
-  entry_same at k before others (Pair i j steps) h = ap (λ t. required (place.Pair at k 0) reason.Pair t >>= λ u. formed (place.Pair at k 0) (common_fits rationals (within l s) (pair_term leads i j)) >>= λ u. formed (place.Pair at k 0) (s_row_within rationals (within l s) leads basis i j) >>= λ r. check_steps l s basis leads (pair_term leads i j) at k 0 r steps) (treat_same leads before i j others (h i j))
+  entry_same at k before others (Pair i j steps) h = ap (λ t. required (place.Pair at k 0) reason.Pair t >>= λ u. formed (place.Pair at k 0) (common_fits rationals (within l s) (lcm_of_leads leads i j)) >>= λ u. formed (place.Pair at k 0) (s_row_within rationals (within l s) leads basis i j) >>= λ r. check_steps l s basis leads (lcm_of_leads leads i j) at k 0 r steps) (treat_same leads before i j others (h i j))
   entry_same at k before others (Skip i j via) h = λ n. required (place.Pair at k 0) reason.Skip (treat_same leads before i j others (h i j) n && skip_same leads before i j via others h n)
 
   pub entries_same : (at : Section) (k : ℕ) (before others : List (ℕ × ℕ)) (es : List PairEntry) → HaveSamePairs before others → check_entries l s basis leads at k before es ≡ check_entries l s basis leads at k others es
@@ -106,11 +107,11 @@ module _ (s : Signature) (basis : List (Row rationals)) (leads : List Term) wher
   unfolding check_entry
   entry_treatable at k before (Pair i j steps) h =
       let first = required_then (place.Pair at k 0) reason.Pair (may_treat leads before i j) _ tt h in
-      let second = formed_then (place.Pair at k 0) (common_fits rationals (within program s) (pair_term leads i j)) _ tt first.1 in
+      let second = formed_then (place.Pair at k 0) (common_fits rationals (within program s) (lcm_of_leads leads i j)) _ tt first.1 in
       let third = formed_then (place.Pair at k 0) (s_row_within rationals (within program s) leads basis i j) _ tt second.2 in
       let new = treat_from leads before i j first.0 in
-      (new.ordered, new.within, fitted (pair_term leads i j) second.0 second.1, steps_inside (pair_term leads i j) at k 0 third.0 steps third.2)
-  entry_treatable at k before (Skip i j via) h = (treat_from leads before i j (both_true (may_treat leads before i j) (may_skip leads before i j via) (required_true (place.Pair at k 0) reason.Skip _ tt h)).0).ordered
+      (new.ordered, new.within, fitted (lcm_of_leads leads i j) second.0 second.1, steps_inside (lcm_of_leads leads i j) at k 0 third.0 steps third.2)
+  entry_treatable at k before (Skip i j via) h = (treat_from leads before i j (and_parts (may_treat leads before i j) (may_skip leads before i j via) (required_true (place.Pair at k 0) reason.Skip _ tt h)).0).ordered
 
   pub entries_treatable : (at : Section) (k : ℕ) (before : List (ℕ × ℕ)) (es : List PairEntry) → check_entries program s basis leads at k before es ≡ Ok tt → All (IsTreatable leads) es
   unfolding check_entries

@@ -15,6 +15,7 @@ use Rattle.std.specs.declared.option.Option.TheVariants.{None}
 use Rattle.std.specs.declared.result.Result.{Result}
 use Rattle.std.specs.declared.result.Result.TheVariants.{Ok, Err}
 use Rattle.std.proofs.lemmas.Bool.Decides.{nat_tests}
+use Rattle.std.proofs.lemmas.Bool.{and_parts}
 use Rattle.ore_algebra.specs.Limits.{Cause}
 use Rattle.ore_monomial.specs.Term.{Term, term_cmp}
 use Rattle.ore_monomial.specs.declared.order.Order.{Order}
@@ -23,7 +24,7 @@ use Rattle.ore_blocks.specs.declared.reason.Reason.{Reason}
 use Rattle.ore_blocks.specs.Conditions.{Checked, formed, required, is_same, is_none}
 use Rattle.ore_algebra.specs.Results.{◌>>=◌}
 use Rattle.ore_blocks.specs.PlaceConditions.{is_below}
-use Rattle.ore_blocks.proofs.Passed.{required_true, both_true, not_true, nat_eq_true, nat_lt_true, below_true, none_true, same_true, same_false}
+use Rattle.ore_blocks.proofs.Passed.{required_true, not_true, nat_eq_true, nat_lt_true, below_true, none_true, same_true, same_false}
 use Rattle.ore_algebra.proofs.ResultLaws.{bound, same_ok}
 use Rattle.ore_blocks.proofs.MonicLeads.{same_yes, same_no}
 
@@ -94,7 +95,7 @@ nat_lt_iff a b = (nat_lt_true a b, back)
     back h = grind (arith, nat_tests)
 
 pub both_iff : {P Q : Type 0} (a b : Bool) → (a ≡ true) ↔ P → (b ≡ true) ↔ Q → ((a && b) ≡ true) ↔ (P × Q)
-both_iff a b p q = (λ h. let x = both_true a b h in (p.0 x.0, q.0 x.1), λ h. ap (λ t. t && b) (p.1 h.0) ∙ q.1 h.1)
+both_iff a b p q = (λ h. let x = and_parts a b h in (p.0 x.0, q.0 x.1), λ h. ap (λ t. t && b) (p.1 h.0) ∙ q.1 h.1)
 
 pub below_iff : (o : Order) (u t : Term) → (is_below o u t ≡ true) ↔ (term_cmp o u t ≡ Less)
 unfolding is_below

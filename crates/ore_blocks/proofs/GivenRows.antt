@@ -9,7 +9,7 @@ use Rattle.std.specs.List.{slice_get}
 use Rattle.std.proofs.lemmas.List.{at_drop_all, drop-map}
 use Rattle.std.specs.declared.result.Result.TheVariants.{Ok}
 use Rattle.ore_algebra.specs.Limits.{Limits}
-use Rattle.ore_rational.proofs.FractionLaws.{rationals}
+use Rattle.ore_rational.specs.Field.{rationals}
 use Rattle.ore_monomial.specs.Signature.{Signature}
 use Rattle.ore_monomial.specs.Term.{Term}
 use Rattle.ore_ring.specs.Ordered.{Ordered}
@@ -20,13 +20,14 @@ use Rattle.ore_rows.specs.Stored.{OperatorMatrix, rows_of, sums_of}
 use Rattle.ore_blocks.specs.CheckBlock.{are_zero, check_steps, quotient_steps, rows_give}
 use Rattle.ore_blocks.specs.Conditions.{is_none, required}
 use Rattle.ore_algebra.specs.Results.{◌>>=◌}
+use Rattle.ore_algebra.proofs.ListLaws.{drop_read}
 use Rattle.ore_blocks.specs.PlaceConditions.{check_step, quotient_step, row_gives}
 use Rattle.ore_blocks.specs.declared.place.Section.{Section}
 use Rattle.ore_blocks.specs.declared.place.Place.TheVariants as place
 use Rattle.ore_blocks.specs.declared.place.Name.{Name}
 use Rattle.ore_blocks.specs.declared.reason.Reason.{Reason}
 use Rattle.ore_blocks.specs.declared.reason.Reason.TheVariants as reason
-use Rattle.ore_blocks.proofs.ReadItems.{drop_mapped, drop_read}
+use Rattle.ore_blocks.proofs.ReadItems.{drop_mapped}
 
 module _ (l : Limits) (s : Signature) where
   pub rows_next : (why : Reason) (n : ℕ) (m : List (Row rationals)) (at : Section) (name : Name) (a b : OperatorMatrix) (k : ℕ) (r w : List Ordered) → slice_get a.rows k ≡ Some r → slice_get b.rows k ≡ Some w

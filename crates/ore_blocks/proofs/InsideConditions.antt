@@ -4,13 +4,13 @@
 use Rattle.std.proofs.Common.{◌≡◌, ◌↔◌, ℕ, zero, suc, pred, ◌+◌, ◌<◌, ◌≤◌, List, [], ◌∷◌, length, refl, ap, ◌∙◌, arith}
 use Rattle.std.specs.declared.result.Result.TheVariants.{Ok}
 use Rattle.ore_algebra.specs.Limits.{unlimited}
-use Rattle.ore_rational.proofs.FractionLaws.{rationals}
+use Rattle.ore_rational.specs.Field.{rationals}
 use Rattle.ore_monomial.specs.Signature.{Signature}
 use Rattle.ore_monomial.specs.Term.{Term}
 use Rattle.ore_rows.specs.Arithmetic.{within}
 use Rattle.ore_rows.specs.Rows.{Row, AreLong, unit_row, row_minus, combine}
 use Rattle.ore_rows.specs.RowsWithin.{difference_within, combine_within}
-use Rattle.ore_rows.specs.Reduction.{Step, row_at, after}
+use Rattle.ore_rows.specs.Reduction.{Step, row_at, remainder_after}
 use Rattle.ore_rows.proofs.WithinValues.{combine_unlimited, difference_unlimited}
 use Rattle.ore_pairs.specs.Blocks.{AreInside}
 use Rattle.ore_pairs.specs.PairList.{treated_count}
@@ -69,13 +69,13 @@ module _ (s : Signature) (q : ℕ) (to m : List (Row rationals)) (long : AreLong
       (first_and_rest i f r fs rs)
 
   pair_inside_iff : (leads : List Term) (place : Place) (i j : ℕ) (steps : List (Step rationals)) (r : Row rationals)
-      → (pair_inside unlimited s q leads to m place (Pair i j steps) r ≡ Ok tt) ↔ (after rationals s to steps (s_row rationals s leads to i j) ≡ combine rationals s q r m)
+      → (pair_inside unlimited s q leads to m place (Pair i j steps) r ≡ Ok tt) ↔ (remainder_after rationals s to steps (s_row rationals s leads to i j) ≡ combine rationals s q r m)
   unfolding pair_inside
   pair_inside_iff leads place i j steps r =
       formed_iff place (s_row_within rationals (within unlimited s) leads to i j) _ (s_row rationals s leads to i j) tt (s_row_exact s leads to i j)
-      (formed_iff place (less_steps unlimited s to steps (s_row rationals s leads to i j)) _ (after rationals s to steps (s_row rationals s leads to i j)) tt (steps_exact s to steps (s_row rationals s leads to i j))
+      (formed_iff place (less_steps unlimited s to steps (s_row rationals s leads to i j)) _ (remainder_after rationals s to steps (s_row rationals s leads to i j)) tt (steps_exact s to steps (s_row rationals s leads to i j))
       (formed_iff place (combine_within unlimited s q r m) _ (combine rationals s q r m) tt (combine_unlimited s q r m wide)
-      (passes_iff place reason.Inside (same_row (after rationals s to steps (s_row rationals s leads to i j)) (combine rationals s q r m)) (same_iff row_discrete _ _))))
+      (passes_iff place reason.Inside (same_row (remainder_after rationals s to steps (s_row rationals s leads to i j)) (combine rationals s q r m)) (same_iff row_discrete _ _))))
 
   pub pairs_inside_iff : (leads : List Term) (at : Section) (n : ℕ) (es : List PairEntry) (rs : List (Row rationals)) → length rs ≡ treated_count (entries_of es)
       → (pairs_inside unlimited s q leads to m at n es rs ≡ Ok tt) ↔ AreInside rationals s q leads to m (entries_of es) rs

@@ -7,7 +7,7 @@ use Rattle.std.specs.List.{slice_get}
 use Rattle.std.specs.declared.result.Result.TheVariants.{Ok}
 use Rattle.std.proofs.lemmas.List.{at_drop_all, drop-drop, drop-map}
 use Rattle.ore_algebra.specs.Limits.{Limits}
-use Rattle.ore_rational.proofs.FractionLaws.{rationals}
+use Rattle.ore_rational.specs.Field.{rationals}
 use Rattle.ore_monomial.specs.Signature.{Signature}
 use Rattle.ore_monomial.specs.Term.{Term}
 use Rattle.ore_ring.specs.Ordered.{Ordered}
@@ -18,9 +18,10 @@ use Rattle.ore_blocks.specs.declared.place.Section.{Section}
 use Rattle.ore_blocks.specs.declared.place.Place.TheVariants as place
 use Rattle.ore_blocks.specs.declared.place.Name.TheVariants.{Inside}
 use Rattle.ore_algebra.specs.Results.{◌>>=◌}
+use Rattle.ore_algebra.proofs.ListLaws.{drop_read}
 use Rattle.ore_blocks.specs.CheckBlock.{rows_inside, rows_taken, pairs_inside}
 use Rattle.ore_blocks.specs.PlaceConditions.{row_inside, pair_inside}
-use Rattle.ore_blocks.proofs.ReadItems.{drop_mapped, drop_read}
+use Rattle.ore_blocks.proofs.ReadItems.{drop_mapped}
 
 module _ (l : Limits) (s : Signature) (q : ℕ) where
   module _ (to m : List (Row rationals)) where

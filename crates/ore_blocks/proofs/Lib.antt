@@ -24,3 +24,4 @@ pub mod BlocksAtMost
 pub mod ValidBlocks
 pub mod CheckedBlocks
 pub mod StoredBlocks
+pub mod TransposedAdjoints

@@ -10,7 +10,7 @@
 --     monic_lead-other               a lead with another coefficient
 --     reduced_none, reduced_some     a row without a lead, and one with a lead
 --     fronted_next, leads_next, leads_end      the leads behind some, row by row
-use Rattle.std.proofs.Common.{◌≡◌, ◌≢◌, ◌↔◌, ℕ, suc, ◌+◌, ◌<◌, Bool, true, false, cond, List, [], ◌∷◌, ◌++◌, length, get_or, refl, sym, ap, ◌∙◌, subst, true≢false, append_assoc, append-nil, ◌≤◌, arith}
+use Rattle.std.proofs.Common.{◌≡◌, ◌≢◌, ◌↔◌, ℕ, suc, ◌+◌, ◌<◌, Bool, true, false, cond, List, [], ◌∷◌, ◌++◌, length, get_or, refl, sym, ap, ◌∙◌, subst, true≢false, append-nil, ◌≤◌, arith}
 use Rattle.std.specs.Prelude.{IsTrue, not}
 use Rattle.std.specs.Option.{is_some}
 use Rattle.std.specs.declared.option.Option.{Option}
@@ -21,7 +21,7 @@ use Rattle.ore_algebra.proofs.ResultLaws.{front_more}
 use Rattle.ore_algebra.specs.Free.{empty_sum}
 use Rattle.ore_algebra.specs.Limits.{Limits}
 use Rattle.ore_rational.specs.Fraction.{Fraction}
-use Rattle.ore_rational.proofs.FractionLaws.{rationals}
+use Rattle.ore_rational.specs.Field.{rationals}
 use Rattle.ore_monomial.specs.Monomial.{plain_cmp}
 use Rattle.ore_monomial.specs.Signature.{Signature}
 use Rattle.ore_monomial.specs.Term.{Term}
@@ -33,7 +33,7 @@ use Rattle.ore_rows.specs.Rows.{Row, zero_row}
 use Rattle.ore_rows.specs.Stored.{IsZeroRow, OperatorMatrix, rows_of, sums_of}
 use Rattle.ore_rows.proofs.GreatestTerms.{row_lead-Some, row_lead_from, zero_from}
 use Rattle.ore_rows.proofs.StoredBases.{no_lead_of_zeros}
-use Rattle.ore_blocks.specs.CheckBlock.{basis_leads}
+use Rattle.ore_blocks.specs.CheckBlock.{monic_leads}
 use Rattle.ore_blocks.specs.PlaceConditions.{is_reduced, monic_lead}
 use Rattle.ore_blocks.specs.Conditions.{Checked, found, is_none, is_same}
 use Rattle.ore_algebra.specs.Results.{◌>>=◌}
@@ -114,16 +114,16 @@ fronted_next front (Ok t) y = front_more front t y
 fronted_next front (Err e) y = refl
 
 pub leads_next : (o : Order) (at : Section) (front : List Term) (m : OperatorMatrix) (k : ℕ) (r : List Ordered) → slice_get m.rows k ≡ Some r
-    → (basis_leads o at k (drop k (rows_of m)) >>= λ ts. Ok (front ++ ts))
-    ≡ (found (place.Row at Basis k) reason.NotMonic (monic_lead o (sums_of r)) >>= λ t. basis_leads o at (k + 1) (drop (k + 1) (rows_of m)) >>= λ ts. Ok ((front ++ t ∷ []) ++ ts))
-unfolding basis_leads
+    → (monic_leads o at k (drop k (rows_of m)) >>= λ ts. Ok (front ++ ts))
+    ≡ (found (place.Row at Basis k) reason.NotMonic (monic_lead o (sums_of r)) >>= λ t. monic_leads o at (k + 1) (drop (k + 1) (rows_of m)) >>= λ ts. Ok ((front ++ t ∷ []) ++ ts))
+unfolding monic_leads
 leads_next o at front m k r here =
-    ap (λ rs. basis_leads o at k rs >>= λ ts. Ok (front ++ ts)) (drop_mapped sums_of m.rows k r here)
-    ∙ fronted_next front (found (place.Row at Basis k) reason.NotMonic (monic_lead o (sums_of r))) (basis_leads o at (suc k) (drop (k + 1) (rows_of m)))
-    ∙ ap (λ n. found (place.Row at Basis k) reason.NotMonic (monic_lead o (sums_of r)) >>= λ t. basis_leads o at n (drop (k + 1) (rows_of m)) >>= λ ts. Ok ((front ++ t ∷ []) ++ ts)) (let e : suc k ≡ k + 1 = omega arith in e)
+    ap (λ rs. monic_leads o at k rs >>= λ ts. Ok (front ++ ts)) (drop_mapped sums_of m.rows k r here)
+    ∙ fronted_next front (found (place.Row at Basis k) reason.NotMonic (monic_lead o (sums_of r))) (monic_leads o at (suc k) (drop (k + 1) (rows_of m)))
+    ∙ ap (λ n. found (place.Row at Basis k) reason.NotMonic (monic_lead o (sums_of r)) >>= λ t. monic_leads o at n (drop (k + 1) (rows_of m)) >>= λ ts. Ok ((front ++ t ∷ []) ++ ts)) (let e : suc k ≡ k + 1 = omega arith in e)
 
-pub leads_end : (o : Order) (at : Section) (front : List Term) (m : OperatorMatrix) (k : ℕ) → length m.rows ≤ k → (basis_leads o at k (drop k (rows_of m)) >>= λ ts. Ok (front ++ ts)) ≡ Ok front
-unfolding basis_leads
+pub leads_end : (o : Order) (at : Section) (front : List Term) (m : OperatorMatrix) (k : ℕ) → length m.rows ≤ k → (monic_leads o at k (drop k (rows_of m)) >>= λ ts. Ok (front ++ ts)) ≡ Ok front
+unfolding monic_leads
 leads_end o at front m k h =
-    ap (λ rs. basis_leads o at k rs >>= λ ts. Ok (front ++ ts)) (drop-map sums_of k m.rows ∙ at_drop_all (λ rs. rows_of (record { cols = 0; rows = rs })) m.rows k h)
+    ap (λ rs. monic_leads o at k rs >>= λ ts. Ok (front ++ ts)) (drop-map sums_of k m.rows ∙ at_drop_all (λ rs. rows_of (record { cols = 0; rows = rs })) m.rows k h)
     ∙ ap Ok (append-nil front)

@@ -13,24 +13,24 @@ use Rattle.std.proofs.ByRecursion.{All-weaker}
 use Rattle.std.proofs.lemmas.List.{length-map}
 use Rattle.ore_algebra.specs.Limits.{unlimited}
 use Rattle.ore_algebra.specs.Free.{single}
-use Rattle.ore_rational.proofs.FractionLaws.{rationals}
+use Rattle.ore_rational.specs.Field.{rationals}
 use Rattle.ore_monomial.specs.Monomial.{Monomial, plain_cmp}
 use Rattle.ore_monomial.specs.Signature.{Signature}
 use Rattle.ore_monomial.specs.Term.{Term, shift}
 use Rattle.ore_monomial.proofs.Signatures.{lawful}
 use Rattle.ore_rows.specs.Arithmetic.{within}
 use Rattle.ore_rows.specs.Rows.{Row, AreLong, zero_row, row_scale}
-use Rattle.ore_rows.specs.Reduction.{Step, row_at, after}
+use Rattle.ore_rows.specs.Reduction.{Step, row_at, remainder_after}
 use Rattle.ore_rows.specs.RowLead.{row_lead}
 use Rattle.ore_rows.proofs.Differences.{length-row_minus}
 use Rattle.ore_rows.proofs.GreatestTerms.{zero_from, row_lead-zero}
 use Rattle.ore_rows.proofs.RowLaws as Rows
-use Rattle.ore_pairs.specs.PairList.{Entry, pairs_of, IsBelowStep, IsTreated, IsLawfulEntry, AreLawful, pair_count}
+use Rattle.ore_pairs.specs.PairList.{DealtPair, pairs_of, IsBelowStep, IsTreated, IsLawfulEntry, AreLawful, pair_count}
 use Rattle.ore_pairs.specs.PairList as listed
 use Rattle.ore_pairs.specs.PairRule.{may_treat, may_skip}
-use Rattle.ore_pairs.specs.Steps.{lead_at, pair_term, s_row, s_row_within}
+use Rattle.ore_pairs.specs.Steps.{lead_at, lcm_of_leads, s_row, s_row_within}
 use Rattle.ore_pairs.proofs.PairRuleLaws.{treat_from}
-use Rattle.ore_pairs.proofs.Syzygies.{AreStepsWithin, length-after}
+use Rattle.ore_pairs.proofs.Syzygies.{AreStepsWithin, length-remainder_after}
 use Rattle.ore_parts.specs.declared.block.PairEntry.{PairEntry}
 use Rattle.ore_parts.specs.declared.block.PairEntry.TheVariants.{Pair, Skip}
 use Rattle.ore_blocks.specs.declared.place.Section.{Section}
@@ -56,10 +56,10 @@ module _ (s : Signature) (basis : List (Row rationals)) (leads : List Term) wher
 
   -- the steps are below t, and leave of r a row with no lead
   abbrev AreRight : Term → List (Step rationals) → Row rationals → Type 0
-  AreRight t steps r = AllByRecursion (IsBelowStep rationals s.order leads t) steps × (row_lead rationals s.order (after rationals s basis steps r) ≡ None)
+  AreRight t steps r = AllByRecursion (IsBelowStep rationals s.order leads t) steps × (row_lead rationals s.order (remainder_after rationals s basis steps r) ≡ None)
 
   steps_iff : (t : Term) (at : Section) (k n : ℕ) (r : Row rationals) (steps : List (Step rationals)) → (check_steps unlimited s basis leads t at k n r steps ≡ Ok tt) ↔ AreRight t steps r
-  unfolding check_steps after
+  unfolding check_steps remainder_after
   steps_iff t at k n r [] = map_iff
       (passes_iff (place.Pair at k n) reason.Remainder (is_none (row_lead rationals s.order r)) (none_iff (row_lead rationals s.order r)))
       (λ h. (tt, h), λ h. h.1)
@@ -81,33 +81,33 @@ module _ (s : Signature) (basis : List (Row rationals)) (leads : List Term) wher
     unfolding s_row
     length-pair_row i j h k = length-row_minus rationals s (lawful s) n _ _ (length-multiple i _ h) (length-multiple j _ k)
 
-    treated_from : (before : List (ℕ × ℕ)) (i j : ℕ) (steps : List (Step rationals)) → may_treat leads before i j ≡ true → AreRight (pair_term leads i j) steps (s_row rationals s leads basis i j) → IsTreated rationals s s.order n basis leads i j steps
+    treated_from : (before : List (ℕ × ℕ)) (i j : ℕ) (steps : List (Step rationals)) → may_treat leads before i j ≡ true → AreRight (lcm_of_leads leads i j) steps (s_row rationals s leads basis i j) → IsTreated rationals s s.order n basis leads i j steps
     treated_from before i j steps allowed (low, none) = let new = treat_from leads before i j allowed in record {
       low = low;
-      nothing = zero_from rationals s.order _ none ∙ ap (zero_row rationals) (length-after rationals s (lawful s) n basis long steps _
+      nothing = zero_from rationals s.order _ none ∙ ap (zero_row rationals) (length-remainder_after rationals s (lawful s) n basis long steps _
           (length-pair_row i j (let a = new.ordered in let b = new.within in let c = same in omega arith) (subst (λ m. j < m) same new.within))
-          (within_basis (pair_term leads i j) steps low));
+          (within_basis (lcm_of_leads leads i j) steps low));
     }
 
-    treated_iff : (at : Section) (k : ℕ) (before : List (Entry rationals)) (i j : ℕ) (steps : List (Step rationals))
+    treated_iff : (at : Section) (k : ℕ) (before : List (DealtPair rationals)) (i j : ℕ) (steps : List (Step rationals))
         → (check_entry unlimited s basis leads at k (pairs_of before) (Pair i j steps) ≡ Ok tt) ↔ IsLawfulEntry rationals s s.order n basis leads before (listed.Pair i j steps)
     unfolding check_entry
     treated_iff at k before i j steps = map_iff
         (required_iff (place.Pair at k 0) reason.Pair (may_treat leads (pairs_of before) i j) _ tt same_claim (λ new.
         formed_iff (place.Pair at k 0) (s_row_within rationals (within unlimited s) leads basis i j) _ (s_row rationals s leads basis i j) tt (s_row_exact s leads basis i j)
-        (steps_iff (pair_term leads i j) at k 0 (s_row rationals s leads basis i j) steps))) (
+        (steps_iff (lcm_of_leads leads i j) at k 0 (s_row rationals s leads basis i j) steps))) (
           λ h. (h.0, treated_from (pairs_of before) i j steps h.0 h.1),
-          λ h. (h.0, ((h.1).low, row_lead-zero rationals s.order n (after rationals s basis steps (s_row rationals s leads basis i j)) (h.1).nothing)),
+          λ h. (h.0, ((h.1).low, row_lead-zero rationals s.order n (remainder_after rationals s basis steps (s_row rationals s leads basis i j)) (h.1).nothing)),
         )
 
-    skipped_iff : (at : Section) (k : ℕ) (before : List (Entry rationals)) (i j via : ℕ)
+    skipped_iff : (at : Section) (k : ℕ) (before : List (DealtPair rationals)) (i j via : ℕ)
         → (check_entry unlimited s basis leads at k (pairs_of before) (Skip i j via) ≡ Ok tt) ↔ IsLawfulEntry rationals s s.order n basis leads before (listed.Skip i j via)
     unfolding check_entry
     skipped_iff at k before i j via =
         passes_iff (place.Pair at k 0) reason.Skip (may_treat leads (pairs_of before) i j && may_skip leads (pairs_of before) i j via)
         (both_iff (may_treat leads (pairs_of before) i j) (may_skip leads (pairs_of before) i j via) same_claim same_claim)
 
-    entries_iff : (at : Section) (k : ℕ) (before : List (Entry rationals)) (es : List PairEntry) → (check_entries unlimited s basis leads at k (pairs_of before) es ≡ Ok tt) ↔ AreLawful rationals s s.order n basis leads before (entries_of es)
+    entries_iff : (at : Section) (k : ℕ) (before : List (DealtPair rationals)) (es : List PairEntry) → (check_entries unlimited s basis leads at k (pairs_of before) es ≡ Ok tt) ↔ AreLawful rationals s s.order n basis leads before (entries_of es)
     unfolding check_entries pair_of
     entries_iff at k before [] = (λ h. tt, λ h. refl)
     entries_iff at k before (Pair i j steps ∷ es) =

@@ -1,11 +1,11 @@
 -- What follows where places of a certificate are right.
 --     required_true             a test passed
 --     required_then, found_then, formed_then    the same, something was found, or an operation gave a value; and what follows gives one too
---     both_true, not_true       tests that are joined or turned round
+--     not_true                  tests that are joined or turned round
 --     nat_eq_true, nat_lt_true  tests of numbers
 --     below_true, none_true     tests of terms, and of what was found
 --     same_true, same_false     two values are the same, or not
-use Rattle.std.proofs.Common.{◌≡◌, ℕ, ◌<◌, Bool, true, false, ◌&&◌, nat_eq, nat_lt, refl, true≢false, sym, arith}
+use Rattle.std.proofs.Common.{◌≡◌, ℕ, ◌<◌, Bool, true, false, nat_eq, nat_lt, refl, true≢false, sym, arith}
 use Rattle.std.specs.Prelude.{◌≢◌, not}
 use Rattle.std.specs.declared.cmp.Ordering.{Ordering}
 use Rattle.std.specs.declared.cmp.Ordering.TheVariants.{Less, Equal, Greater}
@@ -43,10 +43,6 @@ module _ {B : Type 0} where
   formed_then place (Err c) f y e = absurd cc
 
 -- ---- tests
-
-pub both_true : (a b : Bool) → (a && b) ≡ true → (a ≡ true) × (b ≡ true)
-both_true true b h = (refl, h)
-both_true false b h = absurd (true≢false (sym h))
 
 pub not_true : (a : Bool) → not a ≡ true → a ≡ false
 not_true true h = absurd (true≢false (sym h))

@@ -1,6 +1,5 @@
 -- Rows and other items that are read at a place.
 --     row_read         a row of a matrix, without the orders
---     drop_read        what begins at a place is the item there and what is behind it
 --     drop_mapped      the same where each item is mapped
 --     step_read        a row less a multiple of the row that a step names
 --     remainder_has         what is left has what each row that may be left has
@@ -11,11 +10,12 @@ use Rattle.std.specs.Prelude.{IfSome}
 use Rattle.std.specs.declared.option.Option.{Option}
 use Rattle.std.specs.declared.option.Option.TheVariants.{None}
 use Rattle.ore_blocks.specs.InnerContracts.{remainder_of}
-use Rattle.std.proofs.lemmas.List.{drop_more, get_or-map}
+use Rattle.std.proofs.lemmas.List.{get_or-map}
 use Rattle.std.proofs.lemmas.List.Elements.{All-append, All-cons, All-nil}
 use Rattle.std.proofs.lemmas.Option.{slice_get_within, get_or_from_slice_get}
 use Rattle.ore_algebra.specs.Limits.{Limits}
-use Rattle.ore_rational.proofs.FractionLaws.{rationals}
+use Rattle.ore_algebra.proofs.ListLaws.{drop_read}
+use Rattle.ore_rational.specs.Field.{rationals}
 use Rattle.ore_monomial.specs.LetterRule.{Operator}
 use Rattle.ore_monomial.specs.Signature.{Signature}
 use Rattle.ore_ring.specs.Ordered.{Ordered}
@@ -26,9 +26,6 @@ use Rattle.ore_blocks.specs.PlaceConditions.{less_step}
 
 pub row_read : (m : OperatorMatrix) (k : ℕ) (r : List Ordered) → slice_get m.rows k ≡ Some r → row_at (rows_of m) k ≡ sums_of r
 row_read m k r e = get_or-map sums_of m.rows k r [] (slice_get_within m.rows k r e) ∙ ap sums_of (get_or_from_slice_get m.rows k r r e)
-
-pub drop_read : {A : Type 0} (xs : List A) (k : ℕ) (x : A) → slice_get xs k ≡ Some x → drop k xs ≡ x ∷ drop (k + 1) xs
-drop_read xs k x e = drop_more xs k x (slice_get_within xs k x e) ∙ ap (λ y. y ∷ drop (k + 1) xs) (get_or_from_slice_get xs k x x e)
 
 pub drop_mapped : {A B : Type 0} (f : A → B) (xs : List A) (k : ℕ) (x : A) → slice_get xs k ≡ Some x → drop k (map f xs) ≡ f x ∷ drop (k + 1) (map f xs)
 drop_mapped f xs k x e = drop-map f k xs ∙ ap (map f) (drop_read xs k x e) ∙ ap (λ ys. f x ∷ ys) (sym (drop-map f (k + 1) xs))

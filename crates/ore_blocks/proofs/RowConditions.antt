@@ -8,13 +8,13 @@ use Rattle.std.proofs.Common.{◌≡◌, ◌↔◌, ℕ, suc, pred, List, [], �
 use Rattle.std.specs.declared.result.Result.{Result}
 use Rattle.std.specs.declared.result.Result.TheVariants.{Ok}
 use Rattle.ore_algebra.specs.Limits.{Cause, unlimited, ◌>>=◌}
-use Rattle.ore_rational.proofs.FractionLaws.{rationals}
+use Rattle.ore_rational.specs.Field.{rationals}
 use Rattle.ore_monomial.specs.Signature.{Signature}
 use Rattle.ore_monomial.specs.Term.{Term}
 use Rattle.ore_rows.specs.Rows.{Row, AreLong, row_minus, row_scale, combine, matrix_times}
 use Rattle.ore_rows.specs.RowsWithin.{combine_within}
 use Rattle.ore_rows.specs.Arithmetic.{within, scaled}
-use Rattle.ore_rows.specs.Reduction.{Step, step_operator, row_at, less_multiple, after}
+use Rattle.ore_rows.specs.Reduction.{Step, step_operator, row_at, less_multiple, remainder_after}
 use Rattle.ore_rows.proofs.SoundArithmetic.{within_unlimited}
 use Rattle.ore_rows.proofs.WithinValues.{combine_unlimited, scale_unlimited, difference_unlimited}
 use Rattle.ore_pairs.specs.Steps.{s_row, s_row_within}
@@ -47,8 +47,8 @@ module _ (s : Signature) where
       (scale_unlimited s (step_operator rationals t) (row_at m t.index))
       (difference_unlimited r (row_scale rationals s (step_operator rationals t) (row_at m t.index)))
 
-  pub steps_exact : (m : List (Row rationals)) (ts : List (Step rationals)) (r : Row rationals) → less_steps unlimited s m ts r ≡ Ok (after rationals s m ts r)
-  unfolding after
+  pub steps_exact : (m : List (Row rationals)) (ts : List (Step rationals)) (r : Row rationals) → less_steps unlimited s m ts r ≡ Ok (remainder_after rationals s m ts r)
+  unfolding remainder_after
   steps_exact m [] r = refl
   steps_exact m (t ∷ ts) r = limits_on (less_step unlimited s m t r) _ (stepped m t r) _ (step_exact m t r) (steps_exact m ts (stepped m t r))
 

@@ -10,7 +10,7 @@ use Rattle.std.proofs.Common.{◌≡◌, ℕ, List, [], ◌∷◌, map, length, 
 use Rattle.std.specs.List.{All, AllByRecursion}
 use Rattle.std.proofs.lemmas.List.{length-map}
 use Rattle.std.proofs.lemmas.List.Elements.{All-nil, All-cons, All-from_recursion}
-use Rattle.ore_rational.proofs.FractionLaws.{rationals}
+use Rattle.ore_rational.specs.Field.{rationals}
 use Rattle.ore_monomial.specs.Signature.{Signature, MonomialOf}
 use Rattle.ore_monomial.specs.declared.order.Order.{Order}
 use Rattle.ore_ring.specs.Belongs.{Belongs}
@@ -19,10 +19,10 @@ use Rattle.ore_rows.specs.Reduction.{Step}
 use Rattle.ore_rows.specs.Reduction.{basis_rows}
 use Rattle.ore_rows.specs.Rows.{Row, RowOf, AreLong}
 use Rattle.ore_rows.specs.Stored.{HasColumns, sums_of, rows_of}
-use Rattle.ore_pairs.specs.Blocks as plain
-use Rattle.ore_pairs.specs.PairList.{Entry, AreEntriesOf}
+use Rattle.ore_pairs.specs.Blocks as blocks
+use Rattle.ore_pairs.specs.PairList.{DealtPair, AreEntriesOf}
 use Rattle.ore_pairs.specs.PairList as listed
-use Rattle.ore_pairs.specs.Run.{State}
+use Rattle.ore_pairs.specs.Run.{RunState}
 use Rattle.ore_pairs.specs.RunBlocks.{exact_of_run, outside_of_run}
 use Rattle.ore_pairs.specs.Steps.{AreStepsOf}
 use Rattle.ore_parts.specs.OfSignature.{MatrixOf, IsEntryOf, IsExactOf, IsOutsideOf}
@@ -40,13 +40,13 @@ module _ (o : Order) where
   rows_of-stored n [] = refl
   rows_of-stored n (r ∷ rows) = λ i. sums_of-ordered_row r i ∷ rows_of-stored n rows i
 
-pub entries_of-stored : (es : List (Entry rationals)) → entries_of (map stored_entry es) ≡ es
+pub entries_of-stored : (es : List (DealtPair rationals)) → entries_of (map stored_entry es) ≡ es
 entries_of-stored [] = refl
 entries_of-stored (listed.Pair i j steps ∷ es) = λ k. listed.Pair i j steps ∷ entries_of-stored es k
 entries_of-stored (listed.Skip i j via ∷ es) = λ k. listed.Skip i j via ∷ entries_of-stored es k
 
 module _ (o : Order) (n : ℕ) where
-  pub exact_of-stored : (q m : ℕ) (b : plain.ExactBlock rationals) → exact_of (stored_exact o n q m b) ≡ b
+  pub exact_of-stored : (q m : ℕ) (b : blocks.ExactBlock rationals) → exact_of (stored_exact o n q m b) ≡ b
   exact_of-stored q m b = λ i. record {
     basis = rows_of-stored o n b.basis i;
     from = rows_of-stored o (length b.basis) b.from i;
@@ -55,7 +55,7 @@ module _ (o : Order) (n : ℕ) where
     inside = rows_of-stored o m b.inside i;
   }
 
-  pub outside_of-stored : (b : plain.OutsideBlock rationals) → outside_of (stored_outside o n b) ≡ b
+  pub outside_of-stored : (b : blocks.OutsideBlock rationals) → outside_of (stored_outside o n b) ≡ b
   outside_of-stored b = λ i. record {
     basis = rows_of-stored o n b.basis i;
     from = rows_of-stored o (length b.basis) b.from i;
@@ -84,14 +84,14 @@ module _ (s : Signature) where
   steps_stored : (steps : List (Step rationals)) → AreStepsOf rationals s steps → All (λ t. MonomialOf s t.monomial) steps
   steps_stored steps h = All-from_recursion (λ t. MonomialOf s t.monomial) steps h
 
-  pub entries_stored : (es : List (Entry rationals)) → AreEntriesOf rationals s es → All (IsEntryOf s) (map stored_entry es)
+  pub entries_stored : (es : List (DealtPair rationals)) → AreEntriesOf rationals s es → All (IsEntryOf s) (map stored_entry es)
   entries_stored [] h = All-nil (IsEntryOf s)
   entries_stored (listed.Pair i j steps ∷ es) h = All-cons (IsEntryOf s) (Pair i j steps) (map stored_entry es) (steps_stored steps h.0) (entries_stored es h.1)
   entries_stored (listed.Skip i j via ∷ es) h = All-cons (IsEntryOf s) (Skip i j via) (map stored_entry es) tt (entries_stored es h)
 
   module _ (n : ℕ) where
-    pub exact_stored : (q m : ℕ) (b : plain.ExactBlock rationals) → AreLong rationals n b.basis → AreLong rationals (length b.basis) b.from → AreLong rationals q b.to → AreLong rationals m b.inside
-        → plain.IsExactBlockOf rationals s b → IsExactOf s (stored_exact s.order n q m b)
+    pub exact_stored : (q m : ℕ) (b : blocks.ExactBlock rationals) → AreLong rationals n b.basis → AreLong rationals (length b.basis) b.from → AreLong rationals q b.to → AreLong rationals m b.inside
+        → blocks.IsExactBlockOfSignature rationals s b → IsExactOf s (stored_exact s.order n q m b)
     exact_stored q m b basis from to inside d = record {
       basis = matrix_stored n b.basis basis d.basis;
       from = matrix_stored (length b.basis) b.from from d.from;
@@ -100,8 +100,8 @@ module _ (s : Signature) where
       inside = matrix_stored m b.inside inside d.inside;
     }
 
-    pub outside_stored : (b : plain.OutsideBlock rationals) → AreLong rationals n b.basis → AreLong rationals (length b.basis) b.from
-        → plain.IsOutsideBlockOf rationals s b → RowOf rationals s b.rest → IsOutsideOf s (stored_outside s.order n b)
+    pub outside_stored : (b : blocks.OutsideBlock rationals) → AreLong rationals n b.basis → AreLong rationals (length b.basis) b.from
+        → blocks.IsOutsideBlockOfSignature rationals s b → RowOf rationals s b.rest → IsOutsideOf s (stored_outside s.order n b)
     outside_stored b basis from d rest = record {
       basis = matrix_stored n b.basis basis d.basis;
       from = matrix_stored (length b.basis) b.from from d.from;
@@ -112,36 +112,36 @@ module _ (s : Signature) where
 
 -- ---- the blocks of a state
 
-module _ (s : Signature) (a : RowMatrix) (st : State rationals) where
+module _ (s : Signature) (a : RowMatrix) (st : RunState rationals) where
   -- rows of a matrix, where `inside` has a column for each
   module _ (inside : RowMatrix) (m : RowMatrix) (fits : inside.cols ≡ length m.rows) where
-    abbrev made : plain.ExactBlock rationals
+    abbrev made : blocks.ExactBlock rationals
     made = exact_of_run rationals s.order a.rows st inside.cols inside.rows
 
-    pub exact_block-valid : plain.IsValidExact rationals s s.order a.cols a.rows m.rows made → IsValidExactFor s a m (exact_block_of s a st inside)
+    pub exact_block-valid : blocks.IsValidExact rationals s s.order a.cols a.rows m.rows made → IsValidExactFor s a m (exact_block_of s a st inside)
     exact_block-valid h = record {
       basis_columns = refl;
       from_columns = sym (length-map (basis_rows st.basis) (ordered_row s.order));
       to_columns = refl;
       inside_columns = fits;
-      valid = subst (plain.IsValidExact rationals s s.order a.cols a.rows m.rows) (sym (exact_of-stored s.order a.cols (length a.rows) inside.cols made)) h;
+      valid = subst (blocks.IsValidExact rationals s s.order a.cols a.rows m.rows) (sym (exact_of-stored s.order a.cols (length a.rows) inside.cols made)) h;
     }
 
-    pub exact_block-of : plain.IsValidExact rationals s s.order a.cols a.rows m.rows made → plain.IsExactBlockOf rationals s made → IsExactOf s (exact_block_of s a st inside)
+    pub exact_block-of : blocks.IsValidExact rationals s s.order a.cols a.rows m.rows made → blocks.IsExactBlockOfSignature rationals s made → IsExactOf s (exact_block_of s a st inside)
     exact_block-of h d =
         exact_stored s a.cols (length a.rows) inside.cols made h.is_basis.long h.is_basis.from_shape.1 h.to_shape.1 (subst (λ n. AreLong rationals n made.inside) (sym fits) h.inside_shape.1) d
 
   module _ (steps : List (Step rationals)) (rest : Row rationals) (w : Row rationals) (fits : length rest ≡ a.cols) where
-    abbrev left_made : plain.OutsideBlock rationals
+    abbrev left_made : blocks.OutsideBlock rationals
     left_made = outside_of_run rationals s.order a.rows st steps rest
 
-    pub outside_block-valid : plain.IsValidOutside rationals s s.order a.cols a.rows w left_made → IsValidOutsideFor s a w (outside_block_of s a st steps rest)
+    pub outside_block-valid : blocks.IsValidOutside rationals s s.order a.cols a.rows w left_made → IsValidOutsideFor s a w (outside_block_of s a st steps rest)
     outside_block-valid h = record {
       basis_columns = refl;
       from_columns = sym (length-map (basis_rows st.basis) (ordered_row s.order));
       rest_columns = length-map rest (λ f. record { by = s.order; sum = f }) ∙ fits;
-      valid = subst (plain.IsValidOutside rationals s s.order a.cols a.rows w) (sym (outside_of-stored s.order a.cols left_made)) h;
+      valid = subst (blocks.IsValidOutside rationals s s.order a.cols a.rows w) (sym (outside_of-stored s.order a.cols left_made)) h;
     }
 
-    pub outside_block-of : plain.IsValidOutside rationals s s.order a.cols a.rows w left_made → plain.IsOutsideBlockOf rationals s left_made → RowOf rationals s rest → IsOutsideOf s (outside_block_of s a st steps rest)
+    pub outside_block-of : blocks.IsValidOutside rationals s s.order a.cols a.rows w left_made → blocks.IsOutsideBlockOfSignature rationals s left_made → RowOf rationals s rest → IsOutsideOf s (outside_block_of s a st steps rest)
     outside_block-of h d of_rest = outside_stored s a.cols left_made h.is_basis.long h.is_basis.from_shape.1 d of_rest

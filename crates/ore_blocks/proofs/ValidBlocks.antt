@@ -2,7 +2,7 @@
 --     exact_shows        the rows that take a to zeros are the row module of m
 --     outside_shows      w isn't in the row module of a
 use Rattle.std.proofs.Common.{length}
-use Rattle.ore_rational.proofs.FractionLaws.{rationals}
+use Rattle.ore_rational.specs.Field.{rationals}
 use Rattle.ore_monomial.specs.Signature.{Signature}
 use Rattle.ore_monomial.proofs.Signatures.{lawful}
 use Rattle.ore_rows.specs.Rows.{Row, AreLong, InRowModule, IsExact}

@@ -5,7 +5,7 @@
 --     exact_block_of                  shows that what takes the matrix of the run to zeros is a row module
 --     outside_block_of                shows that a row is not in the row module of this matrix
 use Rattle.std.specs.Prelude.{ℕ, List, length, map}
-use Rattle.ore_rational.proofs.FractionLaws.{rationals}
+use Rattle.ore_rational.specs.Field.{rationals}
 use Rattle.ore_monomial.specs.Signature.{Signature}
 use Rattle.ore_monomial.specs.declared.order.Order.{Order}
 use Rattle.ore_ring.specs.Ordered.{Ordered}
@@ -13,9 +13,9 @@ use Rattle.ore_rows.specs.Rows.{Row}
 use Rattle.ore_rows.specs.Reduction.{Step}
 use Rattle.ore_rows.specs.Stored.{OperatorMatrix}
 use Rattle.ore_pairs.specs.Blocks as plain
-use Rattle.ore_pairs.specs.PairList.{Entry}
+use Rattle.ore_pairs.specs.PairList.{DealtPair}
 use Rattle.ore_pairs.specs.PairList as listed
-use Rattle.ore_pairs.specs.Run.{State}
+use Rattle.ore_pairs.specs.Run.{RunState}
 use Rattle.ore_pairs.specs.RunBlocks.{exact_of_run, outside_of_run}
 use Rattle.ore_parts.specs.declared.block.PairEntry.{PairEntry}
 use Rattle.ore_parts.specs.declared.block.PairEntry.TheVariants.{Pair, Skip}
@@ -32,7 +32,7 @@ abbrev pub stored_matrix : Order → ℕ → List (Row rationals) → OperatorMa
 stored_matrix o n rows = record { cols = n; rows = map (ordered_row o) rows }
 
 -- a treated pair with its steps, or a skipped one
-abbrev pub stored_entry : Entry rationals → PairEntry
+abbrev pub stored_entry : DealtPair rationals → PairEntry
 stored_entry (listed.Pair i j steps) = Pair i j steps
 stored_entry (listed.Skip i j via) = Skip i j via
 
@@ -44,7 +44,7 @@ stored_exact o n q m b = record { basis = stored_matrix o n b.basis; from = stor
 abbrev pub stored_outside : Order → ℕ → plain.OutsideBlock rationals → OutsideBlock
 stored_outside o n b = record { basis = stored_matrix o n b.basis; from = stored_matrix o (length b.basis) b.from; pairs = map stored_entry b.entries; quotients = b.steps; rest = ordered_row o b.rest }
 
-module _ (s : Signature) (a : RowMatrix) (st : State rationals) where
+module _ (s : Signature) (a : RowMatrix) (st : RunState rationals) where
   -- by a row for each syzygy, which has a column for each row of the other matrix
   abbrev pub exact_block_of : RowMatrix → ExactBlock
   exact_block_of inside = stored_exact s.order a.cols (length a.rows) inside.cols (exact_of_run rationals s.order a.rows st inside.cols inside.rows)

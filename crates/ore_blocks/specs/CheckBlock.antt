@@ -4,7 +4,7 @@
 --     pair_of                    the pair of an entry
 --     entry_of, entries_of       an entry, and a list of them, as the laws on lists of pairs have them
 --     are_zero                   some rows are zero
---     basis_leads                the leads of basis rows, from row k on
+--     monic_leads                the leads of basis rows, from row k on
 --     rows_give                  the rows of a matrix with a name times another are given rows, from row k on
 --     check_steps                the steps of a pair, each below the common multiple, leave nothing
 --     check_entry, check_entries, check_pairs     the pairs of a basis, each by those before it
@@ -17,7 +17,7 @@
 use Rattle.std.specs.Prelude.{ℕ, suc, ◌+◌, Bool, true, ◌&&◌, nat_eq, List, [], ◌∷◌, length, map, drop}
 use Rattle.std.specs.declared.result.Result.TheVariants.{Ok}
 use Rattle.ore_algebra.specs.Limits.{Limits}
-use Rattle.ore_rational.proofs.FractionLaws.{rationals}
+use Rattle.ore_rational.specs.Field.{rationals}
 use Rattle.ore_monomial.specs.Signature.{Signature}
 use Rattle.ore_monomial.specs.Term.{Term}
 use Rattle.ore_monomial.specs.declared.order.Order.{Order}
@@ -28,10 +28,10 @@ use Rattle.ore_rows.specs.Arithmetic.{within}
 use Rattle.ore_rows.specs.RowsWithin.{matrix_times_within}
 use Rattle.ore_rows.specs.Reduction.{Step}
 use Rattle.ore_rows.specs.Stored.{OperatorMatrix, sums_of, rows_of}
-use Rattle.ore_pairs.specs.PairList.{Entry, pair_count, treated_count}
+use Rattle.ore_pairs.specs.PairList.{DealtPair, pair_count, treated_count}
 use Rattle.ore_pairs.specs.PairList as listed
 use Rattle.ore_pairs.specs.PairRule.{may_treat, may_skip}
-use Rattle.ore_pairs.specs.Steps.{pair_term, s_row_within, common_fits}
+use Rattle.ore_pairs.specs.Steps.{lcm_of_leads, s_row_within, common_fits}
 use Rattle.ore_parts.specs.declared.block.PairEntry.{PairEntry}
 use Rattle.ore_parts.specs.declared.block.PairEntry.TheVariants.{Pair, Skip}
 use Rattle.ore_parts.specs.declared.block.ExactBlock.{ExactBlock}
@@ -69,22 +69,22 @@ pair_of (Pair i j steps) = (i, j)
 pair_of (Skip i j via) = (i, j)
 
 -- an entry, as the laws on lists of pairs have it
-abbrev pub entry_of : PairEntry → Entry rationals
+abbrev pub entry_of : PairEntry → DealtPair rationals
 entry_of (Pair i j steps) = listed.Pair i j steps
 entry_of (Skip i j via) = listed.Skip i j via
 
 -- a list of entries, as these laws have it
-abbrev pub entries_of : List PairEntry → List (Entry rationals)
+abbrev pub entries_of : List PairEntry → List (DealtPair rationals)
 entries_of es = map entry_of es
 
 -- ---- lists of places
 
 -- each basis row has a lead with the coefficient 1
-unfoldable pub basis_leads : Order → Section → ℕ → List (Row rationals) → Checked (List Term)
-basis_leads o at k [] = Ok []
-basis_leads o at k (r ∷ rs) = do
+unfoldable pub monic_leads : Order → Section → ℕ → List (Row rationals) → Checked (List Term)
+monic_leads o at k [] = Ok []
+monic_leads o at k (r ∷ rs) = do
   t ← found (place.Row at Basis k) reason.NotMonic (monic_lead o r)
-  ts ← basis_leads o at (suc k) rs
+  ts ← monic_leads o at (suc k) rs
   Ok (t ∷ ts)
 
 module _ (l : Limits) (s : Signature) where
@@ -111,9 +111,9 @@ module _ (l : Limits) (s : Signature) where
   unfoldable pub check_entry : List (Row rationals) → List Term → Section → ℕ → List (ℕ × ℕ) → PairEntry → Checked (Unit {0})
   check_entry basis leads at k before (Pair i j steps) = do
     _ ← required (place.Pair at k 0) reason.Pair (may_treat leads before i j)
-    _ ← formed (place.Pair at k 0) (common_fits rationals (within l s) (pair_term leads i j))
+    _ ← formed (place.Pair at k 0) (common_fits rationals (within l s) (lcm_of_leads leads i j))
     r ← formed (place.Pair at k 0) (s_row_within rationals (within l s) leads basis i j)
-    check_steps basis leads (pair_term leads i j) at k 0 r steps
+    check_steps basis leads (lcm_of_leads leads i j) at k 0 r steps
   check_entry basis leads at k before (Skip i j via) = required (place.Pair at k 0) reason.Skip (may_treat leads before i j && may_skip leads before i j via)
 
   -- each pair from k on, by those before it
@@ -156,7 +156,7 @@ module _ (l : Limits) (s : Signature) where
   unfoldable pub check_basis : RowMatrix → Section → RowMatrix → RowMatrix → Checked (List Term)
   check_basis a at basis from = do
     _ ← required (place.Header at Basis) reason.Shape (nat_eq basis.cols a.cols)
-    leads ← basis_leads s.order at 0 basis.rows
+    leads ← monic_leads s.order at 0 basis.rows
     _ ← required (place.Header at From) reason.Shape (nat_eq (length from.rows) (length a.rows) && nat_eq from.cols (length basis.rows))
     _ ← rows_give reason.FromRow a.cols basis.rows at From 0 from.rows a.rows
     Ok leads

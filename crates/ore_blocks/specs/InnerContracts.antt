@@ -13,7 +13,7 @@ use Rattle.std.specs.declared.option.Option.TheVariants.{None, Some}
 use Rattle.ore_monomial.specs.Monomial.{Monomial, degree}
 use Rattle.ore_monomial.specs.Term.{Term}
 use Rattle.ore_ring.specs.Ordered.{Ordered}
-use Rattle.ore_pairs.specs.Steps.{pair_term}
+use Rattle.ore_pairs.specs.Steps.{lcm_of_leads}
 use Rattle.ore_parts.specs.declared.block.PairEntry.{PairEntry}
 use Rattle.ore_parts.specs.declared.block.PairEntry.TheVariants.{Pair, Skip}
 
@@ -29,7 +29,7 @@ remainder_of (Some r) w = r
 
 -- a pair of basis rows with these leads, whose common multiple may be formed, and whose steps name basis rows
 abbrev pub IsTreatable : List Term → PairEntry → Type 0
-IsTreatable leads (Pair i j steps) = (i < j) × (j < length leads) × (degree (pair_term leads i j).monomial ≤ 32767) × All (λ t. t.index < length leads) steps
+IsTreatable leads (Pair i j steps) = (i < j) × (j < length leads) × (degree (lcm_of_leads leads i j).monomial ≤ 32767) × All (λ t. t.index < length leads) steps
 IsTreatable leads (Skip i j via) = i < j
 
 -- how many leads a map counts in a column

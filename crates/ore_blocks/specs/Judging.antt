@@ -3,9 +3,11 @@
 --     Refuses       a call that refused so did as the places say; of want of memory nothing is said
 --     Judges        a call that returned a value or refused did as the places say
 --     stopped       the refusal of an operation that stops at a place
+--     at_place      what an operation answered, with the place of its stop
 use Rattle.std.specs.declared.option.Option.{Option}
 use Rattle.std.specs.declared.option.Option.TheVariants.{None, Some}
 use Rattle.std.specs.declared.result.Result.{Result}
+use Rattle.std.specs.declared.result.Result.TheVariants.{Ok, Err}
 use Rattle.ore_algebra.specs.Limits as cause
 use Rattle.ore_algebra.specs.Results.{RefusedBy, GivesBy}
 use Rattle.ore_monomial.specs.declared.stop.RingStop.{RingStop}
@@ -34,3 +36,8 @@ abbrev pub stopped : Place → RingStop → Refusal
 stopped place stop.Overflow = refusal.Overflow place
 stopped place stop.Degree = refusal.Degree place
 stopped place stop.Memory = refusal.Memory
+
+-- the value, or the refusal of its stop
+abbrev pub at_place : {X : Type 0} → Place → Result X RingStop → Result X Refusal
+at_place place (Ok x) = Ok x
+at_place place (Err e) = Err (stopped place e)

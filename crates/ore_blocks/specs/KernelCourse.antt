@@ -10,11 +10,11 @@ use Rattle.std.specs.declared.result.Result.{Result}
 use Rattle.std.specs.declared.result.Result.TheVariants.{Ok, Err}
 use Rattle.ore_algebra.specs.Limits.{Limits, Cause}
 use Rattle.ore_course.specs.Course.{Course, Done, ◌>>=◌, forced}
-use Rattle.ore_rational.proofs.FractionLaws.{rationals}
+use Rattle.ore_rational.specs.Field.{rationals}
 use Rattle.ore_monomial.specs.Signature.{Signature}
 use Rattle.ore_rows.specs.Rows.{identity_rows}
 use Rattle.ore_adjoint.specs.AdjointMatrix.{transpose_adjoint_within}
-use Rattle.ore_pairs.specs.Run.{State}
+use Rattle.ore_pairs.specs.Run.{RunState}
 use Rattle.ore_pairs.specs.Runner.{run_within}
 use Rattle.ore_parts.specs.declared.block.ExactBlock.{ExactBlock}
 use Rattle.ore_blocks.specs.CheckBlock.{RowMatrix}
@@ -22,26 +22,26 @@ use Rattle.ore_blocks.specs.BlockOfRun.{exact_block_of}
 
 -- forced work and runs on the rows of matrices, in order
 abbrev pub RunCourse : Type 0 → Type 0
-RunCourse X = Course (State rationals) X
+RunCourse X = Course (RunState rationals) X
 
 -- rows with a column for each row of the matrix of the run, also where there are none
-abbrev pub syzygies_of : RowMatrix → State rationals → RowMatrix
+abbrev pub syzygies_of : RowMatrix → RunState rationals → RowMatrix
 syzygies_of a st = record { cols = length a.rows; rows = st.syzygies }
 
 -- what takes the matrix a to zeros is the row module of the syzygies; the inside rows are unit rows
-abbrev pub kernel_block : Signature → RowMatrix → State rationals → ExactBlock
+abbrev pub kernel_block : Signature → RowMatrix → RunState rationals → ExactBlock
 kernel_block s a st = exact_block_of s a st (record { cols = length st.syzygies; rows = identity_rows rationals (length st.syzygies) })
 
 -- the matrix of the run, which is the transposed adjoint of the one whose kernel is wanted; the last state; and the
 -- transposed adjoint of its syzygies, whose columns generate the kernel
 pub record RightKernel : Type 0 where
   pub adjoint : RowMatrix
-  pub last : State rationals
+  pub last : RunState rationals
   pub generators : RowMatrix
 
 module _ (l : Limits) (s : Signature) where
   -- the first basis is forced work; then come the choices
-  abbrev pub run_on : RowMatrix → RunCourse (State rationals)
+  abbrev pub run_on : RowMatrix → RunCourse (RunState rationals)
   run_on a = run_within l s a.rows
 
   -- a row for each column, and a column for each row

@@ -2,7 +2,7 @@
 --     exact_of, outside_of                  a block, without the orders of its operators and the columns of its matrices
 --     IsValidExactFor, IsValidOutsideFor    a block has its sizes, and is valid
 use Rattle.std.specs.Prelude.{◌≡◌, length}
-use Rattle.ore_rational.proofs.FractionLaws.{rationals}
+use Rattle.ore_rational.specs.Field.{rationals}
 use Rattle.ore_monomial.specs.Signature.{Signature}
 use Rattle.ore_rows.specs.Rows.{Row}
 use Rattle.ore_rows.specs.Stored.{sums_of, rows_of}

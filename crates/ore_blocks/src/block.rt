@@ -3,7 +3,7 @@
 ghost use Rattle.std.specs.Prelude.{◌≡◌, length};
 ghost use Rattle.std.specs.List.{All};
 ghost use Rattle.ore_algebra.specs.Limits.{program};
-ghost use Rattle.ore_ring.specs.Belongs.{Belongs};
+ghost use Rattle.ore_ring.specs.Belongs.{AllBelong};
 ghost use Rattle.ore_rows.specs.Stored.{sums_of};
 ghost use Rattle.ore_parts.specs.OfSignature.{IsExactOf, IsOutsideOf};
 ghost use Rattle.ore_blocks.specs.CheckBlock.{check_exact, check_outside, check_rest, plain};
@@ -40,8 +40,8 @@ pub fn exact_block<R: OreRing>(
     section: Section,
 ) -> Result<(), Refusal>
     requires m_cols { m.now.cols ≡ length a.now.rows }
-    requires a_of { All (All (Belongs (R.sig ring.now))) a.now.rows }
-    requires m_of { All (All (Belongs (R.sig ring.now))) m.now.rows }
+    requires a_of { All (AllBelong (R.sig ring.now)) a.now.rows }
+    requires m_of { All (AllBelong (R.sig ring.now)) m.now.rows }
     requires block_of { IsExactOf (R.sig ring.now) block.now }
     ensures { Judges (λ u. u) result (check_exact program (R.sig ring.now) section (plain a.now) (plain m.now) block.now) }
 {
@@ -72,8 +72,8 @@ pub fn outside_block<R: OreRing>(
     block: &OutsideBlock,
 ) -> Result<(), Refusal>
     requires width { length w.now ≡ a.now.cols }
-    requires a_of { All (All (Belongs (R.sig ring.now))) a.now.rows }
-    requires w_of { All (Belongs (R.sig ring.now)) w.now }
+    requires a_of { All (AllBelong (R.sig ring.now)) a.now.rows }
+    requires w_of { AllBelong (R.sig ring.now) w.now }
     requires block_of { IsOutsideOf (R.sig ring.now) block.now }
     ensures { Judges (λ u. u) result (check_outside program (R.sig ring.now) (plain a.now) (sums_of w.now) block.now) }
 {
@@ -93,8 +93,8 @@ fn check_rest<R: OreRing>(
     left: &Row,
     rest: &Row,
 ) -> Result<(), Refusal>
-    requires remainder_of { All (Belongs (R.sig ring.now)) left.now }
-    requires rest_of { All (Belongs (R.sig ring.now)) rest.now }
+    requires remainder_of { AllBelong (R.sig ring.now) left.now }
+    requires rest_of { AllBelong (R.sig ring.now) rest.now }
     ensures { Judges (λ u. u) result (check_rest program (R.sig ring.now) leads.now cols (sums_of left.now) rest.now) }
 {
     required(

@@ -2,7 +2,7 @@
 
 ghost use Rattle.std.specs.Prelude.{◌≡◌, ◌↔◌, IsTrue};
 ghost use Rattle.std.specs.List.{All};
-ghost use Rattle.ore_ring.specs.Belongs.{Belongs};
+ghost use Rattle.ore_ring.specs.Belongs.{AllBelong};
 ghost use Rattle.ore_rows.specs.Stored.{rows_of, sums_of};
 ghost use Rattle.ore_blocks.specs.PlaceConditions.{same_row, same_rows};
 
@@ -11,8 +11,8 @@ use ore_rows::{Matrix, Row};
 
 /// Whether two rows of the signature of a ring are the same.
 pub fn are_same<R: OreRing>(ring: &R, a: &Row, b: &Row) -> bool
-    requires a_of { All (Belongs (R.sig ring.now)) a.now }
-    requires b_of { All (Belongs (R.sig ring.now)) b.now }
+    requires a_of { AllBelong (R.sig ring.now) a.now }
+    requires b_of { AllBelong (R.sig ring.now) b.now }
     ensures { result ≡ same_row (sums_of a.now) (sums_of b.now) }
 {
     let _ring = ring;
@@ -21,8 +21,8 @@ pub fn are_same<R: OreRing>(ring: &R, a: &Row, b: &Row) -> bool
 
 /// Whether two matrices over the signature of a ring have the same rows.
 pub fn have_same_rows<R: OreRing>(ring: &R, a: &Matrix, b: &Matrix) -> bool
-    requires a_of { All (All (Belongs (R.sig ring.now))) a.now.rows }
-    requires b_of { All (All (Belongs (R.sig ring.now))) b.now.rows }
+    requires a_of { All (AllBelong (R.sig ring.now)) a.now.rows }
+    requires b_of { All (AllBelong (R.sig ring.now)) b.now.rows }
     ensures { result ≡ same_rows (rows_of a.now) (rows_of b.now) }
 {
     let _ring = ring;

@@ -5,10 +5,10 @@ ghost use Rattle.std.specs.List.{All};
 ghost use Rattle.ore_algebra.specs.Limits.{program};
 ghost use Rattle.ore_monomial.specs.Monomial.{degree};
 ghost use Rattle.ore_monomial.specs.Signature.{MonomialOf};
-ghost use Rattle.ore_ring.specs.Belongs.{Belongs};
+ghost use Rattle.ore_ring.specs.Belongs.{AllBelong};
 ghost use Rattle.ore_rows.specs.Stored.{rows_of, sums_of};
-ghost use Rattle.ore_pairs.specs.Steps.{pair_term};
-ghost use Rattle.ore_parts.specs.OfSignature.{AreStepsOf, IsEntryOf};
+ghost use Rattle.ore_pairs.specs.Steps.{lcm_of_leads};
+ghost use Rattle.ore_parts.specs.OfSignature.{AreStoredStepsOf, IsEntryOf};
 ghost use Rattle.ore_blocks.specs.CheckBlock.{check_inside, rows_inside, pairs_inside, plain};
 ghost use Rattle.ore_blocks.specs.InnerContracts.{IsTreatable};
 ghost use Rattle.ore_blocks.specs.Judging.{Judges};
@@ -47,12 +47,12 @@ pub fn check_inside<R: OreRing>(
     requires to_rows { length block.now.to.rows ≡ length leads.now }
     requires to_cols { block.now.to.cols ≡ length a.now.rows }
     requires treatable { All (IsTreatable leads.now) block.now.pairs }
-    requires m_of { All (All (Belongs (R.sig ring.now))) m.now.rows }
+    requires m_of { All (AllBelong (R.sig ring.now)) m.now.rows }
     requires leads_of { All (λ t. MonomialOf (R.sig ring.now) t.monomial) leads.now }
-    requires from_of { All (All (Belongs (R.sig ring.now))) block.now.from.rows }
-    requires to_of { All (All (Belongs (R.sig ring.now))) block.now.to.rows }
+    requires from_of { All (AllBelong (R.sig ring.now)) block.now.from.rows }
+    requires to_of { All (AllBelong (R.sig ring.now)) block.now.to.rows }
     requires pairs_of { All (IsEntryOf (R.sig ring.now)) block.now.pairs }
-    requires inside_of { All (All (Belongs (R.sig ring.now))) block.now.inside.rows }
+    requires inside_of { All (AllBelong (R.sig ring.now)) block.now.inside.rows }
     ensures { Judges (λ u. u) result (check_inside program (R.sig ring.now) (plain a.now) (plain m.now) leads.now section (plain block.now.from) (plain block.now.to) block.now.pairs (plain block.now.inside)) }
 {
     let inside = &block.inside;
@@ -90,10 +90,10 @@ fn rows_inside<R: OreRing>(
     requires from_cols { from.now.cols ≡ length to.now.rows }
     requires inside_cols { inside.now.cols ≡ length m.now.rows }
     requires inside_rows { length from.now.rows ≤ length inside.now.rows }
-    requires to_of { All (All (Belongs (R.sig ring.now))) to.now.rows }
-    requires m_of { All (All (Belongs (R.sig ring.now))) m.now.rows }
-    requires from_of { All (All (Belongs (R.sig ring.now))) from.now.rows }
-    requires inside_of { All (All (Belongs (R.sig ring.now))) inside.now.rows }
+    requires to_of { All (AllBelong (R.sig ring.now)) to.now.rows }
+    requires m_of { All (AllBelong (R.sig ring.now)) m.now.rows }
+    requires from_of { All (AllBelong (R.sig ring.now)) from.now.rows }
+    requires inside_of { All (AllBelong (R.sig ring.now)) inside.now.rows }
     ensures { Judges (λ u. u) result (rows_inside program (R.sig ring.now) to.now.cols (rows_of to.now) (rows_of m.now) section 0 (rows_of from.now) (rows_of inside.now)) }
 {
     for i in 0..from.rows() {
@@ -126,10 +126,10 @@ fn row_inside<R: OreRing>(
     requires m_cols { m.now.cols ≡ to.now.cols }
     requires row_width { length row.now ≡ length to.now.rows }
     requires inside_width { length inside.now ≡ length m.now.rows }
-    requires to_of { All (All (Belongs (R.sig ring.now))) to.now.rows }
-    requires m_of { All (All (Belongs (R.sig ring.now))) m.now.rows }
-    requires row_of { All (Belongs (R.sig ring.now)) row.now }
-    requires inside_of { All (Belongs (R.sig ring.now)) inside.now }
+    requires to_of { All (AllBelong (R.sig ring.now)) to.now.rows }
+    requires m_of { All (AllBelong (R.sig ring.now)) m.now.rows }
+    requires row_of { AllBelong (R.sig ring.now) row.now }
+    requires inside_of { AllBelong (R.sig ring.now) inside.now }
     ensures { Judges (λ u. u) result (row_inside program (R.sig ring.now) to.now.cols (rows_of to.now) (rows_of m.now) place i (sums_of row.now) (sums_of inside.now)) }
 {
     let product = combined(ring, alloc, place, row, to)?;
@@ -156,10 +156,10 @@ fn pairs_inside<R: OreRing>(
     requires inside_cols { inside.now.cols ≡ length m.now.rows }
     requires treatable { All (IsTreatable leads.now) pairs.now }
     requires leads_of { All (λ t. MonomialOf (R.sig ring.now) t.monomial) leads.now }
-    requires to_of { All (All (Belongs (R.sig ring.now))) to.now.rows }
-    requires m_of { All (All (Belongs (R.sig ring.now))) m.now.rows }
+    requires to_of { All (AllBelong (R.sig ring.now)) to.now.rows }
+    requires m_of { All (AllBelong (R.sig ring.now)) m.now.rows }
     requires pairs_of { All (IsEntryOf (R.sig ring.now)) pairs.now }
-    requires inside_of { All (All (Belongs (R.sig ring.now))) inside.now.rows }
+    requires inside_of { All (AllBelong (R.sig ring.now)) inside.now.rows }
     ensures { Judges (λ u. u) result (pairs_inside program (R.sig ring.now) to.now.cols leads.now (rows_of to.now) (rows_of m.now) section first pairs.now (drop first (rows_of inside.now))) }
 {
     let mut next = first;
@@ -192,10 +192,10 @@ fn pair_inside<R: OreRing>(
     requires inside_width { length inside.now ≡ length m.now.rows }
     requires treatable { IsTreatable leads.now entry.now }
     requires leads_of { All (λ t. MonomialOf (R.sig ring.now) t.monomial) leads.now }
-    requires to_of { All (All (Belongs (R.sig ring.now))) to.now.rows }
-    requires m_of { All (All (Belongs (R.sig ring.now))) m.now.rows }
+    requires to_of { All (AllBelong (R.sig ring.now)) to.now.rows }
+    requires m_of { All (AllBelong (R.sig ring.now)) m.now.rows }
     requires entry_of { IsEntryOf (R.sig ring.now) entry.now }
-    requires inside_of { All (Belongs (R.sig ring.now)) inside.now }
+    requires inside_of { AllBelong (R.sig ring.now) inside.now }
     ensures { Judges (λ u. u) result (pair_inside program (R.sig ring.now) to.now.cols leads.now (rows_of to.now) (rows_of m.now) place entry.now (sums_of inside.now)) }
 {
     match entry {
@@ -225,13 +225,13 @@ fn treated_inside<R: OreRing>(
     requires inside_width { length inside.now ≡ length m.now.rows }
     requires first { i < length leads.now }
     requires second { j < length leads.now }
-    requires fits { degree (pair_term leads.now i j).monomial ≤ 32767 }
+    requires fits { degree (lcm_of_leads leads.now i j).monomial ≤ 32767 }
     requires places { All (λ t. t.index < length leads.now) steps.now }
     requires leads_of { All (λ t. MonomialOf (R.sig ring.now) t.monomial) leads.now }
-    requires to_of { All (All (Belongs (R.sig ring.now))) to.now.rows }
-    requires m_of { All (All (Belongs (R.sig ring.now))) m.now.rows }
-    requires steps_of { AreStepsOf (R.sig ring.now) steps.now }
-    requires inside_of { All (Belongs (R.sig ring.now)) inside.now }
+    requires to_of { All (AllBelong (R.sig ring.now)) to.now.rows }
+    requires m_of { All (AllBelong (R.sig ring.now)) m.now.rows }
+    requires steps_of { AreStoredStepsOf (R.sig ring.now) steps.now }
+    requires inside_of { AllBelong (R.sig ring.now) inside.now }
     ensures { Judges (λ u. u) result (pair_inside program (R.sig ring.now) to.now.cols leads.now (rows_of to.now) (rows_of m.now) place (PairEntry.Pair i j steps.now) (sums_of inside.now)) }
 {
     let start = s_row_at(ring, alloc, place, leads, to, i, j)?;

@@ -2,12 +2,12 @@
 
 ghost use Rattle.std.specs.Prelude.{◌≡◌, length, IfOk, IfSome};
 ghost use Rattle.std.specs.List.{All};
-ghost use Rattle.ore_rational.proofs.FractionLaws.{rationals};
+ghost use Rattle.ore_rational.specs.Field.{rationals};
 ghost use Rattle.ore_monomial.specs.Signature.{MonomialOf};
-ghost use Rattle.ore_ring.specs.Belongs.{Belongs};
+ghost use Rattle.ore_ring.specs.Belongs.{AllBelong};
 ghost use Rattle.ore_rows.specs.RowLead.{row_lead};
 ghost use Rattle.ore_rows.specs.Stored.{rows_of, sums_of};
-ghost use Rattle.ore_blocks.specs.CheckBlock.{basis_leads, are_zero};
+ghost use Rattle.ore_blocks.specs.CheckBlock.{monic_leads, are_zero};
 ghost use Rattle.ore_blocks.specs.Conditions.{found, is_none};
 ghost use Rattle.ore_blocks.specs.InnerContracts.{lead_of};
 ghost use Rattle.ore_blocks.specs.Judging.{Judges};
@@ -27,14 +27,14 @@ use std::alloc::Global;
 ///
 /// # Errors
 /// The place of the first row that is zero, or whose lead coefficient isn't 1; and want of memory.
-pub fn basis_leads(
+pub fn monic_leads(
     alloc: Global,
     sig: &Signature,
     section: Section,
     basis: &Matrix,
 ) -> Result<Leads, Refusal>
-    requires of { All (All (Belongs sig.now)) basis.now.rows }
-    ensures judges { Judges (λ l. l) result (basis_leads sig.now.order section 0 (rows_of basis.now)) }
+    requires of { All (AllBelong sig.now) basis.now.rows }
+    ensures judges { Judges (λ l. l) result (monic_leads sig.now.order section 0 (rows_of basis.now)) }
     ensures of { IfOk result (All (λ t. MonomialOf sig.now t.monomial)) }
     ensures count { IfOk result (λ l. length l ≡ length basis.now.rows) }
 {
@@ -48,7 +48,7 @@ pub fn basis_leads(
 
 // The lead of the basis row at a place.
 fn basis_lead(sig: &Signature, place: Place, row: &Row) -> Result<(usize, Exps), Refusal>
-    requires { All (Belongs sig.now) row.now }
+    requires { AllBelong sig.now row.now }
     ensures judges { Judges (λ t. record { monomial = t.1; column = t.0 }) result (found place Reason.NotMonic (monic_lead sig.now.order (sums_of row.now))) }
     ensures of { IfOk result (λ t. MonomialOf sig.now t.1) }
 {
@@ -63,7 +63,7 @@ fn basis_lead(sig: &Signature, place: Place, row: &Row) -> Result<(usize, Exps),
 
 // The lead of a row whose lead coefficient is 1.
 fn monic_lead(sig: &Signature, row: &Row) -> Option<(usize, Exps)>
-    requires { All (Belongs sig.now) row.now }
+    requires { AllBelong sig.now row.now }
     ensures lead { lead_of result ≡ monic_lead sig.now.order (sums_of row.now) }
     ensures of { IfSome result (λ t. MonomialOf sig.now t.1) }
 {
@@ -79,7 +79,7 @@ fn monic_lead(sig: &Signature, row: &Row) -> Option<(usize, Exps)>
 
 /// Whether a row has a lead that no lead of a basis divides.
 pub fn is_reduced(sig: &Signature, leads: &Leads, row: &Row) -> bool
-    requires { All (Belongs sig.now) row.now }
+    requires { AllBelong sig.now row.now }
     ensures { result ≡ is_reduced program sig.now leads.now (sums_of row.now) }
 {
     match row_lead(sig, row) {

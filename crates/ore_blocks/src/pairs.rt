@@ -1,20 +1,20 @@
 //! The pairs of a basis, each by those before it.
 
-ghost use Rattle.std.specs.Prelude.{◌≡◌, [], ◌∷◌, ◌<◌, ◌≤◌, ◌&&◌, length, IfOk};
+ghost use Rattle.std.specs.Prelude.{◌≡◌, ◌∷◌, ◌<◌, ◌≤◌, ◌&&◌, nat_eq, length, IfOk};
 ghost use Rattle.std.specs.List.{All};
 ghost use Rattle.ore_algebra.specs.Limits.{program};
-ghost use Rattle.ore_rational.proofs.FractionLaws.{rationals};
+ghost use Rattle.ore_rational.specs.Field.{rationals};
 ghost use Rattle.ore_monomial.specs.Monomial.{degree};
 ghost use Rattle.ore_monomial.specs.Signature.{MonomialOf};
-ghost use Rattle.ore_ring.specs.Belongs.{Belongs};
+ghost use Rattle.ore_ring.specs.Belongs.{AllBelong};
 ghost use Rattle.ore_rows.specs.Arithmetic.{within};
 ghost use Rattle.ore_rows.specs.Stored.{rows_of, sums_of};
-ghost use Rattle.ore_pairs.specs.PairList.{treated_count};
+ghost use Rattle.ore_pairs.specs.PairList.{pair_count, treated_count};
 ghost use Rattle.ore_pairs.specs.PairRule.{HaveSamePairs, may_skip, may_treat};
-ghost use Rattle.ore_pairs.specs.Steps.{common_fits, pair_term};
-ghost use Rattle.ore_parts.specs.OfSignature.{AreStepsOf, IsEntryOf};
-ghost use Rattle.ore_blocks.specs.CheckBlock.{check_entries, check_entry, check_pairs, entries_of, pair_of, rows_taken};
-ghost use Rattle.ore_blocks.specs.Conditions.{formed};
+ghost use Rattle.ore_pairs.specs.Steps.{common_fits, lcm_of_leads};
+ghost use Rattle.ore_parts.specs.OfSignature.{IsEntryOf};
+ghost use Rattle.ore_blocks.specs.CheckBlock.{check_entry, check_pairs, entries_of, pair_of, rows_taken};
+ghost use Rattle.ore_blocks.specs.Conditions.{formed, required};
 ghost use Rattle.ore_blocks.specs.Judging.{Judges};
 ghost use Rattle.ore_blocks.specs.InnerContracts.{IsTreatable};
 
@@ -31,7 +31,7 @@ use ore_pairs::multiples::common_multiple;
 use ore_pairs::rule::{may_skip, may_treat};
 use ore_parts::{PairEntry, Pairs};
 use ore_ring::OreRing;
-use ore_rows::{Matrix, Steps};
+use ore_rows::Matrix;
 use std::alloc::Global;
 
 /// The pairs of a basis: they are as many as the basis has, and each is right by those before it. There is a
@@ -50,36 +50,12 @@ pub fn check_pairs<R: OreRing>(
 ) -> Result<(), Refusal>
     requires rows { length leads.now ≡ length basis.now.rows }
     requires leads_of { All (λ t. MonomialOf (R.sig ring.now) t.monomial) leads.now }
-    requires basis_of { All (All (Belongs (R.sig ring.now))) basis.now.rows }
+    requires basis_of { All (AllBelong (R.sig ring.now)) basis.now.rows }
     requires pairs_of { All (IsEntryOf (R.sig ring.now)) pairs.now }
     ensures judges { Judges (λ u. u) result (check_pairs program (R.sig ring.now) (rows_of basis.now) leads.now section pairs.now) }
     ensures treatable { IfOk result (λ _. All (IsTreatable leads.now) pairs.now) }
 {
-    let count = pair_count(alloc, leads)?;
-    required(
-        Place::Pairs(section),
-        Reason::Pairs,
-        pairs.len() as u128 == count,
-    )?;
-    check_entries(ring, alloc, basis, leads, section, pairs)
-}
-
-// Each pair is right by those before it.
-fn check_entries<R: OreRing>(
-    ring: &R,
-    alloc: Global,
-    basis: &Matrix,
-    leads: &Leads,
-    section: Section,
-    pairs: &Pairs,
-) -> Result<(), Refusal>
-    requires rows { length leads.now ≡ length basis.now.rows }
-    requires leads_of { All (λ t. MonomialOf (R.sig ring.now) t.monomial) leads.now }
-    requires basis_of { All (All (Belongs (R.sig ring.now))) basis.now.rows }
-    requires pairs_of { All (IsEntryOf (R.sig ring.now)) pairs.now }
-    ensures judges { Judges (λ u. u) result (check_entries program (R.sig ring.now) (rows_of basis.now) leads.now section 0 [] pairs.now) }
-    ensures treatable { IfOk result (λ _. All (IsTreatable leads.now) pairs.now) }
-{
+    check_count(alloc, leads, section, pairs)?;
     let mut listed = Listed::new(alloc);
     for k in 0..pairs.len() {
         let entry = pairs.get(k);
@@ -87,6 +63,18 @@ fn check_entries<R: OreRing>(
         list_pair(leads, &mut listed, entry)?;
     }
     Ok(())
+}
+
+// There are as many pairs as the basis has.
+fn check_count(alloc: Global, leads: &Leads, section: Section, pairs: &Pairs) -> Result<(), Refusal>
+    ensures { Judges (λ u. u) result (required (Place.Pairs section) Reason.Pairs (nat_eq (length pairs.now) (pair_count leads.now))) }
+{
+    let count = pair_count(alloc, leads)?;
+    required(
+        Place::Pairs(section),
+        Reason::Pairs,
+        pairs.len() as u128 == count,
+    )
 }
 
 // One more pair is listed.
@@ -125,7 +113,7 @@ pub fn rows_taken(entry: &PairEntry) -> usize
 }
 
 // The pair with a number is right by those before it.
-#[tactic(auto, unfolding(crate::specs::CheckBlock::check_entry))]
+#[tactic(auto, using(crate::proofs::Refusals::refuses_on), unfolding(crate::specs::CheckBlock::check_entry, ore_pairs::specs::PairRule::may_treat))]
 fn check_entry<R: OreRing>(
     ring: &R,
     alloc: Global,
@@ -138,58 +126,27 @@ fn check_entry<R: OreRing>(
 ) -> Result<(), Refusal>
     requires rows { length leads.now ≡ length basis.now.rows }
     requires leads_of { All (λ t. MonomialOf (R.sig ring.now) t.monomial) leads.now }
-    requires basis_of { All (All (Belongs (R.sig ring.now))) basis.now.rows }
+    requires basis_of { All (AllBelong (R.sig ring.now)) basis.now.rows }
     requires entry_of { IsEntryOf (R.sig ring.now) entry.now }
     ensures judges { Judges (λ u. u) result (check_entry program (R.sig ring.now) (rows_of basis.now) leads.now section k before.now entry.now) }
 {
+    let place = Place::Pair(section, k, 0);
     match entry {
-        PairEntry::Pair { i, j, steps } => check_pair(
-            ring, alloc, basis, leads, section, k, before, *i, *j, steps,
-        ),
+        PairEntry::Pair { i, j, steps } => {
+            required(place, Reason::Pair, may_treat(leads, before, *i, *j))?;
+            let multiple = common(ring, place, leads, *i, *j)?;
+            let row = s_row_at(ring, alloc, place, leads, basis, *i, *j)?;
+            let column = leads.get(*i).0;
+            check_steps(
+                ring, alloc, basis, leads, column, &multiple, section, k, row, steps,
+            )
+        }
         PairEntry::Skip { i, j, via } => required(
-            Place::Pair(section, k, 0),
+            place,
             Reason::Skip,
             is_skipped(leads, before, *i, *j, *via),
         ),
     }
-}
-
-// The treated pair with a number.
-#[tactic(auto, using(crate::proofs::Refusals::refuses_on), unfolding(crate::specs::CheckBlock::check_entry, ore_pairs::specs::PairRule::may_treat))]
-fn check_pair<R: OreRing>(
-    ring: &R,
-    alloc: Global,
-    basis: &Matrix,
-    leads: &Leads,
-    section: Section,
-    k: usize,
-    before: &Listed,
-    i: usize,
-    j: usize,
-    steps: &Steps,
-) -> Result<(), Refusal>
-    requires rows { length leads.now ≡ length basis.now.rows }
-    requires leads_of { All (λ t. MonomialOf (R.sig ring.now) t.monomial) leads.now }
-    requires basis_of { All (All (Belongs (R.sig ring.now))) basis.now.rows }
-    requires steps_of { AreStepsOf (R.sig ring.now) steps.now }
-    ensures { Judges (λ u. u) result (check_entry program (R.sig ring.now) (rows_of basis.now) leads.now section k before.now (PairEntry.Pair i j steps.now)) }
-{
-    let place = Place::Pair(section, k, 0);
-    required(place, Reason::Pair, may_treat(leads, before, i, j))?;
-    let multiple = common(ring, place, leads, i, j)?;
-    let row = s_row_at(ring, alloc, place, leads, basis, i, j)?;
-    check_steps(
-        ring,
-        alloc,
-        basis,
-        leads,
-        leads.get(i).0,
-        &multiple,
-        section,
-        k,
-        row,
-        steps,
-    )
 }
 
 // The common multiple of two leads, at a place.
@@ -202,9 +159,9 @@ fn common<R: OreRing>(
 ) -> Result<Exps, Refusal>
     requires first { i < length leads.now }
     requires second { j < length leads.now }
-    ensures judges { Judges (λ _. tt) result (formed place (common_fits rationals (within program (R.sig ring.now)) (pair_term leads.now i j))) }
-    ensures value { IfOk result (λ e. e ≡ (pair_term leads.now i j).monomial) }
-    ensures fits { IfOk result (λ _. degree (pair_term leads.now i j).monomial ≤ 32767) }
+    ensures judges { Judges (λ _. tt) result (formed place (common_fits rationals (within program (R.sig ring.now)) (lcm_of_leads leads.now i j))) }
+    ensures value { IfOk result (λ e. e ≡ (lcm_of_leads leads.now i j).monomial) }
+    ensures fits { IfOk result (λ _. degree (lcm_of_leads leads.now i j).monomial ≤ 32767) }
 {
     let _ring = ring;
     match common_multiple(leads, i, j) {

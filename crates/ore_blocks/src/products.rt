@@ -4,7 +4,7 @@ ghost use Rattle.std.specs.Prelude.{◌≡◌, length, IfOk};
 ghost use Rattle.std.specs.List.{All};
 ghost use Rattle.ore_algebra.specs.Limits.{program};
 ghost use Rattle.ore_monomial.specs.Signature.{MonomialOf};
-ghost use Rattle.ore_ring.specs.Belongs.{Belongs};
+ghost use Rattle.ore_ring.specs.Belongs.{AllBelong};
 ghost use Rattle.ore_rows.specs.Stored.{rows_of, sums_of};
 ghost use Rattle.ore_blocks.specs.CheckBlock.{rows_give, plain, check_basis, check_to};
 ghost use Rattle.ore_blocks.specs.Judging.{Judges};
@@ -12,7 +12,7 @@ ghost use Rattle.ore_blocks.specs.PlaceConditions.{row_gives};
 
 use crate::equal::are_same;
 use crate::formed::combined;
-use crate::monic::basis_leads;
+use crate::monic::monic_leads;
 use crate::place::{Name, Place, Section};
 use crate::reason::Reason;
 use crate::refusal::{Refusal, required};
@@ -34,9 +34,9 @@ pub fn check_basis<R: OreRing>(
     basis: &Matrix,
     from: &Matrix,
 ) -> Result<Leads, Refusal>
-    requires a_of { All (All (Belongs (R.sig ring.now))) a.now.rows }
-    requires basis_of { All (All (Belongs (R.sig ring.now))) basis.now.rows }
-    requires from_of { All (All (Belongs (R.sig ring.now))) from.now.rows }
+    requires a_of { All (AllBelong (R.sig ring.now)) a.now.rows }
+    requires basis_of { All (AllBelong (R.sig ring.now)) basis.now.rows }
+    requires from_of { All (AllBelong (R.sig ring.now)) from.now.rows }
     ensures judges { Judges (λ l. l) result (check_basis program (R.sig ring.now) (plain a.now) section (plain basis.now) (plain from.now)) }
     ensures of { IfOk result (All (λ t. MonomialOf (R.sig ring.now) t.monomial)) }
     ensures count { IfOk result (λ l. length l ≡ length basis.now.rows) }
@@ -49,7 +49,7 @@ pub fn check_basis<R: OreRing>(
         Reason::Shape,
         basis.cols() == a.cols(),
     )?;
-    let leads = basis_leads(alloc, ring.signature(), section, basis)?;
+    let leads = monic_leads(alloc, ring.signature(), section, basis)?;
     required(
         Place::Header(section, Name::From),
         Reason::Shape,
@@ -81,9 +81,9 @@ pub fn check_to<R: OreRing>(
     basis: &Matrix,
     to: &Matrix,
 ) -> Result<(), Refusal>
-    requires a_of { All (All (Belongs (R.sig ring.now))) a.now.rows }
-    requires basis_of { All (All (Belongs (R.sig ring.now))) basis.now.rows }
-    requires to_of { All (All (Belongs (R.sig ring.now))) to.now.rows }
+    requires a_of { All (AllBelong (R.sig ring.now)) a.now.rows }
+    requires basis_of { All (AllBelong (R.sig ring.now)) basis.now.rows }
+    requires to_of { All (AllBelong (R.sig ring.now)) to.now.rows }
     ensures judges { Judges (λ u. u) result (check_to program (R.sig ring.now) (plain a.now) section (plain basis.now) (plain to.now)) }
     ensures to_rows { IfOk result (λ _. length to.now.rows ≡ length basis.now.rows) }
     ensures to_cols { IfOk result (λ _. to.now.cols ≡ length a.now.rows) }
@@ -113,9 +113,9 @@ pub fn rows_give<R: OreRing>(
 ) -> Result<(), Refusal>
     requires fits { rows.now.cols ≡ length m.now.rows }
     requires count { length rows.now.rows ≡ length wanted.now.rows }
-    requires m_of { All (All (Belongs (R.sig ring.now))) m.now.rows }
-    requires rows_of { All (All (Belongs (R.sig ring.now))) rows.now.rows }
-    requires wanted_of { All (All (Belongs (R.sig ring.now))) wanted.now.rows }
+    requires m_of { All (AllBelong (R.sig ring.now)) m.now.rows }
+    requires rows_of { All (AllBelong (R.sig ring.now)) rows.now.rows }
+    requires wanted_of { All (AllBelong (R.sig ring.now)) wanted.now.rows }
     ensures { Judges (λ u. u) result (rows_give program (R.sig ring.now) reason m.now.cols (rows_of m.now) section name 0 (rows_of rows.now) (rows_of wanted.now)) }
 {
     for k in 0..rows.rows() {
@@ -144,9 +144,9 @@ fn row_gives<R: OreRing>(
     wanted: &Row,
 ) -> Result<(), Refusal>
     requires fits { length row.now ≡ length m.now.rows }
-    requires m_of { All (All (Belongs (R.sig ring.now))) m.now.rows }
-    requires row_of { All (Belongs (R.sig ring.now)) row.now }
-    requires wanted_of { All (Belongs (R.sig ring.now)) wanted.now }
+    requires m_of { All (AllBelong (R.sig ring.now)) m.now.rows }
+    requires row_of { AllBelong (R.sig ring.now) row.now }
+    requires wanted_of { AllBelong (R.sig ring.now) wanted.now }
     ensures { Judges (λ u. u) result (row_gives program (R.sig ring.now) reason m.now.cols (rows_of m.now) place (sums_of row.now) (sums_of wanted.now)) }
 {
     let product = combined(ring, alloc, place, row, m)?;

@@ -2,7 +2,7 @@
 
 ghost use Rattle.std.specs.Prelude.{◌≡◌, IsTrue, IfOk};
 ghost use Rattle.ore_blocks.specs.Conditions.{required};
-ghost use Rattle.ore_blocks.specs.Judging.{Judges, stopped};
+ghost use Rattle.ore_blocks.specs.Judging.{Judges, at_place, stopped};
 ghost use Rattle.ore_blocks.specs.declared.refusal.Refusal.TheVariants.{Memory};
 
 use crate::place::Place;
@@ -47,8 +47,21 @@ impl<T: Drop> From<AllocFailed<T>> for Refusal {
     }
 }
 
-/// The refusal of an operation that stops at a place.
-pub fn stopped(place: Place, stop: RingStop) -> Refusal
+/// What an operation answered, with the place of its stop.
+///
+/// # Errors
+/// The stop, at the place.
+pub fn at_place<T>(place: Place, answer: Result<T, RingStop>) -> Result<T, Refusal>
+    ensures { result ≡ at_place place answer }
+{
+    match answer {
+        Ok(value) => Ok(value),
+        Err(stop) => Err(stopped(place, stop)),
+    }
+}
+
+// The refusal of an operation that stops at a place.
+fn stopped(place: Place, stop: RingStop) -> Refusal
     ensures { result ≡ stopped place stop }
 {
     match stop {

@@ -6,9 +6,9 @@ ghost use Rattle.ore_algebra.specs.Limits.{program};
 ghost use Rattle.ore_monomial.specs.Monomial.{degree};
 ghost use Rattle.ore_monomial.specs.Signature.{MonomialOf};
 ghost use Rattle.ore_monomial.specs.Term.{Term};
-ghost use Rattle.ore_ring.specs.Belongs.{Belongs};
+ghost use Rattle.ore_ring.specs.Belongs.{AllBelong};
 ghost use Rattle.ore_rows.specs.Stored.{rows_of, sums_of};
-ghost use Rattle.ore_parts.specs.OfSignature.{AreStepsOf};
+ghost use Rattle.ore_parts.specs.OfSignature.{AreStoredStepsOf};
 ghost use Rattle.ore_blocks.specs.CheckBlock.{check_steps, quotient_steps};
 ghost use Rattle.ore_blocks.specs.Conditions.{formed};
 ghost use Rattle.ore_blocks.specs.InnerContracts.{remainder_of};
@@ -22,9 +22,9 @@ use crate::place::{Place, Section};
 use crate::reason::Reason;
 use crate::refusal::{Refusal, required};
 use ore_leads::Leads;
-use ore_monomial::{Exps, Order, compare};
+use ore_monomial::{Exps, NoMemory, Order, compare};
 use ore_ring::OreRing;
-use ore_rows::{Matrix, Row, Step, Steps};
+use ore_rows::{Matrix, Row, Step, Steps, row_copy};
 use std::alloc::Global;
 use std::cmp::Ordering;
 
@@ -47,9 +47,9 @@ pub fn check_steps<R: OreRing>(
 ) -> Result<(), Refusal>
     requires rows { length leads.now ≡ length basis.now.rows }
     requires width { length row ≡ basis.now.cols }
-    requires basis_of { All (All (Belongs (R.sig ring.now))) basis.now.rows }
-    requires row_of { All (Belongs (R.sig ring.now)) row }
-    requires steps_of { AreStepsOf (R.sig ring.now) steps.now }
+    requires basis_of { All (AllBelong (R.sig ring.now)) basis.now.rows }
+    requires row_of { AllBelong (R.sig ring.now) row }
+    requires steps_of { AreStoredStepsOf (R.sig ring.now) steps.now }
     ensures { Judges (λ u. u) result (check_steps program (R.sig ring.now) (rows_of basis.now) leads.now (record { monomial = multiple.now; column = column }) section pair 0 (sums_of row) steps.now) }
 {
     let mut left = row;
@@ -62,7 +62,7 @@ pub fn check_steps<R: OreRing>(
             column,
             multiple,
             Place::Pair(section, pair, n + 1),
-            &left,
+            left,
             steps.get(n),
         )?;
     }
@@ -83,16 +83,16 @@ fn check_step<R: OreRing>(
     column: usize,
     multiple: &Exps,
     place: Place,
-    row: &Row,
+    row: Row,
     step: &Step,
 ) -> Result<Row, Refusal>
     requires rows { length leads.now ≡ length basis.now.rows }
-    requires width { length row.now ≡ basis.now.cols }
-    requires basis_of { All (All (Belongs (R.sig ring.now))) basis.now.rows }
-    requires row_of { All (Belongs (R.sig ring.now)) row.now }
+    requires width { length row ≡ basis.now.cols }
+    requires basis_of { All (AllBelong (R.sig ring.now)) basis.now.rows }
+    requires row_of { AllBelong (R.sig ring.now) row }
     requires step_of { MonomialOf (R.sig ring.now) step.now.monomial }
-    ensures judges { Judges sums_of result (check_step program (R.sig ring.now) (rows_of basis.now) leads.now (record { monomial = multiple.now; column = column }) place (sums_of row.now) step.now) }
-    ensures of { IfOk result (All (Belongs (R.sig ring.now))) }
+    ensures judges { Judges sums_of result (check_step program (R.sig ring.now) (rows_of basis.now) leads.now (record { monomial = multiple.now; column = column }) place (sums_of row) step.now) }
+    ensures of { IfOk result (AllBelong (R.sig ring.now)) }
     ensures width { IfOk result (λ r. length r ≡ basis.now.cols) }
 {
     required(place, Reason::Step, step.index < leads.len())?;
@@ -148,23 +148,17 @@ pub fn quotient_steps<R: OreRing>(
     steps: &Steps,
 ) -> Result<Option<Row>, Refusal>
     requires width { length w.now ≡ basis.now.cols }
-    requires basis_of { All (All (Belongs (R.sig ring.now))) basis.now.rows }
-    requires w_of { All (Belongs (R.sig ring.now)) w.now }
-    requires steps_of { AreStepsOf (R.sig ring.now) steps.now }
+    requires basis_of { All (AllBelong (R.sig ring.now)) basis.now.rows }
+    requires w_of { AllBelong (R.sig ring.now) w.now }
+    requires steps_of { AreStoredStepsOf (R.sig ring.now) steps.now }
     ensures judges { Judges (λ o. sums_of (remainder_of o w.now)) result (quotient_steps program (R.sig ring.now) (rows_of basis.now) 0 (sums_of w.now) steps.now) }
-    ensures of { IfOk result (λ o. IfSome o (All (Belongs (R.sig ring.now)))) }
+    ensures of { IfOk result (λ o. IfSome o (AllBelong (R.sig ring.now))) }
 {
     let mut left = None;
     for n in 0..steps.len() {
+        let row = moved_remainder(ring, alloc, left, w)?;
         let step = steps.get(n);
-        let next = quotient_step(
-            ring,
-            alloc,
-            basis,
-            Place::Step(n + 1),
-            remainder(&left, w),
-            step,
-        )?;
+        let next = quotient_step(ring, alloc, basis, Place::Step(n + 1), row, step)?;
         left = Some(next);
     }
     Ok(left)
@@ -180,6 +174,24 @@ pub fn remainder<'a>(left: &'a Option<Row>, w: &'a Row) -> &'a Row
     }
 }
 
+// What is left of the row `w`, moved out: a copy of the row itself before the first step.
+fn moved_remainder<R: OreRing>(
+    ring: &R,
+    alloc: Global,
+    left: Option<Row>,
+    w: &Row,
+) -> Result<Row, NoMemory>
+    ensures { IfOk result (λ r. r ≡ remainder_of left w.now) }
+{
+    match left {
+        Some(row) => Ok(row),
+        None => match row_copy(ring, alloc, w) {
+            Ok(row) => Ok(row),
+            Err(_memory) => Err(NoMemory),
+        },
+    }
+}
+
 // A step of an outside block at its place.
 #[tactic(auto, using(crate::proofs::Refusals::refuses_on), unfolding(crate::specs::PlaceConditions::quotient_step))]
 fn quotient_step<R: OreRing>(
@@ -187,15 +199,15 @@ fn quotient_step<R: OreRing>(
     alloc: Global,
     basis: &Matrix,
     place: Place,
-    row: &Row,
+    row: Row,
     step: &Step,
 ) -> Result<Row, Refusal>
-    requires width { length row.now ≡ basis.now.cols }
-    requires basis_of { All (All (Belongs (R.sig ring.now))) basis.now.rows }
-    requires row_of { All (Belongs (R.sig ring.now)) row.now }
+    requires width { length row ≡ basis.now.cols }
+    requires basis_of { All (AllBelong (R.sig ring.now)) basis.now.rows }
+    requires row_of { AllBelong (R.sig ring.now) row }
     requires step_of { MonomialOf (R.sig ring.now) step.now.monomial }
-    ensures judges { Judges sums_of result (quotient_step program (R.sig ring.now) (rows_of basis.now) place (sums_of row.now) step.now) }
-    ensures of { IfOk result (All (Belongs (R.sig ring.now))) }
+    ensures judges { Judges sums_of result (quotient_step program (R.sig ring.now) (rows_of basis.now) place (sums_of row) step.now) }
+    ensures of { IfOk result (AllBelong (R.sig ring.now)) }
     ensures width { IfOk result (λ r. length r ≡ basis.now.cols) }
 {
     required(place, Reason::Step, step.index < basis.rows())?;

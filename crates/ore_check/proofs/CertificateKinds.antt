@@ -1,15 +1,16 @@
 -- A certificate that passes the check is valid and true.
 --     check_shows_valid        it is valid, within whatever limits it is checked
 --     check_means              so it is true
+--     claims_same              that a certificate is no report is one claim
 --     at_kind                  what is judged of a kind is judged of a certificate of the kind
 --     controllable_free        a true controllable certificate says that its matrix leaves no torsion
 --     torsion_outside          one with a true autonomous certificate leaves some
 --     one_verdict              so no matrix has both
-use Rattle.std.proofs.Common.{◌≡◌, sym, ◌∙◌, subst}
+use Rattle.std.proofs.Common.{◌≡◌, refl, sym, ◌∙◌, subst}
 use Rattle.std.specs.declared.result.Result.{Result}
 use Rattle.std.specs.declared.result.Result.TheVariants.{Ok}
 use Rattle.ore_algebra.specs.Limits.{Limits, program, unlimited}
-use Rattle.ore_rational.proofs.FractionLaws.{rationals}
+use Rattle.ore_rational.specs.Field.{rationals}
 use Rattle.ore_monomial.specs.Signature.{Signature}
 use Rattle.ore_monomial.proofs.Signatures.{lawful}
 use Rattle.ore_rows.specs.Rows.{AreLong, row_scale, IsTorsion, IsTorsionFree}
@@ -18,7 +19,7 @@ use Rattle.ore_rows.proofs.RowLaws as Rows
 use Rattle.ore_rows.proofs.RowModules.{length-module}
 use Rattle.ore_rows.proofs.StoredRows.{row_of_stored}
 use Rattle.ore_cert.specs.declared.certificate.Certificate.{Certificate}
-use Rattle.ore_cert.specs.declared.certificate.Certificate.TheVariants.{Controllable, AutonomousElement}
+use Rattle.ore_cert.specs.declared.certificate.Certificate.TheVariants.{Controllable, AutonomousElement, LeftInverse, RightInverse, NoLeftInverse, NoRightInverse, Kernel, Resolution, ExtZero, ExtNonzero, Halted}
 use Rattle.ore_cert.specs.CertificateOf.{IsCertificateOf}
 use Rattle.ore_blocks.specs.declared.refusal.Refusal.{Refusal}
 use Rattle.ore_blocks.specs.Judging.{Judges}
@@ -41,6 +42,19 @@ module _ (l : Limits) (s : Signature) (r : RowMatrix) (long : AreLong rationals 
   check_means h = valid_means s r c long of (check_shows_valid h)
 
 -- ---- kinds
+
+pub claims_same : (c : Certificate) (a b : IsNoReport c) → a ≡ b
+claims_same (Controllable q block) a b = refl
+claims_same (AutonomousElement element operator cofactor block) a b = refl
+claims_same (LeftInverse m) a b = refl
+claims_same (RightInverse m) a b = refl
+claims_same (NoLeftInverse unit block) a b = refl
+claims_same (NoRightInverse unit block) a b = refl
+claims_same (Kernel side generators block) a b = refl
+claims_same (Resolution links) a b = refl
+claims_same (ExtZero links block) a b = refl
+claims_same (ExtNonzero links element block) a b = refl
+claims_same (Halted report) a b = absurd a
 
 pub at_kind : (s : Signature) (r : RowMatrix) (c kind : Certificate) (judged : Result (Unit {0}) Refusal) → c ≡ kind → ((claims : IsNoReport kind) → Judges (λ u. u) judged (check program s r kind claims))
     → (claims : IsNoReport c) → Judges (λ u. u) judged (check program s r c claims)

@@ -12,11 +12,11 @@ use Rattle.ore_algebra.specs.Limits.{program}
 use Rattle.ore_course.specs.Course.{Done, ◌>>=◌, forced}
 use Rattle.ore_course.specs.Leading.{LeadsTo}
 use Rattle.ore_course.proofs.Leads.{leads_split, worked_split}
-use Rattle.ore_rational.proofs.FractionLaws.{rationals}
+use Rattle.ore_rational.specs.Field.{rationals}
 use Rattle.ore_monomial.specs.Signature.{Signature}
 use Rattle.ore_monomial.proofs.Signatures.{lawful}
 use Rattle.ore_rows.specs.Arithmetic.{within}
-use Rattle.ore_rows.specs.Reduction.{Work, row_at}
+use Rattle.ore_rows.specs.Reduction.{ReductionState, row_at}
 use Rattle.ore_rows.specs.ReduceRows.{Reductions, AllReduce, LeavesRest, reduce_row}
 use Rattle.ore_rows.specs.Rows.{Row, RowOf, AreLong, zero_row, row_plus, combine, matrix_times, transpose_adjoint}
 use Rattle.ore_rows.specs.Stored.{sums_of}
@@ -24,7 +24,7 @@ use Rattle.ore_rows.proofs.RowLaws as Rows
 use Rattle.ore_rows.proofs.SoundArithmetic.{within_sound}
 use Rattle.ore_rows.specs.declared.choices.Choice.{Choice}
 use Rattle.ore_pairs.specs.Blocks.{IsValidExact}
-use Rattle.ore_pairs.specs.Run.{State}
+use Rattle.ore_pairs.specs.Run.{RunState}
 use Rattle.ore_pairs.specs.RunBlocks.{exact_of_run}
 use Rattle.ore_pairs.proofs.Generate.{combination_vanishes}
 use Rattle.ore_groebner.proofs.Blocks.{exact_valid}
@@ -41,7 +41,7 @@ use Rattle.ore_blocks.specs.Valid.{IsValidExactFor, IsValidOutsideFor}
 use Rattle.ore_blocks.proofs.StoredBlocks.{sums_of-ordered_row, row_stored, exact_block-valid, exact_block-of}
 use Rattle.ore_check.specs.Meaning.{transposed_adjoint}
 use Rattle.ore_check.specs.Plans.{Resolution, certified, reduced, resolution, ext}
-use Rattle.ore_check.specs.PlanLaws.{IsRight, FormsRight}
+use Rattle.ore_check.specs.PlanLaws.{IsCorrect, FormsCorrect}
 use Rattle.ore_check.specs.Reports.{program_runner}
 use Rattle.ore_check.specs.Valid.{AreValidLinks}
 use Rattle.ore_check.proofs.FormedInverses.{IsReducedOn, rows_are_reduced, AreFound, found_wide, found_of, found_product}
@@ -52,13 +52,13 @@ use Rattle.ore_check.proofs.Inverses.{of_adjoint_rows}
 use Rattle.ore_check.proofs.TurnedProducts.{AreTakenToZeros, turned}
 
 module _ (s : Signature) where
-  abbrev ext_ends : RowMatrix → Resolution → RowMatrix → State rationals → RowMatrix → State rationals → Reductions rationals → RunCourse Certificate
+  abbrev ext_ends : RowMatrix → Resolution → RowMatrix → RunState rationals → RowMatrix → RunState rationals → Reductions rationals → RunCourse Certificate
   ext_ends r x last e before f elements = elim elements [
     | AllReduce combinations ↦ certified program s r (ExtZero x.links (exact_block_of s last e (record { cols = length before.rows; rows = combinations }))) tt
     | LeavesRest n w ↦ certified program s r (ExtNonzero x.links (ordered_row s.order w.row) (outside_block_of s before f [] w.row)) tt
   ]
 
-  abbrev after_second : RowMatrix → Resolution → RowMatrix → State rationals → RowMatrix → RunCourse Certificate
+  abbrev after_second : RowMatrix → Resolution → RowMatrix → RunState rationals → RowMatrix → RunCourse Certificate
   after_second r x last e before = run_on program s before >>= (λ f. forced (reduced program s before f e.syzygies) >>= ext_ends r x last e before f)
 
   abbrev after_first : RowMatrix → Resolution → RowMatrix → RunCourse Certificate
@@ -98,7 +98,7 @@ module _ (s : Signature) where
         subst (λ n. AreTakenToZeros s (length x.last.rows) before_star.rows (transpose_adjoint rationals s n x.last.rows)) (sym b.fits)
         (turned s x.before.cols x.before.rows x.last.rows h.long_before (subst (λ n. AreLong rationals n x.last.rows) b.fits h.long) b.vanishes)
 
-    module _ (e : State rationals) (end : IsEndOf s last_star e) (f : State rationals) (over : IsEndOf s before_star f) where
+    module _ (e : RunState rationals) (end : IsEndOf s last_star e) (f : RunState rationals) (over : IsEndOf s before_star f) where
       elements_wide : AreLong rationals before_star.cols e.syzygies
       elements_wide = subst (λ n. AreLong rationals n e.syzygies) (sym same_width) (wide_generators s last_star last_wide last_of e end)
 
@@ -121,7 +121,7 @@ module _ (s : Signature) where
       -- ---- it isn't
 
       module _ (y : Row rationals) (wide : length y ≡ before_star.cols) (of_y : RowOf rationals s y) (vanishes : combine rationals s last_star.cols y last_star.rows ≡ zero_row rationals last_star.cols)
-          (w : Work rationals) (reduces : reduce_row rationals s.order (within program s) (length before_star.rows) f.basis y ≡ Ok w) where
+          (w : ReductionState rationals) (reduces : reduce_row rationals s.order (within program s) (length before_star.rows) f.basis y ≡ Ok w) where
         rest_taken : combine rationals s last_star.cols w.row last_star.rows ≡ zero_row rationals last_star.cols
         rest_taken =
             let rest = rest_reduced rationals s (lawful s) before_star.cols before_star.rows before_wide f (holds s before_star before_wide before_of f over) (within program s) (within_sound program s) y w wide reduces in
@@ -135,7 +135,7 @@ module _ (s : Signature) where
             ∙ Rows.zero_row_twice rationals last_star.cols
 
       ext_ended : (elements : Reductions rationals) → IsReducedOn s before_star before_wide before_of f over e.syzygies elements
-          → (runs : List (List Choice)) (d : Certificate) → LeadsTo (program_runner s) (ext_ends r x last_star e before_star f elements) runs (Done d) → IsRight s r d
+          → (runs : List (List Choice)) (d : Certificate) → LeadsTo (program_runner s) (ext_ends r x last_star e before_star f elements) runs (Done d) → IsCorrect s r d
       ext_ended (AllReduce all) (more, same, found) runs d formed =
           let here : AreFound s before_star before_wide before_of f over e.syzygies all = subst (AreFound s before_star before_wide before_of f over e.syzygies) (sym same) found in
           let inside : RowMatrix = record { cols = length before_star.rows; rows = all } in
@@ -167,7 +167,7 @@ module _ (s : Signature) where
             subst (λ c. IsValidOutsideFor s before_star c block) (sym sums) (rest_block_valid s before_star before_wide before_of f over y wide of_y w reduces t lead),
           )) runs formed
 
-    links_ended : (runs : List (List Choice)) (d : Certificate) → LeadsTo (program_runner s) (after_links r x) runs (Done d) → IsRight s r d
+    links_ended : (runs : List (List Choice)) (d : Certificate) → LeadsTo (program_runner s) (after_links r x) runs (Done d) → IsCorrect s r d
     links_ended runs d formed =
         let (star, is_star, h1) = worked_split (program_runner s) (transposed_adjoint_within program s x.last) (after_first r x) runs d formed in
         let here = subst (λ m. LeadsTo (program_runner s) (after_first r x m) runs (Done d)) (adjoint_value s x.last star is_star) h1 in
@@ -178,7 +178,7 @@ module _ (s : Signature) where
         let (elements, is_elements, h5) = worked_split (program_runner s) (reduced program s before_star f e.syzygies) (ext_ends r x last_star e before_star f) later d h4 in
         ext_ended e end f over elements (rows_are_reduced s before_star before_wide before_of f over e.syzygies elements (elements_wide e end f over) is_elements) later d h5
 
-  pub ext_right : (k : ℕ) → IsLength k → FormsRight s (ext program s k)
+  pub ext_right : (k : ℕ) → IsLength k → FormsCorrect s (ext program s k)
   unfolding ext
   ext_right zero few r long of_r runs d formed = absurd (let least = few.0 in omega (arith, least))
   ext_right (suc n) few r long of_r runs d formed =

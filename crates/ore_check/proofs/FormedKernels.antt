@@ -1,13 +1,12 @@
 -- Certificates that plans of kernels form.
 --     formed_last, done_last     forced work that ends a course has its answer, and so has a course that is done
 --     formed_right          a valid certificate whose identities are formed is right
---     claims_same           that a certificate is no report, twice
 --     IsEndOf, ran          a complete run on a matrix ends in a state; a course that begins with one
 --     holds, complete       what that state holds
 --     wide_generators, of_generators     its syzygies are as wide as its matrix is long, and of the signature
 --     kernel_block_valid, kernel_block_of    the block of its syzygies is valid, and of the signature
---     adjoint_value, adjoint_back     the transposed adjoint that is formed; its own
---     IsRightKernel, searched    what a search for a right kernel finds; a course that begins with one
+--     adjoint_within, adjoint_value, adjoint_back     the transposed adjoint that is formed, within any limits and those of the program; its own
+--     IsFoundRightKernel, searched    what a search for a right kernel finds; a course that begins with one
 --     adjoint_long, adjoint_of_signature, generators_wide, generators_of_signature, generators_count, generators_back    of such
 --     kernel_left_right, kernel_right_right     the plans of kernels form certificates that are right
 use Rattle.std.proofs.Common.{◌≡◌, ◌⊎◌, inl, inr, ℕ, true, List, [], ◌∷◌, length, map, refl, sym, ap, ◌∙◌, subst}
@@ -15,13 +14,14 @@ use Rattle.std.specs.List.{AllByRecursion, range_with_len}
 use Rattle.std.proofs.lemmas.List.{length-map}
 use Rattle.std.specs.declared.result.Result.{Result}
 use Rattle.std.specs.declared.result.Result.TheVariants.{Ok, Err}
-use Rattle.ore_algebra.specs.Limits.{Cause, program, unlimited}
+use Rattle.ore_algebra.specs.Limits.{Limits, Cause, program, unlimited}
 use Rattle.ore_course.specs.Choices.{Runner}
 use Rattle.ore_course.specs.Course.{Course, Done, Stops, ◌>>=◌, forced}
 use Rattle.ore_course.specs.Leading.{run, LeadsTo}
+use Rattle.ore_algebra.proofs.LimitLaws.{value_from}
 use Rattle.ore_algebra.proofs.ResultLaws.{same_ok, no_ok}
 use Rattle.ore_course.proofs.Leads.{leads_split, worked_split, ran_split}
-use Rattle.ore_rational.proofs.FractionLaws.{rationals, rational_inverses}
+use Rattle.ore_rational.specs.Field.{rationals, rational_inverses}
 use Rattle.ore_monomial.specs.Signature.{Signature}
 use Rattle.ore_monomial.proofs.Signatures.{lawful}
 use Rattle.ore_rows.specs.Arithmetic.{within}
@@ -30,10 +30,8 @@ use Rattle.ore_rows.proofs.RowLaws as Rows
 use Rattle.ore_rows.proofs.SoundArithmetic.{within_sound}
 use Rattle.ore_rows.proofs.UnitRows.{of_unit_row}
 use Rattle.ore_rows.specs.declared.choices.Choice.{Choice}
-use Rattle.ore_adjoint.specs.AdjointMatrix.{transpose_adjoint_within}
-use Rattle.ore_adjoint.proofs.AdjointValues.{matrix_value}
 use Rattle.ore_pairs.specs.Blocks.{IsValidExact}
-use Rattle.ore_pairs.specs.Run.{State, IsComplete, begin}
+use Rattle.ore_pairs.specs.Run.{RunState, IsComplete, begin}
 use Rattle.ore_pairs.specs.RunBlocks.{exact_of_run}
 use Rattle.ore_pairs.specs.Runner.{is_complete}
 use Rattle.ore_pairs.proofs.CompleteStates.{tests}
@@ -45,22 +43,24 @@ use Rattle.ore_groebner.proofs.Running.{reached_holds}
 use Rattle.ore_cert.specs.CertificateOf.{IsCertificateOf}
 use Rattle.ore_cert.specs.declared.certificate.Side.TheVariants.{Left, Right}
 use Rattle.ore_cert.specs.declared.certificate.Certificate.{Certificate}
-use Rattle.ore_cert.specs.declared.certificate.Certificate.TheVariants.{Controllable, AutonomousElement, LeftInverse, RightInverse, NoLeftInverse, NoRightInverse, Kernel, Resolution, ExtZero, ExtNonzero, Halted}
+use Rattle.ore_cert.specs.declared.certificate.Certificate.TheVariants.{Kernel}
 use Rattle.ore_parts.specs.OfSignature.{IsExactOf}
 use Rattle.ore_blocks.specs.BlockOfRun.{ordered_row}
 use Rattle.ore_blocks.specs.CheckBlock.{RowMatrix, plain}
 use Rattle.ore_blocks.specs.KernelCourse.{RunCourse, syzygies_of, kernel_block, RightKernel, run_on, transposed_adjoint_within, right_kernel}
 use Rattle.ore_blocks.specs.Valid.{IsValidExactFor}
 use Rattle.ore_blocks.proofs.StoredBlocks.{rows_of-stored, matrix_stored, exact_block-valid, exact_block-of}
+use Rattle.ore_blocks.proofs.TransposedAdjoints.{adjoint_unlimited, adjoint_at_most}
 use Rattle.ore_blocks.specs.Conditions.{Checked}
 use Rattle.ore_blocks.specs.WithinLimits.{IsStopped}
 use Rattle.ore_blocks.proofs.CheckedAtMost.{passes_or_stops}
 use Rattle.ore_check.specs.Check.{check, IsNoReport}
 use Rattle.ore_check.specs.Meaning.{transposed_adjoint}
 use Rattle.ore_check.specs.Plans.{stored, formed_as, certified, kernel_left, kernel_right}
-use Rattle.ore_check.specs.PlanLaws.{IsRight, FormsRight}
+use Rattle.ore_check.specs.PlanLaws.{IsCorrect, FormsCorrect}
 use Rattle.ore_check.specs.Reports.{program_runner}
 use Rattle.ore_check.specs.Valid.{IsValid}
+use Rattle.ore_check.proofs.CertificateKinds.{claims_same}
 use Rattle.ore_check.proofs.Inverses.{of_adjoint_rows}
 use Rattle.ore_check.proofs.KindsAtMost.{check_most}
 use Rattle.ore_check.proofs.ValidKinds.{check_valid}
@@ -92,25 +92,12 @@ unfolding formed_as
 formed_passed x y checked (inl e) h = (e, same_ok x y (sym (ap (formed_as x) e) ∙ h))
 formed_passed x y checked (inr (place, cause, e)) h = absurd (no_ok (sym (ap (formed_as x) e) ∙ h))
 
-claims_same : (c : Certificate) (a b : IsNoReport c) → a ≡ b
-claims_same (Controllable q block) a b = refl
-claims_same (AutonomousElement element operator cofactor block) a b = refl
-claims_same (LeftInverse m) a b = refl
-claims_same (RightInverse m) a b = refl
-claims_same (NoLeftInverse unit block) a b = refl
-claims_same (NoRightInverse unit block) a b = refl
-claims_same (Kernel side generators block) a b = refl
-claims_same (Resolution links) a b = refl
-claims_same (ExtZero links block) a b = refl
-claims_same (ExtNonzero links element block) a b = refl
-claims_same (Halted report) a b = absurd a
-
 module _ (s : Signature) (r : RowMatrix) (long : AreLong rationals r.cols r.rows) where
-  pub formed_right : (c d : Certificate) (claims : IsNoReport c) → IsCertificateOf s c → IsValid s r c → (runs : List (List Choice)) → LeadsTo (program_runner s) (forced (formed_as c (check program s r c claims))) runs (Done d) → IsRight s r d
+  pub formed_right : (c d : Certificate) (claims : IsNoReport c) → IsCertificateOf s c → IsValid s r c → (runs : List (List Choice)) → LeadsTo (program_runner s) (forced (formed_as c (check program s r c claims))) runs (Done d) → IsCorrect s r d
   formed_right c d claims of valid runs h =
       let passes = passes_or_stops (check program s r c claims) (check unlimited s r c claims) tt (check_most program s r c claims) ((check_valid s r c long of claims).1 valid) in
       let formed = formed_passed c d (check program s r c claims) passes (formed_last (program_runner s) (formed_as c (check program s r c claims)) runs d h) in
-      subst (IsRight s r) formed.1 (record { of = of; valid = valid; means = valid_means s r c long of valid; accepted = λ other. ap (check program s r c) (claims_same c other claims) ∙ formed.0 })
+      subst (IsCorrect s r) formed.1 (record { of = of; valid = valid; means = valid_means s r c long of valid; accepted = λ other. ap (check program s r c) (claims_same c other claims) ∙ formed.0 })
 
 -- ---- kernels
 
@@ -124,21 +111,21 @@ module _ (s : Signature) where
       each (i ∷ places) = (of_unit_row rationals s n i, each places)
 
   -- choices lead from the beginning of a run on a to this state, which is complete
-  pub record IsEndOf (a : RowMatrix) (last : State rationals) : Type 0 where
-    pub first : State rationals
+  pub record IsEndOf (a : RowMatrix) (last : RunState rationals) : Type 0 where
+    pub first : RunState rationals
     pub choices : List Choice
     pub begun : begin rationals rational_inverses s.order (within program s) a.rows ≡ Ok first
     pub led : run (program_runner s) first choices ≡ Ok last
     pub over : is_complete rationals last ≡ true
 
   -- a course that begins with a run on a
-  pub ran : {X : Type 0} (a : RowMatrix) (f : State rationals → RunCourse X) (runs : List (List Choice)) (x : X) → LeadsTo (program_runner s) (run_on program s a >>= f) runs (Done x)
-      → (last : State rationals) × (rest : List (List Choice)) × IsEndOf a last × LeadsTo (program_runner s) (f last) rest (Done x)
+  pub ran : {X : Type 0} (a : RowMatrix) (f : RunState rationals → RunCourse X) (runs : List (List Choice)) (x : X) → LeadsTo (program_runner s) (run_on program s a >>= f) runs (Done x)
+      → (last : RunState rationals) × (rest : List (List Choice)) × IsEndOf a last × LeadsTo (program_runner s) (f last) rest (Done x)
   ran a f runs x h =
       let (first, choices, rest, last, begun, given, led, over, more) = ran_split (program_runner s) (begin rationals rational_inverses s.order (within program s) a.rows) f runs x h in
       (last, rest, record { first = first; choices = choices; begun = begun; led = led; over = over }, more)
 
-  module _ (a : RowMatrix) (long : AreLong rationals a.cols a.rows) (of_a : AllByRecursion (RowOf rationals s) a.rows) (last : State rationals) (end : IsEndOf a last) where
+  module _ (a : RowMatrix) (long : AreLong rationals a.cols a.rows) (of_a : AllByRecursion (RowOf rationals s) a.rows) (last : RunState rationals) (end : IsEndOf a last) where
     pub holds : Holds rationals s s.order a.cols a.rows last
     holds = reached_holds rationals rational_inverses s (lawful s) s.order a.cols a.rows long (within program s) (within_sound program s) last (end.choices, record { start = end.first; begun = end.begun; led = end.led })
 
@@ -167,7 +154,7 @@ module _ (s : Signature) where
     pub kernel_block_of : IsExactOf s (kernel_block s a last)
     kernel_block_of = exact_block-of s a last units (syzygies_of a last) refl valid (of_exact_of_run rationals s (lawful s) s.order a.cols a.rows of_a last holds units.cols units.rows (of_units units.cols))
 
-  pub kernel_left_right : FormsRight s (kernel_left program s)
+  pub kernel_left_right : FormsCorrect s (kernel_left program s)
   unfolding kernel_left
   kernel_left_right r long of_r runs d h =
       let (last, rest, end, more) = ran r (λ a. certified program s r (Kernel Left (stored s (syzygies_of r a)) (kernel_block s r a)) tt) runs d h in
@@ -177,16 +164,11 @@ module _ (s : Signature) where
 
   -- ---- right kernels
 
-  pub adjoint_value : (m x : RowMatrix) → transposed_adjoint_within program s m ≡ Ok x → x ≡ transposed_adjoint s m
-  unfolding transposed_adjoint_within
-  adjoint_value m x e = by (transpose_adjoint_within program s m.cols m.rows) refl e
-    where
-      as_result : Result (List (Row rationals)) Cause → Result RowMatrix Cause
-      as_result r = elim r [ Ok rows ↦ Ok (record { cols = length m.rows; rows = rows }) | Err cause ↦ Err cause ]
+  pub adjoint_within : (l : Limits) (m x : RowMatrix) → transposed_adjoint_within l s m ≡ Ok x → x ≡ transposed_adjoint s m
+  adjoint_within l m x e = value_from (transposed_adjoint_within l s m) (transposed_adjoint_within unlimited s m) x (transposed_adjoint s m) (adjoint_at_most l s m) (adjoint_unlimited s m) e
 
-      by : (r : Result (List (Row rationals)) Cause) → transpose_adjoint_within program s m.cols m.rows ≡ r → as_result r ≡ Ok x → x ≡ transposed_adjoint s m
-      by (Ok rows) f g = sym (same_ok _ _ g) ∙ ap (λ (rows : List (Row rationals)). record { cols = length m.rows; rows = rows }) (matrix_value program s m.cols m.rows rows f)
-      by (Err c) f g = absurd (no_ok g)
+  pub adjoint_value : (m x : RowMatrix) → transposed_adjoint_within program s m ≡ Ok x → x ≡ transposed_adjoint s m
+  adjoint_value m x e = adjoint_within program m x e
 
   -- the transposed adjoint of a stored transposed adjoint
   pub adjoint_back : (m : RowMatrix) → AreLong rationals m.cols m.rows → transposed_adjoint s (plain (stored s (transposed_adjoint s m))) ≡ m
@@ -196,31 +178,31 @@ module _ (s : Signature) where
       ∙ (λ i. record { cols = Rows.length-adjoint rationals s m.cols m.rows i; rows = Rows.adjoint_twice rationals s (lawful s) m.cols m.rows long i })
 
   -- what a search for a right kernel finds
-  pub record IsRightKernel (r : RowMatrix) (k : RightKernel) : Type 0 where
+  pub record IsFoundRightKernel (r : RowMatrix) (k : RightKernel) : Type 0 where
     pub adjoint_is : k.adjoint ≡ transposed_adjoint s r
     pub end : IsEndOf k.adjoint k.last
     pub generators_are : k.generators ≡ transposed_adjoint s (syzygies_of k.adjoint k.last)
 
   pub searched : {X : Type 0} (r : RowMatrix) (f : RightKernel → RunCourse X) (runs : List (List Choice)) (x : X) → LeadsTo (program_runner s) (right_kernel program s r >>= f) runs (Done x)
-      → (k : RightKernel) × (rest : List (List Choice)) × IsRightKernel r k × LeadsTo (program_runner s) (f k) rest (Done x)
+      → (k : RightKernel) × (rest : List (List Choice)) × IsFoundRightKernel r k × LeadsTo (program_runner s) (f k) rest (Done x)
   unfolding right_kernel
   searched r f runs x h =
       let (k, before, after, joined, found, more) = leads_split (program_runner s) (right_kernel program s r) f runs x h in
       (k, after, found_is k before found, more)
     where
-      behind : RowMatrix → State rationals → RunCourse RightKernel
+      behind : RowMatrix → RunState rationals → RunCourse RightKernel
       behind adjoint last = forced (transposed_adjoint_within program s (syzygies_of adjoint last)) >>= (λ generators. Done (record { adjoint = adjoint; last = last; generators = generators }))
 
-      found_is : (k : RightKernel) (runs : List (List Choice)) → LeadsTo (program_runner s) (right_kernel program s r) runs (Done k) → IsRightKernel r k
+      found_is : (k : RightKernel) (runs : List (List Choice)) → LeadsTo (program_runner s) (right_kernel program s r) runs (Done k) → IsFoundRightKernel r k
       found_is k runs h =
           let (adjoint, is_adjoint, h1) = worked_split (program_runner s) (transposed_adjoint_within program s r) (λ adjoint. run_on program s adjoint >>= behind adjoint) runs k h in
           let (last, rest, end, h2) = ran adjoint (behind adjoint) runs k h1 in
           let (generators, is_generators, h3) = worked_split (program_runner s) (transposed_adjoint_within program s (syzygies_of adjoint last)) (λ generators. Done (record { adjoint = adjoint; last = last; generators = generators })) rest k h2 in
           let same = done_last (program_runner s) (record { adjoint = adjoint; last = last; generators = generators }) rest k h3 in
-          subst (IsRightKernel r) {x = record { adjoint = adjoint; last = last; generators = generators }} same
+          subst (IsFoundRightKernel r) {x = record { adjoint = adjoint; last = last; generators = generators }} same
           (record { adjoint_is = adjoint_value r adjoint is_adjoint; end = end; generators_are = adjoint_value (syzygies_of adjoint last) generators is_generators })
 
-  module _ (r : RowMatrix) (of_r : AllByRecursion (RowOf rationals s) r.rows) (k : RightKernel) (h : IsRightKernel r k) where
+  module _ (r : RowMatrix) (of_r : AllByRecursion (RowOf rationals s) r.rows) (k : RightKernel) (h : IsFoundRightKernel r k) where
     pub adjoint_long : AreLong rationals k.adjoint.cols k.adjoint.rows
     adjoint_long = subst (λ (m : RowMatrix). AreLong rationals m.cols m.rows) (sym h.adjoint_is) (Rows.long_adjoint rationals s r.cols r.rows)
 
@@ -243,7 +225,7 @@ module _ (s : Signature) where
     generators_back =
         ap (λ (m : RowMatrix). transposed_adjoint s (plain (stored s m))) h.generators_are ∙ adjoint_back (syzygies_of k.adjoint k.last) (wide_generators k.adjoint adjoint_long adjoint_of_signature k.last h.end)
 
-  pub kernel_right_right : FormsRight s (kernel_right program s)
+  pub kernel_right_right : FormsCorrect s (kernel_right program s)
   unfolding kernel_right
   kernel_right_right r long of_r runs d h =
       let (k, rest, found, more) = searched r (λ k. certified program s r (Kernel Right (stored s k.generators) (kernel_block s k.adjoint k.last)) tt) runs d h in

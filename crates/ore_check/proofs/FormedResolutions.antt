@@ -13,11 +13,11 @@ use Rattle.ore_algebra.specs.Limits.{program}
 use Rattle.ore_course.specs.Course.{Done}
 use Rattle.ore_course.specs.Leading.{LeadsTo}
 use Rattle.ore_course.proofs.Leads.{leads_split}
-use Rattle.ore_rational.proofs.FractionLaws.{rationals}
+use Rattle.ore_rational.specs.Field.{rationals}
 use Rattle.ore_monomial.specs.Signature.{Signature}
 use Rattle.ore_rows.specs.Rows.{RowOf, AreLong, zero_row, combine}
 use Rattle.ore_rows.specs.declared.choices.Choice.{Choice}
-use Rattle.ore_pairs.specs.Run.{State}
+use Rattle.ore_pairs.specs.Run.{RunState}
 use Rattle.ore_groebner.proofs.Holding.{vanishing}
 use Rattle.ore_cert.specs.EachKind.{IsLength}
 use Rattle.ore_cert.specs.declared.certificate.Certificate.TheVariants.{Resolution as Resolved}
@@ -28,7 +28,7 @@ use Rattle.ore_blocks.specs.KernelCourse.{syzygies_of, kernel_block}
 use Rattle.ore_blocks.specs.Valid.{IsValidExactFor}
 use Rattle.ore_blocks.proofs.StoredBlocks.{rows_of-stored, matrix_stored}
 use Rattle.ore_check.specs.Plans.{Resolution, stored, certified, next_link, links, resolution, resolve}
-use Rattle.ore_check.specs.PlanLaws.{FormsRight}
+use Rattle.ore_check.specs.PlanLaws.{FormsCorrect}
 use Rattle.ore_check.specs.Reports.{program_runner}
 use Rattle.ore_check.specs.Valid.{AreValidLinks}
 use Rattle.ore_check.proofs.FormedKernels.{formed_right, done_last, IsEndOf, ran, holds, wide_generators, of_generators, kernel_block_valid, kernel_block_of}
@@ -67,7 +67,7 @@ module _ (s : Signature) where
   pub started : (r : RowMatrix) → AreLong rationals r.cols r.rows → AllByRecursion (RowOf rationals s) r.rows → IsSoFar r (record { links = []; before = r; last = r })
   started r long of_r = record { long = long; of_last = of_r; long_before = long; of_before = of_r; links_of = All-nil (IsLinkOf s); valid = (refl, refl) }
 
-  module _ (r : RowMatrix) (x : Resolution) (h : IsSoFar r x) (a : State rationals) (end : IsEndOf s x.last a) where
+  module _ (r : RowMatrix) (x : Resolution) (h : IsSoFar r x) (a : RunState rationals) (end : IsEndOf s x.last a) where
     abbrev new_link : Link
     new_link = record { l = stored s (syzygies_of x.last a); block = kernel_block s x.last a }
 
@@ -125,7 +125,7 @@ module _ (s : Signature) where
       let (so_far, many) = links_extend r k (record { links = []; before = r; last = r }) x (started r long of_r) runs h in
       (so_far, omega (arith, many))
 
-  pub resolve_right : (k : ℕ) → IsLength k → FormsRight s (resolve program s k)
+  pub resolve_right : (k : ℕ) → IsLength k → FormsCorrect s (resolve program s k)
   unfolding resolve
   resolve_right k few r long of_r runs d h =
       let (x, before, after, joined, found, more) = leads_split (program_runner s) (resolution program s k r) (λ x. certified program s r (Resolved x.links) tt) runs d h in

@@ -18,14 +18,14 @@ use Rattle.ore_algebra.specs.Limits.{program}
 use Rattle.ore_course.specs.Course.{Done, ◌>>=◌, forced}
 use Rattle.ore_course.specs.Leading.{LeadsTo}
 use Rattle.ore_course.proofs.Leads.{worked_split}
-use Rattle.ore_rational.proofs.FractionLaws.{rationals, rational_inverses}
+use Rattle.ore_rational.specs.Field.{rationals, rational_inverses}
 use Rattle.ore_monomial.specs.LetterRule.{Operator}
 use Rattle.ore_monomial.specs.Monomial.{plain_cmp}
 use Rattle.ore_monomial.specs.Signature.{Signature}
 use Rattle.ore_monomial.specs.Term.{Term}
 use Rattle.ore_monomial.proofs.Signatures.{lawful}
 use Rattle.ore_rows.specs.Arithmetic.{within}
-use Rattle.ore_rows.specs.Reduction.{Work, after, row_at}
+use Rattle.ore_rows.specs.Reduction.{ReductionState, remainder_after, row_at}
 use Rattle.ore_rows.specs.ReduceRows.{Reductions, AllReduce, LeavesRest, negated, reduce_row}
 use Rattle.ore_rows.specs.RowLead.{row_lead}
 use Rattle.ore_rows.specs.Rows.{Row, RowOf, AreLong, zero_row, row_plus, row_scale, combine, matrix_times, transpose_adjoint, IsExact, IsTorsion}
@@ -35,7 +35,7 @@ use Rattle.ore_rows.specs.declared.choices.Choice.{Choice}
 use Rattle.ore_laws.specs.Columns.{HasNonzeroFirst}
 use Rattle.ore_laws.proofs.KernelTorsion.{torsion_of_kernel, nonzero_first}
 use Rattle.ore_pairs.specs.Blocks.{IsValidExact, IsValidOutside}
-use Rattle.ore_pairs.specs.Run.{State}
+use Rattle.ore_pairs.specs.Run.{RunState}
 use Rattle.ore_pairs.specs.RunBlocks.{exact_of_run, outside_of_run}
 use Rattle.ore_pairs.proofs.Generate.{combination_vanishes}
 use Rattle.ore_groebner.proofs.Blocks.{exact_valid}
@@ -55,11 +55,11 @@ use Rattle.ore_blocks.specs.Valid.{IsValidExactFor, IsValidOutsideFor}
 use Rattle.ore_blocks.proofs.Passed.{same_true, same_false}
 use Rattle.ore_blocks.proofs.StoredBlocks.{sums_of-ordered_row, row_stored, matrix_stored, exact_block-valid, exact_block-of, outside_block-valid, outside_block-of}
 use Rattle.ore_check.specs.Plans.{stored, stacked, first_nonzero, autonomous_element, certified, reduced, autonomous, analyse}
-use Rattle.ore_check.specs.PlanLaws.{IsRight, FormsRight}
+use Rattle.ore_check.specs.PlanLaws.{IsCorrect, FormsCorrect}
 use Rattle.ore_check.specs.Reports.{program_runner}
 use Rattle.ore_check.proofs.FormedInverses.{IsReducedOn, rows_are_reduced, AreFound, found_wide, found_of, found_product, left_wide, left_of, left_outside}
 use Rattle.ore_check.proofs.FormedResolutions.{stored_back}
-use Rattle.ore_check.proofs.FormedKernels.{formed_right, IsEndOf, ran, holds, complete, wide_generators, of_generators, IsRightKernel, searched, adjoint_long, adjoint_of_signature, generators_wide, generators_of_signature, generators_count}
+use Rattle.ore_check.proofs.FormedKernels.{formed_right, IsEndOf, ran, holds, complete, wide_generators, of_generators, IsFoundRightKernel, searched, adjoint_long, adjoint_of_signature, generators_wide, generators_of_signature, generators_count}
 use Rattle.ore_check.proofs.TurnedProducts.{AreTakenToZeros, turned}
 
 -- ---- the first row with a first entry that isn't zero
@@ -81,16 +81,16 @@ found_nonzero P n ((f ∷ others) ∷ rows) h there = by (is_same operator_discr
     by false g there later = (h.0, same_false operator_discrete f (empty_sum rationals plain_cmp) g)
 
 module _ (s : Signature) where
-  abbrev verdicts_of : RowMatrix → State rationals → RightKernel → State rationals → Reductions rationals → RunCourse Certificate
+  abbrev verdicts_of : RowMatrix → RunState rationals → RightKernel → RunState rationals → Reductions rationals → RunCourse Certificate
   verdicts_of r a k c elements = elim elements [
     | AllReduce combinations ↦ certified program s r (Controllable (stored s k.generators) (exact_block_of s k.generators c (record { cols = length r.rows; rows = combinations }))) tt
     | LeavesRest n w ↦ autonomous program s r a w.row
   ]
 
-  module _ (r : RowMatrix) (long : AreLong rationals r.cols r.rows) (of_r : AllByRecursion (RowOf rationals s) r.rows) (a : State rationals) (end : IsEndOf s r a) where
+  module _ (r : RowMatrix) (long : AreLong rationals r.cols r.rows) (of_r : AllByRecursion (RowOf rationals s) r.rows) (a : RunState rationals) (end : IsEndOf s r a) where
     -- ---- an element outside
 
-    module _ (y : Row rationals) (wide : length y ≡ r.cols) (of_y : RowOf rationals s y) (w : Work rationals) (e : reduce_row rationals s.order (within program s) (length r.rows) a.basis y ≡ Ok w) (t : Term) (lead : row_lead rationals s.order w.row ≡ Some t) where
+    module _ (y : Row rationals) (wide : length y ≡ r.cols) (of_y : RowOf rationals s y) (w : ReductionState rationals) (e : reduce_row rationals s.order (within program s) (length r.rows) a.basis y ≡ Ok w) (t : Term) (lead : row_lead rationals s.order w.row ≡ Some t) where
       abbrev z : Row rationals
       z = w.row
 
@@ -102,7 +102,7 @@ module _ (s : Signature) where
 
       -- no steps are needed for what is left
       rest_outside : IsValidOutside rationals s s.order r.cols r.rows z (outside_of_run rationals s.order r.rows a [] z)
-      unfolding after
+      unfolding remainder_after
       rest_outside =
           let h = left_outside s r long of_r a end y wide of_y w e t lead in
           record { leads = h.leads; is_basis = h.is_basis; steps_within = tt; rest_is = refl; rest_lead = h.rest_lead; rest_number = h.rest_number; leads_rest = h.leads_rest; irreducible = h.irreducible }
@@ -129,13 +129,13 @@ module _ (s : Signature) where
 
       -- where z is torsion, the operator and the cofactors are found
       module _ (torsion : IsTorsion rationals s r.cols r.rows w.row) where
-        found_syzygy : (d : State rationals) → IsEndOf s (stacked z r) d → HasNonzeroFirst rationals d.syzygies
+        found_syzygy : (d : RunState rationals) → IsEndOf s (stacked z r) d → HasNonzeroFirst rationals d.syzygies
         found_syzygy d over =
             nonzero_first rationals s (lawful s) r.cols r.rows d.syzygies z z_wide torsion
             (complete_exact rationals s (lawful s) s.order r.cols (z ∷ r.rows) stacked_long stacked_of d (holds s (stacked z r) stacked_long stacked_of d over) (complete s (stacked z r) stacked_long stacked_of d over))
 
-        autonomous_ended : (d : State rationals) → IsEndOf s (stacked z r) d → (runs : List (List Choice)) (c : Certificate)
-            → LeadsTo (program_runner s) (certified program s r (autonomous_element s r a z (first_nonzero (length r.rows) d.syzygies)) tt) runs (Done c) → IsRight s r c
+        autonomous_ended : (d : RunState rationals) → IsEndOf s (stacked z r) d → (runs : List (List Choice)) (c : Certificate)
+            → LeadsTo (program_runner s) (certified program s r (autonomous_element s r a z (first_nonzero (length r.rows) d.syzygies)) tt) runs (Done c) → IsCorrect s r c
         autonomous_ended d over runs c h =
             let found = first_nonzero (length r.rows) d.syzygies in
             let there = found_syzygy d over in
@@ -156,7 +156,7 @@ module _ (s : Signature) where
               subst (λ z. IsValidOutsideFor s r z (outside_block_of s r a [] w.row)) (sym z_sums) rest_block_valid,
             ) runs h
 
-        autonomous_right : (runs : List (List Choice)) (c : Certificate) → LeadsTo (program_runner s) (autonomous program s r a z) runs (Done c) → IsRight s r c
+        autonomous_right : (runs : List (List Choice)) (c : Certificate) → LeadsTo (program_runner s) (autonomous program s r a z) runs (Done c) → IsCorrect s r c
         unfolding autonomous
         autonomous_right runs c h =
             let (d, rest, over, more) = ran s (stacked z r) (λ d. certified program s r (autonomous_element s r a z (first_nonzero (length r.rows) d.syzygies)) tt) runs c h in
@@ -164,7 +164,7 @@ module _ (s : Signature) where
 
   -- ---- both verdicts
 
-  module _ (r : RowMatrix) (long : AreLong rationals r.cols r.rows) (of_r : AllByRecursion (RowOf rationals s) r.rows) (a : State rationals) (end : IsEndOf s r a) (k : RightKernel) (found : IsRightKernel s r k) (c : State rationals) (over : IsEndOf s k.generators c) where
+  module _ (r : RowMatrix) (long : AreLong rationals r.cols r.rows) (of_r : AllByRecursion (RowOf rationals s) r.rows) (a : RunState rationals) (end : IsEndOf s r a) (k : RightKernel) (found : IsFoundRightKernel s r k) (c : RunState rationals) (over : IsEndOf s k.generators c) where
     abbrev q : RowMatrix
     q = k.generators
 
@@ -214,7 +214,7 @@ module _ (s : Signature) where
 
     -- a syzygy y of the generators, and what is left of it
     module _ (y : Row rationals) (wide : length y ≡ r.cols) (of_y : RowOf rationals s y) (vanishes : combine rationals s k.generators.cols y k.generators.rows ≡ zero_row rationals k.generators.cols)
-        (w : Work rationals) (reduces : reduce_row rationals s.order (within program s) (length r.rows) a.basis y ≡ Ok w) where
+        (w : ReductionState rationals) (reduces : reduce_row rationals s.order (within program s) (length r.rows) a.basis y ≡ Ok w) where
       rest_taken : combine rationals s k.generators.cols w.row k.generators.rows ≡ zero_row rationals k.generators.cols
       rest_taken =
           let rest = rest_reduced rationals s (lawful s) r.cols r.rows long a (holds s r long of_r a end) (within program s) (within_sound program s) y w wide reduces in
@@ -232,7 +232,7 @@ module _ (s : Signature) where
           torsion_of_kernel rationals s (lawful s) r.cols k.generators.cols r.rows k.generators.rows long q_wide q_count kernel_exact rational_inverses of_r w.row
           (z_wide r long of_r a end y wide of_y w reduces t lead) (z_of r long of_r a end y wide of_y w reduces t lead) rest_taken
 
-    verdict_ended : (elements : Reductions rationals) → IsReducedOn s r long of_r a end c.syzygies elements → (runs : List (List Choice)) (d : Certificate) → LeadsTo (program_runner s) (verdicts_of r a k c elements) runs (Done d) → IsRight s r d
+    verdict_ended : (elements : Reductions rationals) → IsReducedOn s r long of_r a end c.syzygies elements → (runs : List (List Choice)) (d : Certificate) → LeadsTo (program_runner s) (verdicts_of r a k c elements) runs (Done d) → IsCorrect s r d
     verdict_ended (AllReduce all) (more, same, reduced) runs d formed =
         let here : AreFound s r long of_r a end c.syzygies all = subst (AreFound s r long of_r a end c.syzygies) (sym same) reduced in
         let block = exact_block_of s q c (inside_rows all) in
@@ -251,10 +251,10 @@ module _ (s : Signature) where
         (vanishing rationals s s.order k.generators.cols k.generators.rows c.syzygies (holds s k.generators q_wide q_of c over).syzygies) in
         autonomous_right r long of_r a end y wide of_y w e t lead (rest_torsion y wide of_y vanishes w e t lead) runs d formed
 
-  abbrev after_kernel : RowMatrix → State rationals → RightKernel → RunCourse Certificate
+  abbrev after_kernel : RowMatrix → RunState rationals → RightKernel → RunCourse Certificate
   after_kernel r a k = run_on program s k.generators >>= (λ c. forced (reduced program s r a c.syzygies) >>= verdicts_of r a k c)
 
-  pub analyse_right : FormsRight s (analyse program s)
+  pub analyse_right : FormsCorrect s (analyse program s)
   unfolding analyse
   analyse_right r long of_r runs d h =
       let (a, rest, end, h1) = ran s r (λ a. right_kernel program s r >>= after_kernel r a) runs d h in

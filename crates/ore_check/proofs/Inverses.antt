@@ -9,7 +9,7 @@ use Rattle.std.proofs.Common.{◌≡◌, ℕ, zero, suc, ◌<◌, Bool, true, fa
 use Rattle.std.proofs.ByRecursion.{All-get_or}
 use Rattle.std.proofs.lemmas.List.{ext_get_or}
 use Rattle.ore_algebra.specs.Free.{empty_sum, single}
-use Rattle.ore_rational.proofs.FractionLaws.{rationals}
+use Rattle.ore_rational.specs.Field.{rationals}
 use Rattle.ore_monomial.specs.Monomial.{unit, plain_cmp}
 use Rattle.ore_monomial.specs.Signature.{Signature}
 use Rattle.ore_monomial.proofs.Operators
@@ -80,24 +80,28 @@ module _ (s : Signature) where
 
   pub no_left_inverse : (r : RowMatrix) (i : ℕ) → i < r.cols → ¬ InRowModule rationals s r.cols r.rows (unit_row rationals r.cols i) → ¬ HasLeftInverse s r
   unfolding InRowModule
-  no_left_inverse r i h outside (m, of, (lm, wide, e)) = outside (
-    row_at m i,
-    All-get_or (λ q. length q ≡ length r.rows) m i [] here wide,
-    All-get_or (RowOf rationals s) m i [] here of,
-    sym (row-matrix_times rationals s (lawful s) r.cols m r.rows i here) ∙ ap (λ rows. row_at rows i) e ∙ row-identity_rows rationals r.cols i h,
+  no_left_inverse r i h outside (m, of, (size, e)) = outside (
+    row_at m.rows i,
+    All-get_or (λ q. length q ≡ m.cols) m.rows i [] here size.long ∙ size.columns,
+    All-get_or (RowOf rationals s) m.rows i [] here of,
+    sym (row-matrix_times rationals s (lawful s) r.cols m.rows r.rows i here) ∙ ap (λ rows. row_at rows i) e ∙ row-identity_rows rationals r.cols i h,
   )
     where
-      here : i < length m
-      here = subst (λ n. i < n) (sym lm) h
+      here : i < length m.rows
+      here = subst (λ n. i < n) (sym size.rows) h
 
   left_inverse_of : (r : RowMatrix) → AreLong rationals r.cols r.rows → HasRightInverse s r → HasLeftInverse s (transposed_adjoint s r)
-  left_inverse_of r long (m, of, (lm, wide, e)) = (
-    transpose_adjoint rationals s (length r.rows) m,
-    of_adjoint_rows (length r.rows) m of,
+  left_inverse_of r long (m, of, (size, e)) = (
+    transposed_adjoint s m,
+    of_adjoint_rows m.cols m.rows of,
     (
-      Rows.length-adjoint rationals s (length r.rows) m,
-      subst (λ n. AreLong rationals n (transpose_adjoint rationals s (length r.rows) m)) (lm ∙ sym (Rows.length-adjoint rationals s r.cols r.rows)) (Rows.long_adjoint rationals s (length r.rows) m),
-      sym (Rows.adjoint-product rationals s (lawful s) r.cols (length r.rows) r.rows m long wide) ∙ ap (transpose_adjoint rationals s (length r.rows)) e ∙ adjoint-identity (length r.rows),
+      record {
+        rows = Rows.length-adjoint rationals s m.cols m.rows ∙ size.columns;
+        columns = size.rows ∙ sym (Rows.length-adjoint rationals s r.cols r.rows);
+        long = Rows.long_adjoint rationals s m.cols m.rows;
+      },
+      sym (Rows.adjoint-product rationals s (lawful s) r.cols m.cols r.rows m.rows long size.long) ∙ ap (transpose_adjoint rationals s m.cols) e
+          ∙ ap (λ n. transpose_adjoint rationals s n (identity_rows rationals (length r.rows))) size.columns ∙ adjoint-identity (length r.rows),
     ),
   )
 

@@ -1,5 +1,4 @@
 -- The places of a certificate within limits give what they give without, or an operation stops.
---     adjoint_most             the transposed adjoint of a matrix
 --     check_links_most         links
 --     adjoints_most            the adjoints of the last two matrices
 --     check_most               all kinds but reports
@@ -7,14 +6,13 @@ use Rattle.std.proofs.Common.{ℕ, suc, ◌&&◌, nat_eq, nat_lt, List, [], ◌�
 use Rattle.std.specs.Prelude.{not}
 use Rattle.std.specs.declared.result.Result.TheVariants.{Ok}
 use Rattle.ore_algebra.specs.Free.{empty_sum}
-use Rattle.ore_algebra.specs.Limits.{Limits, unlimited, IsAtMost}
-use Rattle.ore_rational.proofs.FractionLaws.{rationals}
+use Rattle.ore_algebra.specs.Limits.{Limits, unlimited}
+use Rattle.ore_rational.specs.Field.{rationals}
 use Rattle.ore_monomial.specs.Monomial.{plain_cmp}
 use Rattle.ore_monomial.specs.Signature.{Signature}
 use Rattle.ore_rows.specs.Rows.{unit_row, identity_rows}
 use Rattle.ore_rows.specs.Stored.{sums_of, rows_of}
 use Rattle.ore_rows.proofs.WithinValues.{scale_at_most, combine_at_most, product_at_most}
-use Rattle.ore_adjoint.proofs.AdjointValues.{matrix_at_most}
 use Rattle.ore_parts.specs.declared.block.Link.{Link}
 use Rattle.ore_cert.specs.declared.certificate.Side.TheVariants.{Left, Right}
 use Rattle.ore_cert.specs.declared.certificate.Certificate.{Certificate}
@@ -29,12 +27,10 @@ use Rattle.ore_blocks.specs.Same.{operator_discrete}
 use Rattle.ore_blocks.specs.WithinLimits.{IsCheckedAtMost}
 use Rattle.ore_blocks.proofs.CheckedAtMost.{most_same, most_checked, most_then, most_behind}
 use Rattle.ore_blocks.proofs.BlocksAtMost.{rows_give_most, check_exact_most, check_outside_most}
-use Rattle.ore_check.specs.Check.{IsNoReport, adjoint_of, check_links, adjoints_of, check}
+use Rattle.ore_blocks.proofs.TransposedAdjoints.{adjoint_at_most}
+use Rattle.ore_check.specs.Check.{IsNoReport, check_links, adjoints_of, check}
 
 module _ (l : Limits) (s : Signature) where
-  adjoint_most : (m : RowMatrix) → IsAtMost (adjoint_of l s m) (adjoint_of unlimited s m)
-  adjoint_most m = matrix_at_most l s m.cols m.rows
-
   check_links_most : (i : ℕ) (before r : RowMatrix) (ks : List Link) → IsCheckedAtMost (check_links l s i before r ks) (check_links unlimited s i before r ks)
   unfolding check_links
   check_links_most i before r [] = most_same (Ok (before, r))
@@ -46,9 +42,9 @@ module _ (l : Limits) (s : Signature) where
   adjoints_most : (pair : RowMatrix × RowMatrix) → IsCheckedAtMost (adjoints_of l s pair) (adjoints_of unlimited s pair)
   unfolding adjoints_of
   adjoints_most pair =
-      most_then _ _ _ _ (most_checked (place.Block section.Body) _ _ (adjoint_most pair.1)) (λ after.
-      most_then _ _ _ _ (most_checked (place.Block section.Body) _ _ (adjoint_most pair.0)) (λ before.
-      most_same (Ok (record { cols = length pair.1.rows; rows = after }, record { cols = length pair.0.rows; rows = before }))))
+      most_then _ _ _ _ (most_checked (place.Block section.Body) _ _ (adjoint_at_most l s pair.1)) (λ after.
+      most_then _ _ _ _ (most_checked (place.Block section.Body) _ _ (adjoint_at_most l s pair.0)) (λ before.
+      most_same (Ok (after, before))))
 
   pub check_most : (r : RowMatrix) (c : Certificate) (claims : IsNoReport c) → IsCheckedAtMost (check l s r c claims) (check unlimited s r c claims)
   unfolding check are_zero
@@ -74,16 +70,16 @@ module _ (l : Limits) (s : Signature) where
       check_outside_most l s r (unit_row rationals r.cols i) block)
   check_most r (NoRightInverse i block) claims =
       most_behind (required place.Unit reason.Unit (nat_lt i (length r.rows))) _ _ (λ u.
-      most_then _ _ _ _ (most_checked (place.Block section.Body) _ _ (adjoint_most r)) (λ adjoint.
-      check_outside_most l s (record { cols = length r.rows; rows = adjoint }) (unit_row rationals (length r.rows) i) block))
+      most_then _ _ _ _ (most_checked (place.Block section.Body) _ _ (adjoint_at_most l s r)) (λ adjoint.
+      check_outside_most l s adjoint (unit_row rationals (length r.rows) i) block))
   check_most r (Kernel Left generators block) claims =
       most_behind (required (place.Header section.Body Generators) reason.Shape (nat_eq generators.cols (length r.rows))) _ _ (λ u.
       check_exact_most l s section.Body r (plain generators) block)
   check_most r (Kernel Right generators block) claims =
       most_behind (required (place.Header section.Body Generators) reason.Shape (nat_eq (length generators.rows) r.cols)) _ _ (λ u.
-      most_then _ _ _ _ (most_checked (place.Block section.Body) _ _ (adjoint_most r)) (λ adjoint.
-      most_then _ _ _ _ (most_checked (place.Block section.Body) _ _ (adjoint_most (plain generators))) (λ generators_adjoint.
-      check_exact_most l s section.Body (record { cols = length r.rows; rows = adjoint }) (record { cols = length generators.rows; rows = generators_adjoint }) block)))
+      most_then _ _ _ _ (most_checked (place.Block section.Body) _ _ (adjoint_at_most l s r)) (λ adjoint.
+      most_then _ _ _ _ (most_checked (place.Block section.Body) _ _ (adjoint_at_most l s (plain generators))) (λ generators_adjoint.
+      check_exact_most l s section.Body adjoint generators_adjoint block)))
   check_most r (Resolution links) claims = most_then _ _ _ _ (check_links_most 0 r r links) (λ last. most_same (Ok tt))
   check_most r (ExtZero links block) claims =
       most_then _ _ _ _ (check_links_most 0 r r links) (λ last.
@@ -92,9 +88,9 @@ module _ (l : Limits) (s : Signature) where
   check_most r (ExtNonzero links element block) claims =
       most_then _ _ _ _ (check_links_most 0 r r links) (λ last.
       most_behind (required (place.Header section.Body Element) reason.Shape (nat_eq (length element) (length last.0.rows))) _ _ (λ u.
-      most_then _ _ _ _ (most_checked (place.Row section.Body Element 0) _ _ (adjoint_most last.1)) (λ adjoint.
-      most_then _ _ _ _ (most_checked (place.Row section.Body Element 0) _ _ (combine_at_most l s (length last.1.rows) (sums_of element) adjoint)) (λ product.
+      most_then _ _ _ _ (most_checked (place.Row section.Body Element 0) _ _ (adjoint_at_most l s last.1)) (λ adjoint.
+      most_then _ _ _ _ (most_checked (place.Row section.Body Element 0) _ _ (combine_at_most l s adjoint.cols (sums_of element) adjoint.rows)) (λ product.
       most_then _ _ _ _ (most_same _) (λ u.
-      most_then _ _ _ _ (most_checked (place.Block section.Body) _ _ (adjoint_most last.0)) (λ adjoint_before.
-      check_outside_most l s (record { cols = length last.0.rows; rows = adjoint_before }) (sums_of element) block))))))
+      most_then _ _ _ _ (most_checked (place.Block section.Body) _ _ (adjoint_at_most l s last.0)) (λ adjoint_before.
+      check_outside_most l s adjoint_before (sums_of element) block))))))
   check_most r (Halted report) claims = absurd claims

@@ -17,6 +17,9 @@ pub mod ValidKinds
 pub mod ValidMeans
 pub mod ValidAnswers
 pub mod FormedIdentities
+pub mod LastWork
 pub mod LinkConditions
 pub mod SameLines
 pub mod NonZeroSteps
+pub mod WrittenRight
+pub mod PlanBudgets

@@ -10,6 +10,7 @@ use Rattle.std.proofs.lemmas.List.{at_drop_all}
 use Rattle.std.proofs.lemmas.List.Elements.{All-head, All-tail}
 use Rattle.ore_algebra.specs.Limits.{Limits}
 use Rattle.ore_algebra.specs.Results.{◌>>=◌}
+use Rattle.ore_algebra.proofs.ListLaws.{drop_read}
 use Rattle.ore_monomial.specs.Signature.{Signature}
 use Rattle.ore_ring.specs.Belongs.{Belongs}
 use Rattle.ore_rows.specs.Stored.{OperatorMatrix}
@@ -21,7 +22,6 @@ use Rattle.ore_blocks.specs.declared.place.Name.TheVariants.{Generators}
 use Rattle.ore_blocks.specs.declared.place.Place.TheVariants.{Header}
 use Rattle.ore_blocks.specs.declared.place.Section.TheVariants as section
 use Rattle.ore_blocks.specs.declared.reason.Reason.TheVariants.{Shape}
-use Rattle.ore_blocks.proofs.ReadItems.{drop_read}
 use Rattle.ore_check.specs.Check.{check_links}
 use Rattle.ore_check.specs.InnerContracts.{check_link, matrix_before}
 

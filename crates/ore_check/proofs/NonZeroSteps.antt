@@ -2,7 +2,7 @@
 --     AreNonZeroSteps, IsNonZeroListed, HasNonZero      so it is with steps, a listed entry, and a state
 --     subtracted, once, in_turn, reduced_nonzero        steps of a lead reduction
 --     rest_nonzero                 the rest of rows that are reduced
---     started, settled, treated, followed, stepped      treating a pair, and a choice
+--     started, remainder, treated, followed, stepped      treating a pair, and a choice
 --     begun                        the state before the first choice
 --     AnswersOnly                        whatever good states the runs of a course come to, its answer is good
 --     run_kept, led                choices and courses
@@ -24,7 +24,7 @@ use Rattle.ore_course.specs.Choices.{Refusal, Runner}
 use Rattle.ore_course.specs.Course.{Course, Done, Stops, Runs}
 use Rattle.ore_course.specs.Course as course
 use Rattle.ore_course.specs.Leading.{LeadsTo, IsFormedBy, run}
-use Rattle.ore_rational.proofs.FractionLaws.{rationals, rational_inverses}
+use Rattle.ore_rational.specs.Field.{rationals, rational_inverses}
 use Rattle.ore_monomial.specs.Monomial.{unit}
 use Rattle.ore_monomial.specs.Signature.{Signature}
 use Rattle.ore_monomial.specs.Term.{Term}
@@ -32,17 +32,17 @@ use Rattle.ore_monomial.specs.declared.order.Order.{Order}
 use Rattle.ore_rows.specs.Rows.{Row, zero_row, unit_row, identity_rows}
 use Rattle.ore_rows.specs.RowLead.{coefficient_at, row_lead}
 use Rattle.ore_rows.specs.Arithmetic.{Arithmetic, within}
-use Rattle.ore_rows.specs.Reduction.{Monic, Step, Work, basis_rows, cofactors_of, row_at, leads_of, step_operator, next_step, less_multiple, subtract, reduce_once, reduce_in, reduce, room}
+use Rattle.ore_rows.specs.Reduction.{BasisRow, Step, ReductionState, basis_rows, cofactors_of, row_at, leads_of, step_operator, next_step, less_multiple, subtract, reduce_once, reduce_in, reduce, room}
 use Rattle.ore_rows.specs.ReduceRows.{Reductions, AllReduce, LeavesRest, negated, reduce_rows_from}
 use Rattle.ore_rows.specs.declared.choices.Choice.{Choice}
 use Rattle.ore_rows.specs.declared.choices.Choice.TheVariants.{Treat, Skip}
 use Rattle.ore_rows.specs.declared.choices.Origin.TheVariants.{ZeroRow}
 use Rattle.ore_rows.proofs.GreatestTerms.{row_lead-Some}
 use Rattle.ore_division.proofs.Steps.{next_step-Some}
-use Rattle.ore_pairs.specs.PairList.{Entry}
+use Rattle.ore_pairs.specs.PairList.{DealtPair}
 use Rattle.ore_pairs.specs.PairList as listed
-use Rattle.ore_pairs.specs.Run.{State, entries_with, s_rows, monic_multiple, with_syzygy, with_row, settle, treat, follow, step, begin_row, begin_rows, begin}
-use Rattle.ore_pairs.specs.Steps.{pair_term, s_row_within, common_fits}
+use Rattle.ore_pairs.specs.Run.{RunState, entries_with, s_rows, monic_multiple, with_syzygy, with_row, with_remainder, treat, follow, step, begin_row, begin_rows, begin}
+use Rattle.ore_pairs.specs.Steps.{lcm_of_leads, s_row_within, common_fits}
 use Rattle.ore_blocks.specs.BlockOfRun.{ordered_row, stored_entry, exact_block_of, outside_block_of}
 use Rattle.ore_blocks.specs.CheckBlock.{RowMatrix}
 use Rattle.ore_blocks.specs.KernelCourse.{RunCourse, RightKernel, kernel_block, syzygies_of, run_on, transposed_adjoint_within, right_kernel}
@@ -64,11 +64,11 @@ module _ (K : Domain) where
   abbrev pub AreNonZeroSteps : List (Step K) → Type 0
   AreNonZeroSteps = AllByRecursion (λ (t : Step K). t.number ≢ K.zero)
 
-  abbrev pub IsNonZeroListed : Entry K → Type 0
+  abbrev pub IsNonZeroListed : DealtPair K → Type 0
   IsNonZeroListed (listed.Pair i j steps) = AreNonZeroSteps steps
   IsNonZeroListed (listed.Skip i j via) = Unit {0}
 
-  abbrev pub HasNonZero : State K → Type 0
+  abbrev pub HasNonZero : RunState K → Type 0
   HasNonZero st = AllByRecursion IsNonZeroListed st.listed
 
   -- of what is left of a row, where something is
@@ -76,33 +76,33 @@ module _ (K : Domain) where
   RestIsNonZero (AllReduce combinations) = Unit {0}
   RestIsNonZero (LeavesRest k w) = AreNonZeroSteps w.steps
 
-module _ (K : Domain) (o : Order) (A : Arithmetic K) (basis : List (Monic (Row K))) where
-  subtracted : (t : Step K) (w v : Work K) → subtract K A basis t w ≡ Ok v → w.steps ++ t ∷ [] ≡ v.steps
+module _ (K : Domain) (o : Order) (A : Arithmetic K) (basis : List (BasisRow (Row K))) where
+  subtracted : (t : Step K) (w v : ReductionState K) → subtract K A basis t w ≡ Ok v → w.steps ++ t ∷ [] ≡ v.steps
   unfolding subtract
   subtracted t w v e =
       let x = bound (less_multiple K A (step_operator K t) (row_at (basis_rows basis) t.index) w.row) (λ row. less_multiple K A (step_operator K t) (row_at (cofactors_of basis) t.index) w.cofactor >>= λ cofactor. Ok (record { row = row; cofactor = cofactor; steps = w.steps ++ t ∷ [] })) v e in
       let y = bound (less_multiple K A (step_operator K t) (row_at (cofactors_of basis) t.index) w.cofactor) (λ cofactor. Ok (record { row = x.0; cofactor = cofactor; steps = w.steps ++ t ∷ [] })) v x.2 in
-      ap (λ (w : Work K). w.steps) (same_ok _ v y.2)
+      ap (λ (w : ReductionState K). w.steps) (same_ok _ v y.2)
 
   step_nonzero : (r : Row K) (t : Step K) → next_step K o basis r ≡ Some t → t.number ≢ K.zero
   step_nonzero r t e = let s = next_step-Some K o basis r t e in λ z. (row_lead-Some K o r s.lead s.leads).apart (sym s.number ∙ z)
 
-  once : (w v : Work K) → reduce_once K o A basis w ≡ Ok v → AreNonZeroSteps K w.steps → AreNonZeroSteps K v.steps
+  once : (w v : ReductionState K) → reduce_once K o A basis w ≡ Ok v → AreNonZeroSteps K w.steps → AreNonZeroSteps K v.steps
   unfolding reduce_once
   once w v e h = by (next_step K o basis w.row) refl e
     where
-      by : (x : Option (Step K)) → next_step K o basis w.row ≡ x → ◌≡◌ {A = Result (Work K) Cause} (elim x [ None ↦ Ok w | Some t ↦ subtract K A basis t w ]) (Ok v) → AreNonZeroSteps K v.steps
-      by None f e = subst (λ (w : Work K). AreNonZeroSteps K w.steps) (same_ok w v e) h
+      by : (x : Option (Step K)) → next_step K o basis w.row ≡ x → ◌≡◌ {A = Result (ReductionState K) Cause} (elim x [ None ↦ Ok w | Some t ↦ subtract K A basis t w ]) (Ok v) → AreNonZeroSteps K v.steps
+      by None f e = subst (λ (w : ReductionState K). AreNonZeroSteps K w.steps) (same_ok w v e) h
       by (Some t) f e = subst (AreNonZeroSteps K) (subtracted t w v e) (All-push (λ (t : Step K). t.number ≢ K.zero) w.steps t h (step_nonzero w.row t f))
 
-  in_turn : (k : ℕ) (w v : Work K) → reduce_in K o A k basis w ≡ Ok v → AreNonZeroSteps K w.steps → AreNonZeroSteps K v.steps
+  in_turn : (k : ℕ) (w v : ReductionState K) → reduce_in K o A k basis w ≡ Ok v → AreNonZeroSteps K w.steps → AreNonZeroSteps K v.steps
   unfolding reduce_in
-  in_turn zero w v e h = subst (λ (w : Work K). AreNonZeroSteps K w.steps) (same_ok w v e) h
+  in_turn zero w v e h = subst (λ (w : ReductionState K). AreNonZeroSteps K w.steps) (same_ok w v e) h
   in_turn (suc k) w v e h =
       let x = bound (reduce_once K o A basis w) (λ next. reduce_in K o A k basis next) v e in
       in_turn k x.0 v x.2 (once w x.0 x.1 h)
 
-  pub reduced_nonzero : (w v : Work K) → reduce K o A basis w ≡ Ok v → AreNonZeroSteps K w.steps → AreNonZeroSteps K v.steps
+  pub reduced_nonzero : (w v : ReductionState K) → reduce K o A basis w ≡ Ok v → AreNonZeroSteps K w.steps → AreNonZeroSteps K v.steps
   unfolding reduce
   reduced_nonzero w v e h = in_turn (room K o w.row) w v e h
 
@@ -110,12 +110,12 @@ module _ (K : Domain) (o : Order) (A : Arithmetic K) (basis : List (Monic (Row K
   unfolding reduce_rows_from
   rest_nonzero n k combinations [] x e = subst (RestIsNonZero K) (same_ok (AllReduce combinations) x e) tt
   rest_nonzero n k combinations (r ∷ rs) x e =
-      let start : Work K = record { row = r; cofactor = zero_row K n; steps = [] } in
-      let after : Work K → Result (Reductions K) Cause = λ w. elim (row_lead K o w.row) [ None ↦ reduce_rows_from K o A n basis (suc k) (combinations ++ negated K w.cofactor ∷ []) rs | Some t ↦ Ok (LeavesRest k w) ] in
+      let start : ReductionState K = record { row = r; cofactor = zero_row K n; steps = [] } in
+      let after : ReductionState K → Result (Reductions K) Cause = λ w. elim (row_lead K o w.row) [ None ↦ reduce_rows_from K o A n basis (suc k) (combinations ++ negated K w.cofactor ∷ []) rs | Some t ↦ Ok (LeavesRest k w) ] in
       let y = bound (reduce K o A basis start) after x e in
       by y.0 (reduced_nonzero start y.0 y.1 tt) (row_lead K o y.0.row) y.2 (λ f. rest_nonzero n (suc k) (combinations ++ negated K y.0.cofactor ∷ []) rs x f)
     where
-      by : (w : Work K) → AreNonZeroSteps K w.steps → (t : Option Term) → ◌≡◌ {A = Result (Reductions K) Cause} (elim t [ None ↦ reduce_rows_from K o A n basis (suc k) (combinations ++ negated K w.cofactor ∷ []) rs | Some t ↦ Ok (LeavesRest k w) ]) (Ok x)
+      by : (w : ReductionState K) → AreNonZeroSteps K w.steps → (t : Option Term) → ◌≡◌ {A = Result (Reductions K) Cause} (elim t [ None ↦ reduce_rows_from K o A n basis (suc k) (combinations ++ negated K w.cofactor ∷ []) rs | Some t ↦ Ok (LeavesRest k w) ]) (Ok x)
           → (reduce_rows_from K o A n basis (suc k) (combinations ++ negated K w.cofactor ∷ []) rs ≡ Ok x → RestIsNonZero K x) → RestIsNonZero K x
       by w h None e more = more e
       by w h (Some t) e more = subst (RestIsNonZero K) (same_ok (LeavesRest k w) x e) h
@@ -123,56 +123,56 @@ module _ (K : Domain) (o : Order) (A : Arithmetic K) (basis : List (Monic (Row K
 -- ---- choices
 
 module _ (K : Domain) (inverses : HasInverses K) (o : Order) (A : Arithmetic K) where
-  started : (basis : List (Monic (Row K))) (i j : ℕ) (w : Work K) → s_rows K A basis i j ≡ Ok w → [] ≡ w.steps
+  started : (basis : List (BasisRow (Row K))) (i j : ℕ) (w : ReductionState K) → s_rows K A basis i j ≡ Ok w → [] ≡ w.steps
   unfolding s_rows
   started basis i j w e =
-      let x = bound (common_fits K A (pair_term (leads_of basis) i j)) (λ _. s_row_within K A (leads_of basis) (basis_rows basis) i j >>= λ row. s_row_within K A (leads_of basis) (cofactors_of basis) i j >>= λ cofactor. Ok (record { row = row; cofactor = cofactor; steps = [] })) w e in
+      let x = bound (common_fits K A (lcm_of_leads (leads_of basis) i j)) (λ _. s_row_within K A (leads_of basis) (basis_rows basis) i j >>= λ row. s_row_within K A (leads_of basis) (cofactors_of basis) i j >>= λ cofactor. Ok (record { row = row; cofactor = cofactor; steps = [] })) w e in
       let y = bound (s_row_within K A (leads_of basis) (basis_rows basis) i j) (λ row. s_row_within K A (leads_of basis) (cofactors_of basis) i j >>= λ cofactor. Ok (record { row = row; cofactor = cofactor; steps = [] })) w x.2 in
       let z = bound (s_row_within K A (leads_of basis) (cofactors_of basis) i j) (λ cofactor. Ok (record { row = y.0; cofactor = cofactor; steps = [] })) w y.2 in
-      ap (λ (w : Work K). w.steps) (same_ok (record { row = y.0; cofactor = z.0; steps = [] }) w z.2)
+      ap (λ (w : ReductionState K). w.steps) (same_ok (record { row = y.0; cofactor = z.0; steps = [] }) w z.2)
 
-  listed_more : (st : State K) (e : Entry K) → HasNonZero K st → IsNonZeroListed K e → AllByRecursion (IsNonZeroListed K) (entries_with K st e)
+  listed_more : (st : RunState K) (e : DealtPair K) → HasNonZero K st → IsNonZeroListed K e → AllByRecursion (IsNonZeroListed K) (entries_with K st e)
   listed_more st e h g = All-push (IsNonZeroListed K) st.listed e h g
 
-  abbrev row_step : State K → Work K → Term → Step K
+  abbrev row_step : RunState K → ReductionState K → Term → Step K
   row_step st w t = record { index = length st.basis; monomial = unit; number = coefficient_at K w.row t }
 
-  abbrev state_of : State K → ℕ → ℕ → Work K → Term → Monic (Row K) → State K
+  abbrev state_of : RunState K → ℕ → ℕ → ReductionState K → Term → BasisRow (Row K) → RunState K
   state_of st i j w t b = record { basis = st.basis ++ b ∷ []; listed = entries_with K st (listed.Pair i j (w.steps ++ row_step st w t ∷ [])); syzygies = st.syzygies; origins = st.origins }
 
-  settled : (st next : State K) (i j : ℕ) (w : Work K) → HasNonZero K st → AreNonZeroSteps K w.steps → settle K inverses o A st i j w ≡ Ok next → HasNonZero K next
-  unfolding settle with_row with_syzygy
-  settled st next i j w h steps e = by (row_lead K o w.row) refl e
+  remainder : (st next : RunState K) (i j : ℕ) (w : ReductionState K) → HasNonZero K st → AreNonZeroSteps K w.steps → with_remainder K inverses o A st i j w ≡ Ok next → HasNonZero K next
+  unfolding with_remainder with_row with_syzygy
+  remainder st next i j w h steps e = by (row_lead K o w.row) refl e
     where
-      by : (t : Option Term) → row_lead K o w.row ≡ t → ◌≡◌ {A = Result (State K) Cause} (elim t [ None ↦ Ok (with_syzygy K o st i j w) | Some t ↦ with_row K inverses A st i j w t ]) (Ok next) → HasNonZero K next
+      by : (t : Option Term) → row_lead K o w.row ≡ t → ◌≡◌ {A = Result (RunState K) Cause} (elim t [ None ↦ Ok (with_syzygy K o st i j w) | Some t ↦ with_row K inverses A st i j w t ]) (Ok next) → HasNonZero K next
       by None f e = subst (HasNonZero K) (same_ok (with_syzygy K o st i j w) next e) (listed_more st (listed.Pair i j w.steps) h steps)
       by (Some t) f e =
           let x = bound (monic_multiple K inverses A w.row w.cofactor t) (λ b. Ok (state_of st i j w t b)) next e in
           subst (HasNonZero K) (same_ok (state_of st i j w t x.0) next x.2)
           (listed_more st (listed.Pair i j (w.steps ++ row_step st w t ∷ [])) h (All-push (λ (t : Step K). t.number ≢ K.zero) w.steps (row_step st w t) steps (row_lead-Some K o w.row t f).apart))
 
-  treated : (st next : State K) (i j : ℕ) → HasNonZero K st → treat K inverses o A st i j ≡ Ok next → HasNonZero K next
+  treated : (st next : RunState K) (i j : ℕ) → HasNonZero K st → treat K inverses o A st i j ≡ Ok next → HasNonZero K next
   unfolding treat
   treated st next i j h e =
-      let x = bound (s_rows K A st.basis i j) (λ start. reduce K o A st.basis start >>= λ rest. settle K inverses o A st i j rest) next e in
-      let y = bound (reduce K o A st.basis x.0) (λ rest. settle K inverses o A st i j rest) next x.2 in
-      settled st next i j y.0 h (reduced_nonzero K o A st.basis x.0 y.0 y.1 (subst (AreNonZeroSteps K) (started st.basis i j x.0 x.1) tt)) y.2
+      let x = bound (s_rows K A st.basis i j) (λ start. reduce K o A st.basis start >>= λ rest. with_remainder K inverses o A st i j rest) next e in
+      let y = bound (reduce K o A st.basis x.0) (λ rest. with_remainder K inverses o A st i j rest) next x.2 in
+      remainder st next i j y.0 h (reduced_nonzero K o A st.basis x.0 y.0 y.1 (subst (AreNonZeroSteps K) (started st.basis i j x.0 x.1) tt)) y.2
 
-  followed : (st next : State K) (c : Choice) → HasNonZero K st → follow K inverses o A st c ≡ Ok next → HasNonZero K next
+  followed : (st next : RunState K) (c : Choice) → HasNonZero K st → follow K inverses o A st c ≡ Ok next → HasNonZero K next
   unfolding follow
   followed st next (Treat i j) h e = treated st next i j h e
   followed st next (Skip i j via) h e = subst (HasNonZero K) (same_ok (record st { listed = entries_with K st (listed.Skip i j via) }) next e) (listed_more st (listed.Skip i j via) h tt)
 
-  pub stepped : (st next : State K) (c : Choice) → HasNonZero K st → step K inverses o A st c ≡ Ok next → HasNonZero K next
+  pub stepped : (st next : RunState K) (c : Choice) → HasNonZero K st → step K inverses o A st c ≡ Ok next → HasNonZero K next
   stepped st next c h e = followed st next c h (step_given K inverses o A st next c e).1
 
   -- ---- the first basis
 
-  begun_row : (q i : ℕ) (r : Row K) (st next : State K) → begin_row K inverses o A q i r st ≡ Ok next → HasNonZero K st → HasNonZero K next
+  begun_row : (q i : ℕ) (r : Row K) (st next : RunState K) → begin_row K inverses o A q i r st ≡ Ok next → HasNonZero K st → HasNonZero K next
   unfolding begin_row
   begun_row q i r st next e h = by (row_lead K o r) e
     where
-      by : (t : Option Term) → ◌≡◌ {A = Result (State K) Cause} (elim t [
+      by : (t : Option Term) → ◌≡◌ {A = Result (RunState K) Cause} (elim t [
         | None ↦ Ok (record st { syzygies = st.syzygies ++ unit_row K q i ∷ []; origins = st.origins ++ ZeroRow i ∷ [] })
         | Some t ↦ monic_multiple K inverses A r (unit_row K q i) t >>= (λ b. Ok (record st { basis = st.basis ++ b ∷ [] }))
       ]) (Ok next) → HasNonZero K next
@@ -181,14 +181,14 @@ module _ (K : Domain) (inverses : HasInverses K) (o : Order) (A : Arithmetic K) 
           let x = bound (monic_multiple K inverses A r (unit_row K q i) t) (λ b. Ok (record st { basis = st.basis ++ b ∷ [] })) next e in
           subst (HasNonZero K) (same_ok (record st { basis = st.basis ++ x.0 ∷ [] }) next x.2) h
 
-  begun_rows : (q i : ℕ) (rows : List (Row K)) (st next : State K) → begin_rows K inverses o A q i rows st ≡ Ok next → HasNonZero K st → HasNonZero K next
+  begun_rows : (q i : ℕ) (rows : List (Row K)) (st next : RunState K) → begin_rows K inverses o A q i rows st ≡ Ok next → HasNonZero K st → HasNonZero K next
   unfolding begin_rows
   begun_rows q i [] st next e h = subst (HasNonZero K) (same_ok st next e) h
   begun_rows q i (r ∷ rows) st next e h =
       let x = bound (begin_row K inverses o A q i r st) (λ next. begin_rows K inverses o A q (suc i) rows next) next e in
       begun_rows q (suc i) rows x.0 next x.2 (begun_row q i r st x.0 x.1 h)
 
-  pub begun : (a : List (Row K)) (first : State K) → begin K inverses o A a ≡ Ok first → HasNonZero K first
+  pub begun : (a : List (Row K)) (first : RunState K) → begin K inverses o A a ≡ Ok first → HasNonZero K first
   unfolding begin
   begun a first e = begun_rows (length a) 0 a (record { basis = []; listed = []; syzygies = []; origins = [] }) first e tt
 
@@ -247,7 +247,7 @@ module _ {S : Type 0} (P : S → Type 0) where
 
 -- ---- plans
 
-listed_nonzero : (es : List (Entry rationals)) → AllByRecursion (IsNonZeroListed rationals) es → AllByRecursion IsNonZeroEntry (map stored_entry es)
+listed_nonzero : (es : List (DealtPair rationals)) → AllByRecursion (IsNonZeroListed rationals) es → AllByRecursion IsNonZeroEntry (map stored_entry es)
 listed_nonzero [] h = tt
 listed_nonzero (listed.Pair i j steps ∷ es) h = (h.0, listed_nonzero es h.1)
 listed_nonzero (listed.Skip i j via ∷ es) h = (tt, listed_nonzero es h.1)
@@ -262,7 +262,7 @@ formed_same x y (Err failing) e = by failing.trouble e
     by (Stopped cause) e = absurd (no_ok e)
 
 module _ (s : Signature) where
-  abbrev Good : State rationals → Type 0
+  abbrev Good : RunState rationals → Type 0
   Good = HasNonZero rationals
 
   abbrev Comes : {X : Type 0} → (X → Type 0) → RunCourse X → Type 0
@@ -275,19 +275,19 @@ module _ (s : Signature) where
   worked : {X : Type 0} (r : Result X Cause) → Comes (λ _. Unit {0}) (course.forced r)
   worked r = gives_forced Good (λ _. Unit {0}) r (λ x e. tt)
 
-  reduces : (a : RowMatrix) (st : State rationals) (rows : List (Row rationals)) → Comes (RestIsNonZero rationals) (course.forced (reduced program s a st rows))
+  reduces : (a : RowMatrix) (st : RunState rationals) (rows : List (Row rationals)) → Comes (RestIsNonZero rationals) (course.forced (reduced program s a st rows))
   reduces a st rows = gives_forced Good (RestIsNonZero rationals) (reduced program s a st rows) (rest_nonzero rationals s.order (within program s) st.basis (length a.rows) 0 [] rows)
 
   certifies : (r : RowMatrix) (c : Certificate) (claims : IsNoReport c) → HasNonZeroSteps c → Comes HasNonZeroSteps (certified program s r c claims)
   certifies r c claims h = gives_forced Good HasNonZeroSteps (formed_as c (check program s r c claims)) (λ d e. subst HasNonZeroSteps (formed_same c d (check program s r c claims) e) h)
 
-  exact : (a : RowMatrix) (st : State rationals) (inside : RowMatrix) → Good st → ExactMeets nonzero (exact_block_of s a st inside)
+  exact : (a : RowMatrix) (st : RunState rationals) (inside : RowMatrix) → Good st → ExactMeets nonzero (exact_block_of s a st inside)
   exact a st inside h = record { basis = tt; from = tt; to = tt; pairs = listed_nonzero st.listed h; inside = tt }
 
-  outside : (a : RowMatrix) (st : State rationals) (steps : List (Step rationals)) (rest : Row rationals) → Good st → AreNonZeroSteps rationals steps → OutsideMeets nonzero (outside_block_of s a st steps rest)
+  outside : (a : RowMatrix) (st : RunState rationals) (steps : List (Step rationals)) (rest : Row rationals) → Good st → AreNonZeroSteps rationals steps → OutsideMeets nonzero (outside_block_of s a st steps rest)
   outside a st steps rest h g = record { basis = tt; from = tt; pairs = listed_nonzero st.listed h; quotients = g; rest = tt }
 
-  abbrev identity_of : State rationals → RowMatrix
+  abbrev identity_of : RunState rationals → RowMatrix
   identity_of st = record { cols = length st.syzygies; rows = identity_rows rationals (length st.syzygies) }
 
   kernel_left_gives : (r : RowMatrix) → Comes HasNonZeroSteps (kernel_left program s r)
@@ -304,10 +304,10 @@ module _ (s : Signature) where
       (λ adjoint u. gives_bind Good Good LastIsGood (run_on program s adjoint) (generated adjoint) (ran adjoint)
       (λ last h. gives_bind Good (λ _. Unit {0}) LastIsGood (course.forced (transposed_adjoint_within program s (syzygies_of adjoint last))) (answered adjoint last) (worked (transposed_adjoint_within program s (syzygies_of adjoint last))) (λ generators v. h)))
     where
-      answered : RowMatrix → State rationals → RowMatrix → RunCourse RightKernel
+      answered : RowMatrix → RunState rationals → RowMatrix → RunCourse RightKernel
       answered adjoint last generators = Done (record { adjoint = adjoint; last = last; generators = generators })
 
-      generated : RowMatrix → State rationals → RunCourse RightKernel
+      generated : RowMatrix → RunState rationals → RunCourse RightKernel
       generated adjoint last = course.◌>>=◌ (course.forced (transposed_adjoint_within program s (syzygies_of adjoint last))) (answered adjoint last)
 
   kernel_right_gives : (r : RowMatrix) → Comes HasNonZeroSteps (kernel_right program s r)
@@ -325,13 +325,13 @@ module _ (s : Signature) where
       units : List (Row rationals)
       units = identity_rows rationals r.cols
 
-      ending : State rationals → Reductions rationals → RunCourse Certificate
+      ending : RunState rationals → Reductions rationals → RunCourse Certificate
       ending a x = elim x [
         | AllReduce combinations ↦ certified program s r (LeftInverse (stored s (record { cols = length r.rows; rows = combinations }))) tt
         | LeavesRest k w ↦ certified program s r (NoLeftInverse k (outside_block_of s r a w.steps w.row)) tt
       ]
 
-      by : (a : State rationals) → Good a → (x : Reductions rationals) → RestIsNonZero rationals x → Comes HasNonZeroSteps (ending a x)
+      by : (a : RunState rationals) → Good a → (x : Reductions rationals) → RestIsNonZero rationals x → Comes HasNonZeroSteps (ending a x)
       by a h (AllReduce combinations) g = certifies r (LeftInverse (stored s (record { cols = length r.rows; rows = combinations }))) tt tt
       by a h (LeavesRest k w) g = certifies r (NoLeftInverse k (outside_block_of s r a w.steps w.row)) tt (outside r a w.steps w.row h g)
 
@@ -350,30 +350,30 @@ module _ (s : Signature) where
       inverse_of : RowMatrix → RunCourse Certificate
       inverse_of inverse = certified program s r (RightInverse (stored s inverse)) tt
 
-      ending : RowMatrix → State rationals → Reductions rationals → RunCourse Certificate
+      ending : RowMatrix → RunState rationals → Reductions rationals → RunCourse Certificate
       ending adjoint a x = elim x [
         | AllReduce combinations ↦ course.◌>>=◌ (course.forced (turned combinations)) inverse_of
         | LeavesRest k w ↦ certified program s r (NoRightInverse k (outside_block_of s adjoint a w.steps w.row)) tt
       ]
 
-      reducing : RowMatrix → State rationals → RunCourse Certificate
+      reducing : RowMatrix → RunState rationals → RunCourse Certificate
       reducing adjoint a = course.◌>>=◌ (course.forced (reduced program s adjoint a units)) (ending adjoint a)
 
-      by : (adjoint : RowMatrix) (a : State rationals) → Good a → (x : Reductions rationals) → RestIsNonZero rationals x → Comes HasNonZeroSteps (ending adjoint a x)
+      by : (adjoint : RowMatrix) (a : RunState rationals) → Good a → (x : Reductions rationals) → RestIsNonZero rationals x → Comes HasNonZeroSteps (ending adjoint a x)
       by adjoint a h (AllReduce combinations) g = gives_bind Good (λ _. Unit {0}) HasNonZeroSteps (course.forced (turned combinations)) inverse_of (worked (turned combinations)) (λ inverse u. certifies r (RightInverse (stored s inverse)) tt tt)
       by adjoint a h (LeavesRest k w) g = certifies r (NoRightInverse k (outside_block_of s adjoint a w.steps w.row)) tt (outside adjoint a w.steps w.row h g)
 
   -- ---- the two verdicts
 
-  autonomous_gives : (r : RowMatrix) (a : State rationals) (z : Row rationals) → Good a → Comes HasNonZeroSteps (autonomous program s r a z)
+  autonomous_gives : (r : RowMatrix) (a : RunState rationals) (z : Row rationals) → Good a → Comes HasNonZeroSteps (autonomous program s r a z)
   unfolding autonomous
   autonomous_gives r a z h = gives_bind Good Good HasNonZeroSteps (run_on program s (stacked z r)) ending (ran (stacked z r))
       (λ d g. certifies r (found d) tt (outside r a [] z h tt))
     where
-      found : State rationals → Certificate
+      found : RunState rationals → Certificate
       found d = autonomous_element s r a z (first_nonzero (length r.rows) d.syzygies)
 
-      ending : State rationals → RunCourse Certificate
+      ending : RunState rationals → RunCourse Certificate
       ending d = certified program s r (found d) tt
 
   analyse_gives : (r : RowMatrix) → Comes HasNonZeroSteps (analyse program s r)
@@ -383,22 +383,22 @@ module _ (s : Signature) where
       (λ k hk. gives_bind Good Good HasNonZeroSteps (run_on program s k.generators) (reducing a k) (ran k.generators)
       (λ c g. gives_bind Good (RestIsNonZero rationals) HasNonZeroSteps (course.forced (reduced program s r a c.syzygies)) (ending a k c) (reduces r a c.syzygies) (by a h k c g))))
     where
-      block_of : RightKernel → State rationals → List (Row rationals) → Certificate
+      block_of : RightKernel → RunState rationals → List (Row rationals) → Certificate
       block_of k c combinations = Controllable (stored s k.generators) (exact_block_of s k.generators c (record { cols = length r.rows; rows = combinations }))
 
-      ending : State rationals → RightKernel → State rationals → Reductions rationals → RunCourse Certificate
+      ending : RunState rationals → RightKernel → RunState rationals → Reductions rationals → RunCourse Certificate
       ending a k c x = elim x [
         | AllReduce combinations ↦ certified program s r (block_of k c combinations) tt
         | LeavesRest n w ↦ autonomous program s r a w.row
       ]
 
-      reducing : State rationals → RightKernel → State rationals → RunCourse Certificate
+      reducing : RunState rationals → RightKernel → RunState rationals → RunCourse Certificate
       reducing a k c = course.◌>>=◌ (course.forced (reduced program s r a c.syzygies)) (ending a k c)
 
-      behind : State rationals → RightKernel → RunCourse Certificate
+      behind : RunState rationals → RightKernel → RunCourse Certificate
       behind a k = course.◌>>=◌ (run_on program s k.generators) (reducing a k)
 
-      by : (a : State rationals) → Good a → (k : RightKernel) (c : State rationals) → Good c → (x : Reductions rationals) → RestIsNonZero rationals x → Comes HasNonZeroSteps (ending a k c x)
+      by : (a : RunState rationals) → Good a → (k : RightKernel) (c : RunState rationals) → Good c → (x : Reductions rationals) → RestIsNonZero rationals x → Comes HasNonZeroSteps (ending a k c x)
       by a h k c g (AllReduce combinations) rest = certifies r (block_of k c combinations) tt (exact k.generators c (record { cols = length r.rows; rows = combinations }) g)
       by a h k c g (LeavesRest n w) rest = autonomous_gives r a w.row h
 
@@ -430,22 +430,22 @@ module _ (s : Signature) where
       (λ before v. gives_bind Good Good HasNonZeroSteps (run_on program s before) (fifth x last e before) (ran before)
       (λ f hf. gives_bind Good (RestIsNonZero rationals) HasNonZeroSteps (course.forced (reduced program s before f e.syzygies)) (ending x last e before f) (reduces before f e.syzygies) (by x h last e he before f hf))))))
     where
-      exact_of : RowMatrix → State rationals → RowMatrix → List (Row rationals) → ExactBlock
+      exact_of : RowMatrix → RunState rationals → RowMatrix → List (Row rationals) → ExactBlock
       exact_of last e before combinations = exact_block_of s last e (record { cols = length before.rows; rows = combinations })
 
-      ending : Resolution → RowMatrix → State rationals → RowMatrix → State rationals → Reductions rationals → RunCourse Certificate
+      ending : Resolution → RowMatrix → RunState rationals → RowMatrix → RunState rationals → Reductions rationals → RunCourse Certificate
       ending x last e before f elements = elim elements [
         | AllReduce combinations ↦ certified program s r (ExtZero x.links (exact_of last e before combinations)) tt
         | LeavesRest n w ↦ certified program s r (ExtNonzero x.links (ordered_row s.order w.row) (outside_block_of s before f [] w.row)) tt
       ]
 
-      fifth : Resolution → RowMatrix → State rationals → RowMatrix → State rationals → RunCourse Certificate
+      fifth : Resolution → RowMatrix → RunState rationals → RowMatrix → RunState rationals → RunCourse Certificate
       fifth x last e before f = course.◌>>=◌ (course.forced (reduced program s before f e.syzygies)) (ending x last e before f)
 
-      fourth : Resolution → RowMatrix → State rationals → RowMatrix → RunCourse Certificate
+      fourth : Resolution → RowMatrix → RunState rationals → RowMatrix → RunCourse Certificate
       fourth x last e before = course.◌>>=◌ (run_on program s before) (fifth x last e before)
 
-      third : Resolution → RowMatrix → State rationals → RunCourse Certificate
+      third : Resolution → RowMatrix → RunState rationals → RunCourse Certificate
       third x last e = course.◌>>=◌ (course.forced (transposed_adjoint_within program s x.before)) (fourth x last e)
 
       second : Resolution → RowMatrix → RunCourse Certificate
@@ -454,13 +454,13 @@ module _ (s : Signature) where
       first : Resolution → RunCourse Certificate
       first x = course.◌>>=◌ (course.forced (transposed_adjoint_within program s x.last)) (second x)
 
-      by : (x : Resolution) → LinksAreGood x → (last : RowMatrix) (e : State rationals) → Good e → (before : RowMatrix) (f : State rationals) → Good f → (elements : Reductions rationals) → RestIsNonZero rationals elements → Comes HasNonZeroSteps (ending x last e before f elements)
+      by : (x : Resolution) → LinksAreGood x → (last : RowMatrix) (e : RunState rationals) → Good e → (before : RowMatrix) (f : RunState rationals) → Good f → (elements : Reductions rationals) → RestIsNonZero rationals elements → Comes HasNonZeroSteps (ending x last e before f elements)
       by x h last e he before f hf (AllReduce combinations) rest = certifies r (ExtZero x.links (exact_of last e before combinations)) tt (h, exact last e (record { cols = length before.rows; rows = combinations }) he)
       by x h last e he before f hf (LeavesRest n w) rest = certifies r (ExtNonzero x.links (ordered_row s.order w.row) (outside_block_of s before f [] w.row)) tt (h, outside before f [] w.row hf tt)
 
   -- ---- the law
 
-  kept : (st next : State rationals) (c : Choice) → Good st → step rationals rational_inverses s.order (within program s) st c ≡ Ok next → Good next
+  kept : (st next : RunState rationals) (c : Choice) → Good st → step rationals rational_inverses s.order (within program s) st c ≡ Ok next → Good next
   kept = stepped rationals rational_inverses s.order (within program s)
 
   formed : {X : Type 0} (Q : X → Type 0) (whole : RunCourse X) → Comes Q whole → (runs : List (List Choice)) (x : X) → IsFormedBy (program_runner s) whole runs x → Q x

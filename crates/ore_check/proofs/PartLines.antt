@@ -32,7 +32,7 @@ use Rattle.ore_blocks.specs.declared.place.Place.{Place}
 use Rattle.ore_blocks.specs.declared.place.Place.TheVariants as place
 use Rattle.ore_check.specs.Check.{IsNoReport}
 use Rattle.ore_check.specs.Layout.{behind, exact_layout, outside_layout, link_layout, behind_links, link_line, linked_line, line_of, line_in, section_of}
-use Rattle.ore_check.specs.Parts.{Part, matrix_at, row_at, exact_parts, outside_parts, link_parts, parts_of, FollowOn}
+use Rattle.ore_check.specs.Parts.{Part, matrix_at, part_at_row, exact_parts, outside_parts, link_parts, parts_of, FollowOn}
 use Rattle.ore_check.proofs.TextLines.{Spans, spans_line, matrix_spans, row_spans, pairs_span, quotients_span}
 
 -- a part that goes on to line b, at its line, and those behind it
@@ -174,7 +174,7 @@ module _ (s : Signature) (names : List (List ℕ)) (are : AreNames names) (fit :
       (λ n. links_joined 0 links n ++ exact_joined section.Body block n) ∙ sym (flat_map-append (λ part. part.1) (link_parts names s.order 0 links) (exact_parts names s.order section.Body block))
   rest_joined (ExtNonzero links element block) claims =
       (λ n. links_joined 0 links n ++ (row_part names s.order (codes "element") element ++ outside_joined block n))
-      ∙ sym (flat_map-append (λ part. part.1) (link_parts names s.order 0 links) (row_at names s.order Element (codes "element") element ∷ outside_parts names s.order block))
+      ∙ sym (flat_map-append (λ part. part.1) (link_parts names s.order 0 links) (part_at_row names s.order Element (codes "element") element ∷ outside_parts names s.order block))
   rest_joined (Halted report) claims = absurd claims
 
   pub parts_begin : (c : Certificate) → IsWrittenCertificate s names c → IsNoReport c → (rest_text names s.order c ≡ flat_map (λ part. part.1) (parts_of names s.order c)) × FollowOn (line_in c) 3 (parts_of names s.order c)

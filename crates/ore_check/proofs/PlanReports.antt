@@ -17,18 +17,18 @@ use Rattle.ore_course.specs.Report.{Reported, ByStop, ByBudget, StopLine, AtForc
 use Rattle.ore_course.specs.Report as course
 use Rattle.ore_course.specs.Choices.{Refusal, Unlawful, Stopped}
 use Rattle.ore_course.specs.Leading.{Rule}
-use Rattle.ore_course.specs.Failing.{Place}
+use Rattle.ore_course.specs.Failing.{ReportPlace}
 use Rattle.ore_course.proofs.Honesty.{honest_exactly}
 use Rattle.ore_course.proofs.OnlyForced.{only_report, its_report}
 use Rattle.ore_monomial.specs.Signature.{Signature}
-use Rattle.ore_rational.proofs.FractionLaws.{rationals}
+use Rattle.ore_rational.specs.Field.{rationals}
 use Rattle.ore_rows.specs.Reduction.{leads_of}
 use Rattle.ore_rows.specs.declared.choices.Choice.{Choice}
 use Rattle.ore_rows.specs.declared.choices.Choice.TheVariants.{Treat, Skip}
 use Rattle.ore_pairs.specs.PairList as pair
 use Rattle.ore_pairs.specs.PairList.{pairs_of}
 use Rattle.ore_pairs.specs.PairRule.{is_lawful}
-use Rattle.ore_pairs.specs.Run.{State, entries_with, as_refusal, follow, step}
+use Rattle.ore_pairs.specs.Run.{RunState, entries_with, as_refusal, follow, step}
 use Rattle.ore_cert.specs.CourseReport.{reported_as, stop_as, course_report}
 use Rattle.ore_cert.specs.declared.report.Cause as declared
 use Rattle.ore_cert.specs.declared.report.Cause.TheVariants as cause
@@ -49,7 +49,7 @@ module _ (s : Signature) (r : RowMatrix) (report : Report) where
   valid_none : check_report s r report ≡ Valid → failing_place s r report ≡ None
   valid_none e = by (failing_place s r report) e
     where
-      by : (place : Option (Place Choice)) → (elim place [ None ↦ Valid | Some place ↦ Invalid (capped (line_of_place report place)) (reason_of place) ]) ≡ Valid → place ≡ None
+      by : (place : Option (ReportPlace Choice)) → (elim place [ None ↦ Valid | Some place ↦ Invalid (capped (line_of_place report place)) (reason_of place) ]) ≡ Valid → place ≡ None
       by None e = refl
       by (Some place) e = absurd (never e)
         where
@@ -123,11 +123,11 @@ module _ (s : Signature) (r : RowMatrix) where
 -- ---- where there is no report
 
 -- skipping a pair does no arithmetic
-skip_passes : (s : Signature) (st : State rationals) (i j via : ℕ) (c : Cause) → (program_runner s).step st (Skip i j via) ≡ Err (Stopped c) → ⊥
+skip_passes : (s : Signature) (st : RunState rationals) (i j via : ℕ) (c : Cause) → (program_runner s).step st (Skip i j via) ≡ Err (Stopped c) → ⊥
 unfolding step follow as_refusal
 skip_passes s st i j via c e = by (is_lawful (leads_of st.basis) (pairs_of st.listed) (Skip i j via)) e
   where
-    by : (lawful : Bool) → ◌≡◌ {A = Result (State rationals) Refusal} (cond lawful (Ok (record st { listed = entries_with rationals st (pair.Skip i j via) })) (Err Unlawful)) (Err (Stopped c)) → ⊥
+    by : (lawful : Bool) → ◌≡◌ {A = Result (RunState rationals) Refusal} (cond lawful (Ok (record st { listed = entries_with rationals st (pair.Skip i j via) })) (Err Unlawful)) (Err (Stopped c)) → ⊥
     by true f = cc
     by false f = cc
 
@@ -141,7 +141,7 @@ cause_same (ByStop limits.Overflow) = refl
 cause_same (ByStop limits.Degree) = refl
 cause_same (ByBudget n) = refl
 
-module _ (s : Signature) (rule : Rule (State rationals) Choice) (budget : ℕ) (plan : Plan) (r : RowMatrix) (none : HasNoReportOf s rule budget plan r) where
+module _ (s : Signature) (rule : Rule (RunState rationals) Choice) (budget : ℕ) (plan : Plan) (r : RowMatrix) (none : HasNoReportOf s rule budget plan r) where
   -- of a report with this stop there is one in a text
   with_stop : (place : Stop) (why : Reported) (runs : List (List Choice)) → IsHonestBy (program_runner s) rule (plan_course s plan r) (record { cause = why; runs = runs; stop = stop_as place })
       → IsWithin (program_runner s) budget (record { cause = why; runs = runs; stop = stop_as place }) → ⊥

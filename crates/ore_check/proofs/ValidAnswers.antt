@@ -6,7 +6,7 @@ use Rattle.std.specs.Prelude.{◌≢◌}
 use Rattle.std.specs.declared.result.Result.TheVariants.{Ok}
 use Rattle.ore_algebra.specs.Limits.{Limits, unlimited}
 use Rattle.ore_algebra.specs.Limits as cause
-use Rattle.ore_rational.proofs.FractionLaws.{rationals}
+use Rattle.ore_rational.specs.Field.{rationals}
 use Rattle.ore_monomial.specs.Signature.{Signature}
 use Rattle.ore_rows.specs.Rows.{AreLong}
 use Rattle.ore_cert.specs.declared.certificate.Certificate.{Certificate}

@@ -1,4 +1,5 @@
 -- Without limits the places of a certificate are right exactly where the certificate is valid, kind by kind, and in all.
+--     inverse_size                              the size of a matrix as an inverse
 --     controllable_iff, autonomous_iff, left_inverse_iff, right_inverse_iff, no_left_iff, no_right_iff, left_kernel_iff,
 --     right_kernel_iff                          certificates without links
 --     AreLinked                                 the last two matrices of links
@@ -14,20 +15,19 @@ use Rattle.std.specs.declared.result.Result.TheVariants.{Ok}
 use Rattle.std.proofs.lemmas.List.Elements.{All-head, All-tail}
 use Rattle.ore_algebra.specs.Free.{empty_sum}
 use Rattle.ore_algebra.specs.Limits.{unlimited}
-use Rattle.ore_rational.proofs.FractionLaws.{rationals}
+use Rattle.ore_rational.specs.Field.{rationals}
 use Rattle.ore_monomial.specs.Monomial.{plain_cmp}
 use Rattle.ore_monomial.specs.Signature.{Signature}
 use Rattle.ore_monomial.proofs.Signatures.{lawful}
 use Rattle.ore_ring.specs.Ordered.{Ordered}
 use Rattle.ore_rows.specs.RowLead.{row_lead}
-use Rattle.ore_rows.specs.Rows.{Row, AreLong, zero_row, unit_row, row_scale, combine, identity_rows, matrix_times, transpose_adjoint}
+use Rattle.ore_rows.specs.Rows.{Row, AreLong, zero_row, unit_row, row_scale, combine, identity_rows, matrix_times}
 use Rattle.ore_rows.specs.RowsWithin.{scale_within, combine_within, matrix_times_within}
 use Rattle.ore_rows.specs.Stored.{OperatorMatrix, sums_of, rows_of}
 use Rattle.ore_rows.proofs.GreatestTerms.{row_lead-zero, zero_from}
 use Rattle.ore_rows.proofs.RowLaws as Rows
 use Rattle.ore_rows.proofs.UnitRows.{length-identity_rows}
 use Rattle.ore_rows.proofs.WithinValues.{scale_unlimited, combine_unlimited, product_unlimited}
-use Rattle.ore_adjoint.proofs.AdjointValues.{matrix_unlimited}
 use Rattle.ore_parts.specs.declared.block.ExactBlock.{ExactBlock}
 use Rattle.ore_parts.specs.declared.block.OutsideBlock.{OutsideBlock}
 use Rattle.ore_parts.specs.declared.block.Link.{Link}
@@ -45,12 +45,14 @@ use Rattle.ore_algebra.specs.Results.{◌>>=◌}
 use Rattle.ore_blocks.specs.CheckBlock.{RowMatrix, plain, are_zero, check_exact}
 use Rattle.ore_blocks.specs.PlaceConditions.{same_row, same_rows}
 use Rattle.ore_blocks.specs.Same.{operator_discrete, row_discrete, rows_discrete}
+use Rattle.ore_blocks.specs.KernelCourse.{transposed_adjoint_within}
 use Rattle.ore_blocks.specs.Valid.{IsValidExactFor, IsValidOutsideFor}
 use Rattle.ore_blocks.proofs.Converted.{rows_count, wide_rows}
 use Rattle.ore_blocks.proofs.RowConditions.{rows_give_iff}
 use Rattle.ore_blocks.proofs.BlockConditions.{exact_iff, outside_iff}
-use Rattle.ore_check.specs.Check.{IsNoReport, adjoint_of, check_links, adjoints_of, check}
-use Rattle.ore_check.specs.Meaning.{transposed_adjoint}
+use Rattle.ore_blocks.proofs.TransposedAdjoints.{adjoint_unlimited}
+use Rattle.ore_check.specs.Check.{IsNoReport, check_links, adjoints_of, check}
+use Rattle.ore_check.specs.Meaning.{HasInverseSize, transposed_adjoint}
 use Rattle.ore_check.specs.Valid.{AreValidLinks, IsValid}
 use Rattle.ore_blocks.proofs.Equivalences.{same_claim, map_iff, goes_on, none_iff, goes_iff, value_iff, required_iff, formed_iff, passes_iff, nested, nat_eq_iff, nat_lt_iff, both_iff, same_iff, different_iff}
 
@@ -77,13 +79,17 @@ module _ (s : Signature) (r : RowMatrix) (long : AreLong rationals r.cols r.rows
       outside_iff s r (sums_of element) block blocks)))))))
       (λ h. (h.0, h.1.0, h.1.1.0, h.1.1.1.0, h.1.1.1.1), λ h. (h.0, (h.1, (h.2, (h.3, h.4)))))
 
-  left_inverse_iff : (m : OperatorMatrix) → (check unlimited s r (LeftInverse m) tt ≡ Ok tt) ↔ IsValid s r (LeftInverse m)
+  -- the sizes of a matrix of the signature, told by its stored rows
+  inverse_size : (m : OperatorMatrix) → MatrixOf s m → ((length m.rows ≡ r.cols) × (m.cols ≡ length r.rows)) ↔ HasInverseSize r (plain m)
+  inverse_size m of = (λ h. record { rows = rows_count m ∙ h.0; columns = h.1; long = wide_rows s m of }, λ h. (sym (rows_count m) ∙ h.rows, h.columns))
+
+  left_inverse_iff : (m : OperatorMatrix) → MatrixOf s m → (check unlimited s r (LeftInverse m) tt ≡ Ok tt) ↔ IsValid s r (LeftInverse m)
   unfolding check
-  left_inverse_iff m = map_iff
+  left_inverse_iff m of = map_iff
       (required_iff (place.Header section.Body Inverse) reason.Shape (nat_eq (length m.rows) r.cols && nat_eq m.cols (length r.rows)) _ tt
       (both_iff (nat_eq (length m.rows) r.cols) (nat_eq m.cols (length r.rows)) (nat_eq_iff (length m.rows) r.cols) (nat_eq_iff m.cols (length r.rows))) (λ sizes.
       rows_give_iff s reason.Identity r.cols r.rows long section.Body Inverse 0 (rows_of m) (identity_rows rationals r.cols) (rows_count m ∙ sizes.0 ∙ sym (length-identity_rows rationals r.cols))))
-      (λ h. (h.0.0, h.0.1, h.1), λ h. ((h.0, h.1), h.2))
+      (λ h. ((inverse_size m of).0 h.0, h.1), λ h. ((inverse_size m of).1 h.0, h.1))
 
   right_inverse_iff : (m : OperatorMatrix) → MatrixOf s m → (check unlimited s r (RightInverse m) tt ≡ Ok tt) ↔ IsValid s r (RightInverse m)
   unfolding check
@@ -93,7 +99,7 @@ module _ (s : Signature) (r : RowMatrix) (long : AreLong rationals r.cols r.rows
       formed_iff place.End (matrix_times_within unlimited s m.cols r.rows (rows_of m)) _ (matrix_times rationals s m.cols r.rows (rows_of m)) tt (product_unlimited s m.cols r.rows (rows_of m) (wide_rows s m of))
       (passes_iff place.End reason.Identity (same_rows (matrix_times rationals s m.cols r.rows (rows_of m)) (identity_rows rationals (length r.rows)))
       (same_iff rows_discrete (matrix_times rationals s m.cols r.rows (rows_of m)) (identity_rows rationals (length r.rows))))))
-      (λ h. (h.0.0, h.0.1, h.1), λ h. ((h.0, h.1), h.2))
+      (λ h. ((inverse_size m of).0 h.0, h.1), λ h. ((inverse_size m of).1 h.0, h.1))
 
   no_left_iff : (i : ℕ) (block : OutsideBlock) → IsOutsideOf s block → (check unlimited s r (NoLeftInverse i block) tt ≡ Ok tt) ↔ IsValid s r (NoLeftInverse i block)
   unfolding check
@@ -105,7 +111,7 @@ module _ (s : Signature) (r : RowMatrix) (long : AreLong rationals r.cols r.rows
   unfolding check
   no_right_iff i block blocks =
       required_iff place.Unit reason.Unit (nat_lt i (length r.rows)) _ tt (nat_lt_iff i (length r.rows)) (λ within.
-      formed_iff (place.Block section.Body) (adjoint_of unlimited s r) _ (transpose_adjoint rationals s r.cols r.rows) tt (matrix_unlimited s r.cols r.rows)
+      formed_iff (place.Block section.Body) (transposed_adjoint_within unlimited s r) _ (transposed_adjoint s r) tt (adjoint_unlimited s r)
       (outside_iff s (transposed_adjoint s r) (unit_row rationals (length r.rows) i) block blocks))
 
   left_kernel_iff : (m : OperatorMatrix) (block : ExactBlock) → MatrixOf s m → IsExactOf s block → (check unlimited s r (Kernel Left m block) tt ≡ Ok tt) ↔ IsValid s r (Kernel Left m block)
@@ -123,10 +129,9 @@ module _ (s : Signature) (r : RowMatrix) where
   unfolding check
   right_kernel_iff m block blocks =
       required_iff (place.Header section.Body Generators) reason.Shape (nat_eq (length m.rows) r.cols) _ tt (nat_eq_iff (length m.rows) r.cols) (λ rows.
-      formed_iff (place.Block section.Body) (adjoint_of unlimited s r) _ (transpose_adjoint rationals s r.cols r.rows) tt (matrix_unlimited s r.cols r.rows)
-      (formed_iff (place.Block section.Body) (adjoint_of unlimited s (plain m)) _ (transpose_adjoint rationals s m.cols (rows_of m)) tt (matrix_unlimited s m.cols (rows_of m))
-      (subst (λ n. (check_exact unlimited s section.Body (transposed_adjoint s r) (record { cols = n; rows = transpose_adjoint rationals s m.cols (rows_of m) }) block ≡ Ok tt) ↔ IsValidExactFor s (transposed_adjoint s r) (transposed_adjoint s (plain m)) block) (rows_count m)
-      (exact_iff s section.Body (transposed_adjoint s r) (transposed_adjoint s (plain m)) block (Rows.long_adjoint rationals s r.cols r.rows) (adjoint_wide s r (plain m) (sym rows ∙ sym (rows_count m))) blocks))))
+      formed_iff (place.Block section.Body) (transposed_adjoint_within unlimited s r) _ (transposed_adjoint s r) tt (adjoint_unlimited s r)
+      (formed_iff (place.Block section.Body) (transposed_adjoint_within unlimited s (plain m)) _ (transposed_adjoint s (plain m)) tt (adjoint_unlimited s (plain m))
+      (exact_iff s section.Body (transposed_adjoint s r) (transposed_adjoint s (plain m)) block (Rows.long_adjoint rationals s r.cols r.rows) (adjoint_wide s r (plain m) (sym rows ∙ sym (rows_count m))) blocks)))
 
 -- ---- links
 
@@ -164,8 +169,8 @@ module _ (s : Signature) where
   adjoints_exact : (before last : RowMatrix) → adjoints_of unlimited s (before, last) ≡ Ok (transposed_adjoint s last, transposed_adjoint s before)
   unfolding adjoints_of
   adjoints_exact before last =
-      goes_on (formed (place.Block section.Body) (adjoint_of unlimited s last)) _ (transpose_adjoint rationals s last.cols last.rows) _ (ap (formed (place.Block section.Body)) (matrix_unlimited s last.cols last.rows))
-      (goes_on (formed (place.Block section.Body) (adjoint_of unlimited s before)) _ (transpose_adjoint rationals s before.cols before.rows) _ (ap (formed (place.Block section.Body)) (matrix_unlimited s before.cols before.rows)) refl)
+      goes_on (formed (place.Block section.Body) (transposed_adjoint_within unlimited s last)) _ (transposed_adjoint s last) _ (ap (formed (place.Block section.Body)) (adjoint_unlimited s last))
+      (goes_on (formed (place.Block section.Body) (transposed_adjoint_within unlimited s before)) _ (transposed_adjoint s before) _ (ap (formed (place.Block section.Body)) (adjoint_unlimited s before)) refl)
 
   zero_iff : (n : ℕ) (r : Row rationals) → length r ≡ n → (are_zero unlimited s (r ∷ []) ≡ true) ↔ (r ≡ zero_row rationals n)
   unfolding are_zero
@@ -192,14 +197,14 @@ module _ (s : Signature) where
         × IsValidOutsideFor s (transposed_adjoint s before) (sums_of element) block) begun of (λ before last linked.
         let long = Rows.long_adjoint rationals s last.cols last.rows in map_iff
         (required_iff (place.Header section.Body Element) reason.Shape (nat_eq (length element) (length before.rows)) _ tt (nat_eq_iff (length element) (length before.rows)) (λ wide.
-        formed_iff (place.Row section.Body Element 0) (adjoint_of unlimited s last) _ (transpose_adjoint rationals s last.cols last.rows) tt (matrix_unlimited s last.cols last.rows)
-        (formed_iff (place.Row section.Body Element 0) (combine_within unlimited s (length last.rows) (sums_of element) (transpose_adjoint rationals s last.cols last.rows)) _
-        (combine rationals s (length last.rows) (sums_of element) (transpose_adjoint rationals s last.cols last.rows)) tt
-        (combine_unlimited s (length last.rows) (sums_of element) (transpose_adjoint rationals s last.cols last.rows) long)
-        (required_iff (place.Row section.Body Element 0) reason.NotInKernel (are_zero unlimited s (combine rationals s (length last.rows) (sums_of element) (transpose_adjoint rationals s last.cols last.rows) ∷ [])) _ tt
-        (zero_iff (length last.rows) (combine rationals s (length last.rows) (sums_of element) (transpose_adjoint rationals s last.cols last.rows))
-        (Rows.length-combine rationals s (lawful s) (length last.rows) (sums_of element) (transpose_adjoint rationals s last.cols last.rows) long)) (λ zero.
-        formed_iff (place.Block section.Body) (adjoint_of unlimited s before) _ (transpose_adjoint rationals s before.cols before.rows) tt (matrix_unlimited s before.cols before.rows)
+        formed_iff (place.Row section.Body Element 0) (transposed_adjoint_within unlimited s last) _ (transposed_adjoint s last) tt (adjoint_unlimited s last)
+        (formed_iff (place.Row section.Body Element 0) (combine_within unlimited s (length last.rows) (sums_of element) (transposed_adjoint s last).rows) _
+        (combine rationals s (length last.rows) (sums_of element) (transposed_adjoint s last).rows) tt
+        (combine_unlimited s (length last.rows) (sums_of element) (transposed_adjoint s last).rows long)
+        (required_iff (place.Row section.Body Element 0) reason.NotInKernel (are_zero unlimited s (combine rationals s (length last.rows) (sums_of element) (transposed_adjoint s last).rows ∷ [])) _ tt
+        (zero_iff (length last.rows) (combine rationals s (length last.rows) (sums_of element) (transposed_adjoint s last).rows)
+        (Rows.length-combine rationals s (lawful s) (length last.rows) (sums_of element) (transposed_adjoint s last).rows long)) (λ zero.
+        formed_iff (place.Block section.Body) (transposed_adjoint_within unlimited s before) _ (transposed_adjoint s before) tt (adjoint_unlimited s before)
         (outside_iff s (transposed_adjoint s before) (sums_of element) block blocks))))))
         (λ h. (h.0, h.1.0, h.1.1), λ h. (h.0, (h.1, h.2))))
 
@@ -212,7 +217,7 @@ module _ (s : Signature) where
   pub check_valid : (r : RowMatrix) (c : Certificate) → AreLong rationals r.cols r.rows → IsCertificateOf s c → (claims : IsNoReport c) → (check unlimited s r c claims ≡ Ok tt) ↔ IsValid s r c
   check_valid r (Controllable q block) long of claims = controllable_iff s r long q block of.0 of.1
   check_valid r (AutonomousElement element operator cofactor block) long of claims = autonomous_iff s r long element operator cofactor block of.3
-  check_valid r (LeftInverse m) long of claims = left_inverse_iff s r long m
+  check_valid r (LeftInverse m) long of claims = left_inverse_iff s r long m of
   check_valid r (RightInverse m) long of claims = right_inverse_iff s r long m of
   check_valid r (NoLeftInverse i block) long of claims = no_left_iff s r long i block of.1
   check_valid r (NoRightInverse i block) long of claims = no_right_iff s r long i block of.1

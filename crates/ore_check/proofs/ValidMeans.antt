@@ -1,19 +1,19 @@
 -- A valid certificate is true, kind by kind, and in all.
---     controllable, autonomous, left_inverse, right_inverse, without_left_inverse, without_right_inverse, left_kernel, right_kernel
+--     controllable, autonomous, without_left_inverse, without_right_inverse, left_kernel, right_kernel
 --                              a certificate without links
 --     links_resolve            valid links resolve, and what holds of the last two matrices is handed on
 --     resolution, ext_zero, ext_nonzero      a certificate with links
 --     valid_means              each of them
-use Rattle.std.proofs.Common.{◌≡◌, ℕ, List, [], ◌∷◌, length, sym, ap, ◌∙◌, subst}
+use Rattle.std.proofs.Common.{◌≡◌, ℕ, List, [], ◌∷◌, length, sym, ◌∙◌, subst}
 use Rattle.std.specs.List.{All}
 use Rattle.std.proofs.lemmas.List.{length-map}
 use Rattle.std.proofs.lemmas.List.Elements.{All-head, All-tail}
-use Rattle.ore_rational.proofs.FractionLaws.{rationals}
+use Rattle.ore_rational.specs.Field.{rationals}
 use Rattle.ore_monomial.specs.Signature.{Signature}
 use Rattle.ore_monomial.proofs.Signatures.{lawful}
 use Rattle.ore_ring.specs.Belongs.{Belongs}
 use Rattle.ore_ring.specs.Ordered.{Ordered}
-use Rattle.ore_rows.specs.Rows.{AreLong, zero_row, unit_row, combine, matrix_times, InRowModule, IsTorsionFree}
+use Rattle.ore_rows.specs.Rows.{AreLong, zero_row, unit_row, combine, InRowModule, IsTorsionFree}
 use Rattle.ore_rows.specs.Stored.{OperatorMatrix, sums_of, rows_of}
 use Rattle.ore_rows.proofs.RowLaws as Rows
 use Rattle.ore_rows.proofs.StoredRows.{row_of_stored}
@@ -55,12 +55,6 @@ module _ (s : Signature) (r : RowMatrix) (long : AreLong rationals r.cols r.rows
   -- the rows of a matrix with as many columns as r has rows
   wide_for : (m : OperatorMatrix) → MatrixOf s m → m.cols ≡ length r.rows → AreLong rationals (length r.rows) (rows_of m)
   wide_for m of e = subst (λ n. AreLong rationals n (rows_of m)) e (wide_rows s m of)
-
-  left_inverse : (m : OperatorMatrix) → MatrixOf s m → IsValid s r (LeftInverse m) → Means s r (LeftInverse m)
-  left_inverse m of (rows, columns, e) = (rows_count m ∙ rows, wide_for m of columns, e)
-
-  right_inverse : (m : OperatorMatrix) → MatrixOf s m → IsValid s r (RightInverse m) → Means s r (RightInverse m)
-  right_inverse m of (rows, columns, e) = (rows_count m ∙ rows, wide_for m of columns, ap (λ n. matrix_times rationals s n r.rows (rows_of m)) (sym columns) ∙ e)
 
   without_left_inverse : (i : ℕ) (block : OutsideBlock) → IsOutsideOf s block → IsValid s r (NoLeftInverse i block) → Means s r (NoLeftInverse i block)
   without_left_inverse i block blocks (within, v) = no_left_inverse s r i within (outside_shows s r (unit_row rationals r.cols i) block blocks v)
@@ -114,8 +108,8 @@ module _ (s : Signature) where
   pub valid_means : (r : RowMatrix) (c : Certificate) → AreLong rationals r.cols r.rows → IsCertificateOf s c → IsValid s r c → Means s r c
   valid_means r (Controllable q block) long of v = controllable s r long q block of.0 of.1 v
   valid_means r (AutonomousElement element operator cofactor block) long of v = autonomous s r long element operator cofactor block of.2 of.3 v
-  valid_means r (LeftInverse m) long of v = left_inverse s r long m of v
-  valid_means r (RightInverse m) long of v = right_inverse s r long m of v
+  valid_means r (LeftInverse m) long of v = v
+  valid_means r (RightInverse m) long of v = v
   valid_means r (NoLeftInverse i block) long of v = without_left_inverse s r long i block of.1 v
   valid_means r (NoRightInverse i block) long of v = without_right_inverse s r long i block of.1 v
   valid_means r (Kernel Left m block) long of v = left_kernel s r long m block of.0 of.1 v

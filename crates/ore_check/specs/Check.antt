@@ -1,7 +1,6 @@
 -- The conditions of a certificate, place by place, and the answer of the check, by the lines of its text.
 -- (Torsion and parametrisations of linear systems: Chyzak, Quadrat and Robertz 2005; extension modules: Robertz 2014.)
 --     IsNoReport                 the certificate claims something of a matrix
---     adjoint_of                 the transposed adjoint of a matrix
 --     check_links                the links of a resolution, each on the matrix before it
 --     adjoints_of                the transposed adjoints of the last two matrices of a resolution
 --     check                      all conditions of a certificate
@@ -9,18 +8,16 @@
 --     answer_at, answer_of       the answer: valid, or the first line that isn't right
 --     Answers                    what was answered, where there was memory
 use Rattle.std.specs.Prelude.{◌≡◌, ℕ, suc, not, ◌&&◌, nat_eq, nat_lt, nat_le, cond, List, [], ◌∷◌, length}
-use Rattle.std.specs.declared.result.Result.{Result}
 use Rattle.std.specs.declared.result.Result.TheVariants.{Ok, Err}
 use Rattle.ore_algebra.specs.Free.{empty_sum}
-use Rattle.ore_algebra.specs.Limits.{Limits, Cause}
+use Rattle.ore_algebra.specs.Limits.{Limits}
 use Rattle.ore_algebra.specs.Limits as cause
-use Rattle.ore_rational.proofs.FractionLaws.{rationals}
+use Rattle.ore_rational.specs.Field.{rationals}
 use Rattle.ore_monomial.specs.Monomial.{plain_cmp}
 use Rattle.ore_monomial.specs.Signature.{Signature}
-use Rattle.ore_rows.specs.Rows.{Row, unit_row, identity_rows}
+use Rattle.ore_rows.specs.Rows.{unit_row, identity_rows}
 use Rattle.ore_rows.specs.RowsWithin.{scale_within, combine_within, matrix_times_within}
 use Rattle.ore_rows.specs.Stored.{sums_of, rows_of}
-use Rattle.ore_adjoint.specs.AdjointMatrix.{transpose_adjoint_within}
 use Rattle.ore_parts.specs.declared.block.Link.{Link}
 use Rattle.ore_cert.specs.declared.certificate.Side.TheVariants.{Left, Right}
 use Rattle.ore_cert.specs.declared.certificate.Certificate.{Certificate}
@@ -35,6 +32,7 @@ use Rattle.ore_check.specs.declared.answer.Checked.TheVariants as answer
 use Rattle.ore_blocks.specs.Conditions.{Checked, Trouble, Fails, Stops, formed, required, is_same}
 use Rattle.ore_algebra.specs.Results.{◌>>=◌}
 use Rattle.ore_blocks.specs.CheckBlock.{RowMatrix, plain, rows_give, are_zero, check_exact, check_outside}
+use Rattle.ore_blocks.specs.KernelCourse.{transposed_adjoint_within}
 use Rattle.ore_blocks.specs.PlaceConditions.{same_row, same_rows}
 use Rattle.ore_blocks.specs.Same.{operator_discrete}
 
@@ -44,10 +42,6 @@ IsNoReport (Halted report) = ⊥
 IsNoReport certificate = Unit {0}
 
 module _ (l : Limits) (s : Signature) where
-  -- within the limits, with a row for each column of m
-  abbrev pub adjoint_of : RowMatrix → Result (List (Row rationals)) Cause
-  adjoint_of m = transpose_adjoint_within l s m.cols m.rows
-
   -- the links from number i on: what takes the matrix of each to zeros is the row module of the next; the last two matrices
   unfoldable pub check_links : ℕ → RowMatrix → RowMatrix → List Link → Checked (RowMatrix × RowMatrix)
   check_links i before r [] = Ok (before, r)
@@ -59,9 +53,9 @@ module _ (l : Limits) (s : Signature) where
   -- the adjoints of the last two matrices of a resolution, the last first
   unfoldable pub adjoints_of : RowMatrix × RowMatrix → Checked (RowMatrix × RowMatrix)
   adjoints_of pair = do
-    after ← formed (place.Block section.Body) (adjoint_of pair.1)
-    before ← formed (place.Block section.Body) (adjoint_of pair.0)
-    Ok (record { cols = length pair.1.rows; rows = after }, record { cols = length pair.0.rows; rows = before })
+    after ← formed (place.Block section.Body) (transposed_adjoint_within l s pair.1)
+    before ← formed (place.Block section.Body) (transposed_adjoint_within l s pair.0)
+    Ok (after, before)
 
   -- r is the matrix of the problem
   unfoldable pub check : RowMatrix → (c : Certificate) → IsNoReport c → Checked (Unit {0})
@@ -88,16 +82,16 @@ module _ (l : Limits) (s : Signature) where
     check_outside l s r (unit_row rationals r.cols unit) block
   check r (NoRightInverse unit block) claims = do
     _ ← required place.Unit reason.Unit (nat_lt unit (length r.rows))
-    adjoint ← formed (place.Block section.Body) (adjoint_of r)
-    check_outside l s (record { cols = length r.rows; rows = adjoint }) (unit_row rationals (length r.rows) unit) block
+    adjoint ← formed (place.Block section.Body) (transposed_adjoint_within l s r)
+    check_outside l s adjoint (unit_row rationals (length r.rows) unit) block
   check r (Kernel Left generators block) claims = do
     _ ← required (place.Header section.Body Generators) reason.Shape (nat_eq generators.cols (length r.rows))
     check_exact l s section.Body r (plain generators) block
   check r (Kernel Right generators block) claims = do
     _ ← required (place.Header section.Body Generators) reason.Shape (nat_eq (length generators.rows) r.cols)
-    adjoint ← formed (place.Block section.Body) (adjoint_of r)
-    generators_adjoint ← formed (place.Block section.Body) (adjoint_of (plain generators))
-    check_exact l s section.Body (record { cols = length r.rows; rows = adjoint }) (record { cols = length generators.rows; rows = generators_adjoint }) block
+    adjoint ← formed (place.Block section.Body) (transposed_adjoint_within l s r)
+    generators_adjoint ← formed (place.Block section.Body) (transposed_adjoint_within l s (plain generators))
+    check_exact l s section.Body adjoint generators_adjoint block
   check r (Resolution links) claims = do
     _ ← check_links 0 r r links
     Ok tt
@@ -108,11 +102,11 @@ module _ (l : Limits) (s : Signature) where
   check r (ExtNonzero links element block) claims = do
     last ← check_links 0 r r links
     _ ← required (place.Header section.Body Element) reason.Shape (nat_eq (length element) (length last.0.rows))
-    adjoint ← formed (place.Row section.Body Element 0) (adjoint_of last.1)
-    product ← formed (place.Row section.Body Element 0) (combine_within l s (length last.1.rows) (sums_of element) adjoint)
+    adjoint ← formed (place.Row section.Body Element 0) (transposed_adjoint_within l s last.1)
+    product ← formed (place.Row section.Body Element 0) (combine_within l s adjoint.cols (sums_of element) adjoint.rows)
     _ ← required (place.Row section.Body Element 0) reason.NotInKernel (are_zero l s (product ∷ []))
-    adjoint_before ← formed (place.Block section.Body) (adjoint_of last.0)
-    check_outside l s (record { cols = length last.0.rows; rows = adjoint_before }) (sums_of element) block
+    adjoint_before ← formed (place.Block section.Body) (transposed_adjoint_within l s last.0)
+    check_outside l s adjoint_before (sums_of element) block
   check r (Halted report) claims = absurd claims
 
 -- ---- the answer

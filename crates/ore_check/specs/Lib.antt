@@ -10,3 +10,5 @@ pub mod PlanLaws
 pub mod Valid
 pub mod ValidLaws
 pub mod NonZeroSteps
+pub mod Written
+pub mod PlanBudgets

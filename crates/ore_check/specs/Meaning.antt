@@ -2,7 +2,8 @@
 -- report says that its choices lead to the stop that it names (Reports).
 -- (Torsion and parametrisations of linear systems: Chyzak, Quadrat and Robertz 2005; extension modules: Robertz 2014.)
 --     RowsOf                      some rows are of a signature
---     IsLeftInverse, IsRightInverse       a matrix times r, or r times it, is the identity
+--     HasInverseSize              a matrix has the size of an inverse
+--     IsLeftInverse, IsRightInverse       it has, and times r, or r times it, it is the identity
 --     HasLeftInverse, HasRightInverse     some matrix of the signature is such an inverse
 --     transposed_adjoint          the transposed adjoint
 --     IsExactFor                  the rows that take a matrix to zeros are just the combinations of some rows, each with an
@@ -12,7 +13,7 @@
 use Rattle.std.specs.Prelude.{◌≡◌, ◌≢◌, List, [], ◌∷◌, length}
 use Rattle.std.specs.List.{AllByRecursion}
 use Rattle.ore_algebra.specs.Free.{empty_sum}
-use Rattle.ore_rational.proofs.FractionLaws.{rationals}
+use Rattle.ore_rational.specs.Field.{rationals}
 use Rattle.ore_monomial.specs.Monomial.{plain_cmp}
 use Rattle.ore_monomial.specs.Signature.{Signature}
 use Rattle.ore_rows.specs.Rows.{Row, RowOf, AreLong, zero_row, row_scale, combine, identity_rows, matrix_times, transpose_adjoint, InRowModule, IsExact, IsTorsionFree}
@@ -25,26 +26,32 @@ use Rattle.ore_cert.specs.declared.certificate.Certificate.TheVariants.{Controll
 use Rattle.ore_blocks.specs.CheckBlock.{RowMatrix, plain}
 use Rattle.ore_check.specs.Reports.{IsHonestReport}
 
+-- m has a row for each column of r and a column for each row
+pub record HasInverseSize (r m : RowMatrix) : Type 0 where
+  pub rows : length m.rows ≡ r.cols
+  pub columns : m.cols ≡ length r.rows
+  pub long : AreLong rationals m.cols m.rows
+
 module _ (s : Signature) where
   -- each row is of the signature
   abbrev pub RowsOf : List (Row rationals) → Type 0
   RowsOf rows = AllByRecursion (RowOf rationals s) rows
 
-  -- m r is the identity, where r has as many columns as m rows
-  abbrev pub IsLeftInverse : RowMatrix → List (Row rationals) → Type 0
-  IsLeftInverse r m = (length m ≡ r.cols) × AreLong rationals (length r.rows) m × (matrix_times rationals s r.cols m r.rows ≡ identity_rows rationals r.cols)
+  -- m has the size of an inverse, and m r is the identity
+  abbrev pub IsLeftInverse : RowMatrix → RowMatrix → Type 0
+  IsLeftInverse r m = HasInverseSize r m × (matrix_times rationals s r.cols m.rows r.rows ≡ identity_rows rationals r.cols)
 
-  -- r m is the identity, where r has as many columns as m rows
-  abbrev pub IsRightInverse : RowMatrix → List (Row rationals) → Type 0
-  IsRightInverse r m = (length m ≡ r.cols) × AreLong rationals (length r.rows) m × (matrix_times rationals s (length r.rows) r.rows m ≡ identity_rows rationals (length r.rows))
+  -- m has the size of an inverse, and r m is the identity
+  abbrev pub IsRightInverse : RowMatrix → RowMatrix → Type 0
+  IsRightInverse r m = HasInverseSize r m × (matrix_times rationals s m.cols r.rows m.rows ≡ identity_rows rationals (length r.rows))
 
   -- some m of the signature is such an inverse
   abbrev pub HasLeftInverse : RowMatrix → Type 0
-  HasLeftInverse r = (m : List (Row rationals)) × RowsOf m × IsLeftInverse r m
+  HasLeftInverse r = (m : RowMatrix) × RowsOf m.rows × IsLeftInverse r m
 
   -- some m of the signature is such an inverse
   abbrev pub HasRightInverse : RowMatrix → Type 0
-  HasRightInverse r = (m : List (Row rationals)) × RowsOf m × IsRightInverse r m
+  HasRightInverse r = (m : RowMatrix) × RowsOf m.rows × IsRightInverse r m
 
   -- the transpose with each entry replaced by its adjoint: a row for each column, and a column for each row
   abbrev pub transposed_adjoint : RowMatrix → RowMatrix
@@ -65,8 +72,8 @@ module _ (s : Signature) where
   Means r (Controllable q block) = (length q.rows ≡ r.cols) × IsExactFor (plain q) r.rows × IsTorsionFree rationals s r.cols r.rows
   Means r (AutonomousElement element operator cofactor block) = (operator.sum ≢ empty_sum rationals plain_cmp)
       × InRowModule rationals s r.cols r.rows (row_scale rationals s operator.sum (sums_of element)) × ¬ InRowModule rationals s r.cols r.rows (sums_of element)
-  Means r (LeftInverse m) = IsLeftInverse r (rows_of m)
-  Means r (RightInverse m) = IsRightInverse r (rows_of m)
+  Means r (LeftInverse m) = IsLeftInverse r (plain m)
+  Means r (RightInverse m) = IsRightInverse r (plain m)
   Means r (NoLeftInverse unit block) = ¬ HasLeftInverse r
   Means r (NoRightInverse unit block) = ¬ HasRightInverse r
   Means r (Kernel Left generators block) = IsExactFor r (rows_of generators)

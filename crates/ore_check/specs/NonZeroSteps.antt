@@ -9,7 +9,7 @@ use Rattle.std.specs.Prelude.{◌≢◌, ℕ, List}
 use Rattle.std.specs.List.{AllByRecursion}
 use Rattle.ore_algebra.specs.Limits.{program}
 use Rattle.ore_course.specs.Leading.{IsFormedBy}
-use Rattle.ore_rational.proofs.FractionLaws.{rationals}
+use Rattle.ore_rational.specs.Field.{rationals}
 use Rattle.ore_monomial.specs.Signature.{Signature}
 use Rattle.ore_rows.specs.Reduction.{Step}
 use Rattle.ore_rows.specs.declared.choices.Choice.{Choice}

@@ -1,6 +1,6 @@
 -- The parts of the text of a certificate behind the line of its kind, each with its place.
 --     Part                            a place, and the text that begins there
---     matrix_at, row_at               a matrix of a section; a row as a matrix of one row
+--     matrix_at, part_at_row          a matrix of a section; a row as a matrix of one row
 --     exact_parts, outside_parts      the parts of a block
 --     link_parts                      those of links, from number i on
 --     parts_of                        those of a certificate, in their order
@@ -36,8 +36,8 @@ module _ (names : List (List ℕ)) (o : Order) where
   matrix_at at name word m = (place.Header at name, matrix_part names o word m)
 
   -- the same of a row
-  abbrev pub row_at : Name → List ℕ → List Ordered → Part
-  row_at name word r = (place.Header section.Body name, row_part names o word r)
+  abbrev pub part_at_row : Name → List ℕ → List Ordered → Part
+  part_at_row name word r = (place.Header section.Body name, row_part names o word r)
 
   -- the line `block exact`, and then the parts in this order
   abbrev pub exact_parts : Section → ExactBlock → List Part
@@ -47,7 +47,7 @@ module _ (names : List (List ℕ)) (o : Order) where
   -- the line `block outside`, and then the parts in this order
   abbrev pub outside_parts : OutsideBlock → List Part
   outside_parts b = (place.Block section.Body, codes "block outside\n") ∷ matrix_at section.Body Basis (codes "basis") b.basis ∷ matrix_at section.Body From (codes "from") b.from
-      ∷ (place.Pairs section.Body, pairs_text names o b.pairs) ∷ (place.Step 0, steps_text names o b.quotients) ∷ row_at Rest (codes "rest") b.rest ∷ []
+      ∷ (place.Pairs section.Body, pairs_text names o b.pairs) ∷ (place.Step 0, steps_text names o b.quotients) ∷ part_at_row Rest (codes "rest") b.rest ∷ []
 
   -- of each link the matrix and the parts of its block
   unfoldable pub link_parts : ℕ → List Link → List Part
@@ -57,8 +57,8 @@ module _ (names : List (List ℕ)) (o : Order) where
   -- kind by kind; a report has no places
   abbrev pub parts_of : Certificate → List Part
   parts_of (Controllable q block) = matrix_at section.Body Generators (codes "Q") q ∷ exact_parts section.Body block
-  parts_of (AutonomousElement element operator cofactor block) = row_at Element (codes "element") element ∷ (place.Operator, operator_line names o (codes "operator") operator)
-      ∷ row_at Cofactor (codes "cofactor") cofactor ∷ outside_parts block
+  parts_of (AutonomousElement element operator cofactor block) = part_at_row Element (codes "element") element ∷ (place.Operator, operator_line names o (codes "operator") operator)
+      ∷ part_at_row Cofactor (codes "cofactor") cofactor ∷ outside_parts block
   parts_of (LeftInverse m) = matrix_at section.Body Inverse (codes "S") m ∷ []
   parts_of (RightInverse m) = matrix_at section.Body Inverse (codes "S") m ∷ []
   parts_of (NoLeftInverse unit block) = (place.Unit, line (codes "unit" ∷ place_text unit ∷ [])) ∷ outside_parts block
@@ -66,7 +66,7 @@ module _ (names : List (List ℕ)) (o : Order) where
   parts_of (Kernel side generators block) = matrix_at section.Body Generators (generators_name side) generators ∷ exact_parts section.Body block
   parts_of (Resolution links) = link_parts 0 links
   parts_of (ExtZero links block) = link_parts 0 links ++ exact_parts section.Body block
-  parts_of (ExtNonzero links element block) = link_parts 0 links ++ (row_at Element (codes "element") element ∷ outside_parts block)
+  parts_of (ExtNonzero links element block) = link_parts 0 links ++ (part_at_row Element (codes "element") element ∷ outside_parts block)
   parts_of (Halted report) = []
 
 -- from a line on; behind the last part stands the end

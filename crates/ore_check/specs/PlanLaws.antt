@@ -3,8 +3,8 @@
 --     cause_word                 a cause as a report names it
 --     AdjointHasItsReport        plan adjoint has one honest report where the transposed adjoint stops, and else none
 --     NoReportIsNone             where a text has no report, courses have none
---     IsRight                    a certificate is of the signature, valid, true, and one that the check accepts
---     FormsRight                 a course forms such certificates alone
+--     IsCorrect                  a certificate is of the signature, valid, true, and one that the check accepts
+--     FormsCorrect               a course forms such certificates alone
 --     ResolveFormsRight, ExtFormsRight     so do the plans resolve and ext
 use Rattle.std.specs.Prelude.{◌≡◌, ◌↔◌, ℕ, List, []}
 use Rattle.std.specs.declared.result.Result.TheVariants.{Ok, Err}
@@ -12,11 +12,11 @@ use Rattle.ore_algebra.specs.Limits.{Cause, program}
 use Rattle.ore_algebra.specs.Limits as limits
 use Rattle.ore_course.specs.Leading.{Rule, IsFormedBy}
 use Rattle.ore_course.specs.Report.{HasNoReport}
-use Rattle.ore_rational.proofs.FractionLaws.{rationals}
+use Rattle.ore_rational.specs.Field.{rationals}
 use Rattle.ore_monomial.specs.Signature.{Signature}
 use Rattle.ore_rows.specs.Rows.{AreLong}
 use Rattle.ore_rows.specs.declared.choices.Choice.{Choice}
-use Rattle.ore_pairs.specs.Run.{State}
+use Rattle.ore_pairs.specs.Run.{RunState}
 use Rattle.ore_cert.specs.CertificateOf.{IsCertificateOf}
 use Rattle.ore_cert.specs.EachKind.{IsLength}
 use Rattle.ore_cert.specs.declared.certificate.Certificate.{Certificate}
@@ -53,24 +53,24 @@ module _ (s : Signature) where
 
   -- where no report of a text is honest by the rule and within the budget, none of courses is
   abbrev pub NoReportIsNone : Type 0
-  NoReportIsNone = (rule : Rule (State rationals) Choice) (budget : ℕ) (plan : Plan) (r : RowMatrix) → HasNoReportOf s rule budget plan r → HasNoReport (program_runner s) rule budget (plan_course s plan r)
+  NoReportIsNone = (rule : Rule (RunState rationals) Choice) (budget : ℕ) (plan : Plan) (r : RowMatrix) → HasNoReportOf s rule budget plan r → HasNoReport (program_runner s) rule budget (plan_course s plan r)
 
   -- its parts are of the signature, its sizes, identities and blocks are right, what it says is true, and its check
   -- finds nothing that fails or stops
-  pub record IsRight (r : RowMatrix) (c : Certificate) : Type 0 where
+  pub record IsCorrect (r : RowMatrix) (c : Certificate) : Type 0 where
     pub of : IsCertificateOf s c
     pub valid : IsValid s r c
     pub means : Means s r c
     pub accepted : (claims : IsNoReport c) → check program s r c claims ≡ Ok tt
 
   -- whatever the choices, each certificate that comes is right
-  abbrev pub FormsRight : (RowMatrix → RunCourse Certificate) → Type 0
-  FormsRight course = (r : RowMatrix) → AreLong rationals r.cols r.rows → RowsOf s r.rows → (runs : List (List Choice)) (c : Certificate) → IsFormedBy (program_runner s) (course r) runs c → IsRight r c
+  abbrev pub FormsCorrect : (RowMatrix → RunCourse Certificate) → Type 0
+  FormsCorrect course = (r : RowMatrix) → AreLong rationals r.cols r.rows → RowsOf s r.rows → (runs : List (List Choice)) (c : Certificate) → IsFormedBy (program_runner s) (course r) runs c → IsCorrect r c
 
   -- of from 1 to 12 links
   abbrev pub ResolveFormsRight : Type 0
-  ResolveFormsRight = (k : ℕ) → IsLength k → FormsRight (resolve program s k)
+  ResolveFormsRight = (k : ℕ) → IsLength k → FormsCorrect (resolve program s k)
 
   -- of an extension module from 1 to 12
   abbrev pub ExtFormsRight : Type 0
-  ExtFormsRight = (k : ℕ) → IsLength k → FormsRight (ext program s k)
+  ExtFormsRight = (k : ℕ) → IsLength k → FormsCorrect (ext program s k)

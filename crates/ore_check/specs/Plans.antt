@@ -4,10 +4,11 @@
 -- (Parametrisations: Chyzak, Quadrat and Robertz 2005; resolutions and extension modules: Robertz 2014.)
 --     stored                        a matrix, with the order of the signature
 --     formed_as, certified          a certificate whose identities are formed
+--     IsFormed                      a call answers it, or stops as the last work of a plan does
 --     reduced                       rows reduced by a complete run
 --     kernel_left, kernel_right     the rows that take r to zeros; the columns that r takes to zeros
 --     inverse_left, inverse_right   a left or right inverse, or that there is none
---     adjoint                       the transposed adjoint
+--     adjoint_course                the transposed adjoint
 --     stacked                       a row above the rows of a matrix
 --     first_nonzero                 the first row with a first entry that isn't zero
 --     autonomous, analyse           which of the two verdicts is true
@@ -19,17 +20,19 @@ use Rattle.std.specs.Prelude.{ℕ, zero, suc, List, [], ◌∷◌, ◌++◌, len
 use Rattle.std.specs.declared.result.Result.{Result}
 use Rattle.std.specs.declared.result.Result.TheVariants.{Ok, Err}
 use Rattle.ore_algebra.specs.Free.{empty_sum}
-use Rattle.ore_algebra.specs.Limits.{Limits, Cause}
+use Rattle.ore_algebra.specs.Limits.{Limits, Cause, program}
 use Rattle.ore_course.specs.Course.{Done, ◌>>=◌, forced}
-use Rattle.ore_rational.proofs.FractionLaws.{rationals}
+use Rattle.ore_rational.specs.Field.{rationals}
+use Rattle.ore_monomial.specs.Gives.{Gives}
 use Rattle.ore_monomial.specs.Monomial.{plain_cmp}
 use Rattle.ore_monomial.specs.Signature.{Signature}
+use Rattle.ore_monomial.specs.declared.stop.RingStop.{RingStop}
 use Rattle.ore_monomial.specs.LetterRule.{Operator}
 use Rattle.ore_rows.specs.Rows.{Row, zero_row, identity_rows}
 use Rattle.ore_rows.specs.Arithmetic.{within}
 use Rattle.ore_rows.specs.ReduceRows.{Reductions, AllReduce, LeavesRest, negated, reduce_rows}
 use Rattle.ore_rows.specs.Stored.{OperatorMatrix}
-use Rattle.ore_pairs.specs.Run.{State}
+use Rattle.ore_pairs.specs.Run.{RunState}
 use Rattle.ore_parts.specs.declared.block.Link.{Link}
 use Rattle.ore_cert.specs.declared.certificate.Side.TheVariants.{Left, Right}
 use Rattle.ore_cert.specs.declared.certificate.Certificate.{Certificate}
@@ -75,8 +78,12 @@ pub record Resolution : Type 0 where
   pub last : RowMatrix
 
 module _ (s : Signature) where
+  -- as the last work of a plan for the matrix r, within the limits of the program
+  abbrev pub IsFormed : RowMatrix → Certificate → Result Certificate RingStop → Type 0
+  IsFormed r c result = (claims : IsNoReport c) → Gives (λ c. c) result (formed_as c (check program s r c claims))
+
   -- the syzygies of a run on the last matrix are the next one
-  abbrev pub next_link : Resolution → State rationals → Resolution
+  abbrev pub next_link : Resolution → RunState rationals → Resolution
   next_link so_far a = record {
     links = so_far.links ++ record { l = stored s (syzygies_of so_far.last a); block = kernel_block s so_far.last a } ∷ [];
     before = so_far.last;
@@ -85,7 +92,7 @@ module _ (s : Signature) where
 
   -- an element outside, with the block of the run a on r; of a syzygy of it and the rows of r the first entry is its
   -- operator, and the others are the opposites of its cofactors
-  abbrev pub autonomous_element : RowMatrix → State rationals → Row rationals → Operator rationals × Row rationals → Certificate
+  abbrev pub autonomous_element : RowMatrix → RunState rationals → Row rationals → Operator rationals × Row rationals → Certificate
   autonomous_element r a z syzygy =
       AutonomousElement (ordered_row s.order z) (record { by = s.order; sum = syzygy.0 }) (ordered_row s.order (negated rationals syzygy.1)) (outside_block_of s r a [] z)
 
@@ -95,7 +102,7 @@ module _ (l : Limits) (s : Signature) where
   certified r c claims = forced (formed_as c (check l s r c claims))
 
   -- by the basis of the last state of a run on a
-  abbrev pub reduced : RowMatrix → State rationals → List (Row rationals) → Result (Reductions rationals) Cause
+  abbrev pub reduced : RowMatrix → RunState rationals → List (Row rationals) → Result (Reductions rationals) Cause
   reduced a st rows = reduce_rows rationals s.order (within l s) (length a.rows) st.basis rows
 
   -- ---- kernels
@@ -137,14 +144,14 @@ module _ (l : Limits) (s : Signature) where
 
   -- ---- the transposed adjoint
 
-  abbrev pub adjoint : RowMatrix → RunCourse RowMatrix
-  adjoint r = forced (transposed_adjoint_within l s r)
+  abbrev pub adjoint_course : RowMatrix → RunCourse RowMatrix
+  adjoint_course r = forced (transposed_adjoint_within l s r)
 
   -- ---- the two verdicts
 
   -- the element z, of which nothing more can be taken by the run a on r: a run on it and the rows of r finds the operator.
   -- Where z takes the right kernel of r to zeros, z is torsion, so some syzygy has a first entry that isn't zero
-  unfoldable pub autonomous : RowMatrix → State rationals → Row rationals → RunCourse Certificate
+  unfoldable pub autonomous : RowMatrix → RunState rationals → Row rationals → RunCourse Certificate
   autonomous r a z = do
     d ← run_on l s (stacked z r)
     certified r (autonomous_element s r a z (first_nonzero (length r.rows) d.syzygies)) tt
@@ -204,4 +211,4 @@ module _ (l : Limits) (s : Signature) where
   course_of plan.InverseRight r = inverse_right r
   course_of (plan.Resolve k) r = resolve k r
   course_of (plan.Ext k) r = ext k r
-  course_of plan.Adjoint r = adjoint r
+  course_of plan.Adjoint r = adjoint_course r

@@ -1,32 +1,23 @@
 -- Valid certificates of a matrix r: their sizes and identities, over numbers of any size, and valid blocks.
---     IsLeftInverseFor, IsRightInverseFor    a stored matrix has the sizes of an inverse, and is one
 --     AreValidLinks                          each link of a resolution has a valid block, for the matrix before it
 --     IsValid                                all that is asked of a certificate, kind by kind
 -- What a valid certificate says of r stands in `Meaning.antt`.
 use Rattle.std.specs.Prelude.{◌≡◌, ◌≢◌, ◌<◌, List, [], ◌∷◌, length}
 use Rattle.ore_algebra.specs.Free.{empty_sum}
-use Rattle.ore_rational.proofs.FractionLaws.{rationals}
+use Rattle.ore_rational.specs.Field.{rationals}
 use Rattle.ore_monomial.specs.Monomial.{plain_cmp}
 use Rattle.ore_monomial.specs.Signature.{Signature}
-use Rattle.ore_rows.specs.Rows.{zero_row, unit_row, row_scale, combine, identity_rows, matrix_times}
-use Rattle.ore_rows.specs.Stored.{OperatorMatrix, sums_of, rows_of}
+use Rattle.ore_rows.specs.Rows.{zero_row, unit_row, row_scale, combine}
+use Rattle.ore_rows.specs.Stored.{sums_of}
 use Rattle.ore_parts.specs.declared.block.Link.{Link}
 use Rattle.ore_cert.specs.declared.certificate.Side.TheVariants.{Left, Right}
 use Rattle.ore_cert.specs.declared.certificate.Certificate.{Certificate}
 use Rattle.ore_cert.specs.declared.certificate.Certificate.TheVariants.{Controllable, AutonomousElement, LeftInverse, RightInverse, NoLeftInverse, NoRightInverse, Kernel, Resolution, ExtZero, ExtNonzero, Halted}
 use Rattle.ore_blocks.specs.CheckBlock.{RowMatrix, plain}
 use Rattle.ore_blocks.specs.Valid.{IsValidExactFor, IsValidOutsideFor}
-use Rattle.ore_check.specs.Meaning.{transposed_adjoint}
+use Rattle.ore_check.specs.Meaning.{IsLeftInverse, IsRightInverse, transposed_adjoint}
 
 module _ (s : Signature) where
-  -- m has a row for each column of r and a column for each row, and m r is the identity
-  abbrev pub IsLeftInverseFor : RowMatrix → OperatorMatrix → Type 0
-  IsLeftInverseFor r m = (length m.rows ≡ r.cols) × (m.cols ≡ length r.rows) × (matrix_times rationals s r.cols (rows_of m) r.rows ≡ identity_rows rationals r.cols)
-
-  -- m has a row for each column of r and a column for each row, and r m is the identity
-  abbrev pub IsRightInverseFor : RowMatrix → OperatorMatrix → Type 0
-  IsRightInverseFor r m = (length m.rows ≡ r.cols) × (m.cols ≡ length r.rows) × (matrix_times rationals s m.cols r.rows (rows_of m) ≡ identity_rows rationals (length r.rows))
-
   -- the links that stand behind r, whose matrix is before it, have valid blocks; the last two matrices meet P
   abbrev pub AreValidLinks : RowMatrix → RowMatrix → List Link → (RowMatrix → RowMatrix → Type 0) → Type 0
   AreValidLinks before r [] P = P before r
@@ -37,8 +28,8 @@ module _ (s : Signature) where
   IsValid r (Controllable q block) = (length q.rows ≡ r.cols) × IsValidExactFor s (plain q) r block
   IsValid r (AutonomousElement element operator cofactor block) = (length element ≡ r.cols) × (operator.sum ≢ empty_sum rationals plain_cmp) × (length cofactor ≡ length r.rows)
       × (row_scale rationals s operator.sum (sums_of element) ≡ combine rationals s r.cols (sums_of cofactor) r.rows) × IsValidOutsideFor s r (sums_of element) block
-  IsValid r (LeftInverse m) = IsLeftInverseFor r m
-  IsValid r (RightInverse m) = IsRightInverseFor r m
+  IsValid r (LeftInverse m) = IsLeftInverse s r (plain m)
+  IsValid r (RightInverse m) = IsRightInverse s r (plain m)
   IsValid r (NoLeftInverse unit block) = (unit < r.cols) × IsValidOutsideFor s r (unit_row rationals r.cols unit) block
   IsValid r (NoRightInverse unit block) = (unit < length r.rows) × IsValidOutsideFor s (transposed_adjoint s r) (unit_row rationals (length r.rows) unit) block
   IsValid r (Kernel Left generators block) = (generators.cols ≡ length r.rows) × IsValidExactFor s r (plain generators) block

@@ -2,14 +2,14 @@
 
 ghost use Rattle.std.specs.Prelude.{◌≡◌, ◌≢◌, ℕ, not, length};
 ghost use Rattle.ore_algebra.specs.Free.{empty_sum};
-ghost use Rattle.ore_rational.proofs.FractionLaws.{rationals};
+ghost use Rattle.ore_rational.specs.Field.{rationals};
 ghost use Rattle.ore_monomial.specs.Monomial.{plain_cmp};
 ghost use Rattle.ore_parts.specs.OfSignature.{IsExactOf, IsOutsideOf, MatrixOf};
 ghost use Rattle.ore_cert.specs.CertificateOf.{IsCertificateOf};
 ghost use Rattle.ore_blocks.specs.Same.{operator_discrete};
 ghost use Rattle.std.specs.List.{All};
 ghost use Rattle.ore_algebra.specs.Limits.{program};
-ghost use Rattle.ore_ring.specs.Belongs.{Belongs};
+ghost use Rattle.ore_ring.specs.Belongs.{AllBelong, Belongs};
 ghost use Rattle.ore_rows.specs.Stored.{sums_of};
 ghost use Rattle.ore_rows.specs.Rows.{InRowModule, IsExact};
 ghost use Rattle.ore_rows.specs.Stored.{rows_of};
@@ -41,7 +41,7 @@ use std::alloc::Global;
 /// The operators of both are of the signature of the ring. A report must not be handed in: it claims nothing of `r`. The
 /// certificate may have any sizes: that they fit `r` is a condition of its lines.
 pub fn check<R: OreRing>(ring: &R, alloc: Global, r: &Matrix, cert: &Certificate) -> Checked
-    requires of { All (All (Belongs (R.sig ring.now))) r.now.rows }
+    requires of { All (AllBelong (R.sig ring.now)) r.now.rows }
     requires cert_of { IsCertificateOf (R.sig ring.now) cert.now }
     requires claims { IsNoReport cert.now }
     ensures answers { (claims : IsNoReport cert.now) → Answers (line_in cert.now) result (check program (R.sig ring.now) (plain r.now) cert.now claims) }
@@ -67,8 +67,8 @@ pub fn check_exact<R: OreRing>(
     first: u64,
 ) -> Checked
     requires fits { l.now.cols ≡ length a.now.rows }
-    requires a_of { All (All (Belongs (R.sig ring.now))) a.now.rows }
-    requires l_of { All (All (Belongs (R.sig ring.now))) l.now.rows }
+    requires a_of { All (AllBelong (R.sig ring.now)) a.now.rows }
+    requires l_of { All (AllBelong (R.sig ring.now)) l.now.rows }
     requires block_of { IsExactOf (R.sig ring.now) block.now }
     ensures answers { Answers (exact_line first block.now) result (check_exact program (R.sig ring.now) Section.Body (plain a.now) (plain l.now) block.now) }
     ensures exact { result ≡ Checked.Valid → IsExact rationals (R.sig ring.now) a.now.cols (rows_of a.now) (rows_of l.now) }
@@ -95,8 +95,8 @@ pub fn check_outside<R: OreRing>(
     first: u64,
 ) -> Checked
     requires width { length w.now ≡ a.now.cols }
-    requires a_of { All (All (Belongs (R.sig ring.now))) a.now.rows }
-    requires w_of { All (Belongs (R.sig ring.now)) w.now }
+    requires a_of { All (AllBelong (R.sig ring.now)) a.now.rows }
+    requires w_of { AllBelong (R.sig ring.now) w.now }
     requires block_of { IsOutsideOf (R.sig ring.now) block.now }
     ensures answers { Answers (outside_line first block.now) result (check_outside program (R.sig ring.now) (plain a.now) (sums_of w.now) block.now) }
     ensures outside { result ≡ Checked.Valid → ¬ InRowModule rationals (R.sig ring.now) a.now.cols (rows_of a.now) (sums_of w.now) }
@@ -126,7 +126,7 @@ fn answer(refusal: Refusal, line: u128) -> Checked
     }
 }
 
-// The place that a refusal names; want of memory has empty_sum.
+// The place that a refusal names; want of memory names none, and is given the end.
 fn place_of(refusal: Refusal) -> Place
     ensures { result ≡ place_of refusal }
 {
@@ -151,7 +151,7 @@ fn capped(line: u128) -> u64
 
 // A certificate, by its kind.
 fn whole<R: OreRing>(ring: &R, alloc: Global, r: &Matrix, cert: &Certificate) -> Result<(), Refusal>
-    requires of { All (All (Belongs (R.sig ring.now))) r.now.rows }
+    requires of { All (AllBelong (R.sig ring.now)) r.now.rows }
     requires cert_of { IsCertificateOf (R.sig ring.now) cert.now }
     requires claims { IsNoReport cert.now }
     ensures { (claims : IsNoReport cert.now) → Judges (λ u. u) result (check program (R.sig ring.now) (plain r.now) cert.now claims) }
@@ -194,7 +194,7 @@ fn controllable<R: OreRing>(
     q: &Matrix,
     block: &ExactBlock,
 ) -> Result<(), Refusal>
-    requires of { All (All (Belongs (R.sig ring.now))) r.now.rows }
+    requires of { All (AllBelong (R.sig ring.now)) r.now.rows }
     requires q_of { MatrixOf (R.sig ring.now) q.now }
     requires block_of { IsExactOf (R.sig ring.now) block.now }
     ensures { Judges (λ u. u) result (check program (R.sig ring.now) (plain r.now) (Certificate.Controllable q.now block.now) tt) }
@@ -217,10 +217,10 @@ fn autonomous<R: OreRing>(
     cofactor: &Row,
     block: &OutsideBlock,
 ) -> Result<(), Refusal>
-    requires of { All (All (Belongs (R.sig ring.now))) r.now.rows }
-    requires element_of { All (Belongs (R.sig ring.now)) element.now }
+    requires of { All (AllBelong (R.sig ring.now)) r.now.rows }
+    requires element_of { AllBelong (R.sig ring.now) element.now }
     requires operator_of { Belongs (R.sig ring.now) operator.now }
-    requires cofactor_of { All (Belongs (R.sig ring.now)) cofactor.now }
+    requires cofactor_of { AllBelong (R.sig ring.now) cofactor.now }
     requires block_of { IsOutsideOf (R.sig ring.now) block.now }
     ensures { Judges (λ u. u) result (check program (R.sig ring.now) (plain r.now) (Certificate.AutonomousElement element.now operator.now cofactor.now block.now) tt) }
 {
@@ -251,7 +251,7 @@ fn is_nonzero(operator: &Op) -> bool
 
 #[tactic(auto, using(ore_blocks::proofs::Refusals::refuses_on), unfolding(crate::specs::Check::check))]
 fn left_inverse<R: OreRing>(ring: &R, alloc: Global, r: &Matrix, s: &Matrix) -> Result<(), Refusal>
-    requires of { All (All (Belongs (R.sig ring.now))) r.now.rows }
+    requires of { All (AllBelong (R.sig ring.now)) r.now.rows }
     requires s_of { MatrixOf (R.sig ring.now) s.now }
     ensures { Judges (λ u. u) result (check program (R.sig ring.now) (plain r.now) (Certificate.LeftInverse s.now) tt) }
 {
@@ -275,7 +275,7 @@ fn left_inverse<R: OreRing>(ring: &R, alloc: Global, r: &Matrix, s: &Matrix) -> 
 
 #[tactic(auto, using(ore_blocks::proofs::Refusals::refuses_on), unfolding(crate::specs::Check::check))]
 fn right_inverse<R: OreRing>(ring: &R, alloc: Global, r: &Matrix, s: &Matrix) -> Result<(), Refusal>
-    requires of { All (All (Belongs (R.sig ring.now))) r.now.rows }
+    requires of { All (AllBelong (R.sig ring.now)) r.now.rows }
     requires s_of { MatrixOf (R.sig ring.now) s.now }
     ensures { Judges (λ u. u) result (check program (R.sig ring.now) (plain r.now) (Certificate.RightInverse s.now) tt) }
 {
@@ -301,7 +301,7 @@ fn no_left_inverse<R: OreRing>(
     unit: usize,
     block: &OutsideBlock,
 ) -> Result<(), Refusal>
-    requires of { All (All (Belongs (R.sig ring.now))) r.now.rows }
+    requires of { All (AllBelong (R.sig ring.now)) r.now.rows }
     requires block_of { IsOutsideOf (R.sig ring.now) block.now }
     ensures { Judges (λ u. u) result (check program (R.sig ring.now) (plain r.now) (Certificate.NoLeftInverse unit block.now) tt) }
 {
@@ -318,7 +318,7 @@ fn no_right_inverse<R: OreRing>(
     unit: usize,
     block: &OutsideBlock,
 ) -> Result<(), Refusal>
-    requires of { All (All (Belongs (R.sig ring.now))) r.now.rows }
+    requires of { All (AllBelong (R.sig ring.now)) r.now.rows }
     requires block_of { IsOutsideOf (R.sig ring.now) block.now }
     ensures { Judges (λ u. u) result (check program (R.sig ring.now) (plain r.now) (Certificate.NoRightInverse unit block.now) tt) }
 {
@@ -329,6 +329,7 @@ fn no_right_inverse<R: OreRing>(
 }
 
 // A kernel, by its side.
+#[tactic(auto, using(ore_blocks::proofs::Refusals::refuses_on), unfolding(crate::specs::Check::check))]
 fn kernel<R: OreRing>(
     ring: &R,
     alloc: Global,
@@ -337,65 +338,23 @@ fn kernel<R: OreRing>(
     generators: &Matrix,
     block: &ExactBlock,
 ) -> Result<(), Refusal>
-    requires of { All (All (Belongs (R.sig ring.now))) r.now.rows }
+    requires of { All (AllBelong (R.sig ring.now)) r.now.rows }
     requires generators_of { MatrixOf (R.sig ring.now) generators.now }
     requires block_of { IsExactOf (R.sig ring.now) block.now }
     ensures { Judges (λ u. u) result (check program (R.sig ring.now) (plain r.now) (Certificate.Kernel side generators.now block.now) tt) }
 {
+    let header = Place::Header(Section::Body, Name::Generators);
     match side {
-        Side::Left => left_kernel(ring, alloc, r, generators, block),
-        Side::Right => right_kernel(ring, alloc, r, generators, block),
+        Side::Left => {
+            required(header, Reason::Shape, generators.cols() == r.rows())?;
+            exact_block(ring, alloc, r, generators, block, Section::Body)
+        }
+        Side::Right => {
+            required(header, Reason::Shape, generators.rows() == r.cols())?;
+            let place = Place::Block(Section::Body);
+            let adjoint = transposed_adjoint(ring, alloc, place, r)?;
+            let other = transposed_adjoint(ring, alloc, place, generators)?;
+            exact_block(ring, alloc, &adjoint, &other, block, Section::Body)
+        }
     }
-}
-
-#[tactic(auto, using(ore_blocks::proofs::Refusals::refuses_on), unfolding(crate::specs::Check::check))]
-fn left_kernel<R: OreRing>(
-    ring: &R,
-    alloc: Global,
-    r: &Matrix,
-    generators: &Matrix,
-    block: &ExactBlock,
-) -> Result<(), Refusal>
-    requires of { All (All (Belongs (R.sig ring.now))) r.now.rows }
-    requires generators_of { MatrixOf (R.sig ring.now) generators.now }
-    requires block_of { IsExactOf (R.sig ring.now) block.now }
-    ensures { Judges (λ u. u) result (check program (R.sig ring.now) (plain r.now) (Certificate.Kernel Side.Left generators.now block.now) tt) }
-{
-    required(
-        Place::Header(Section::Body, Name::Generators),
-        Reason::Shape,
-        generators.cols() == r.rows(),
-    )?;
-    exact_block(ring, alloc, r, generators, block, Section::Body)
-}
-
-#[tactic(auto, using(ore_blocks::proofs::Refusals::refuses_on), unfolding(crate::specs::Check::check))]
-fn right_kernel<R: OreRing>(
-    ring: &R,
-    alloc: Global,
-    r: &Matrix,
-    generators: &Matrix,
-    block: &ExactBlock,
-) -> Result<(), Refusal>
-    requires of { All (All (Belongs (R.sig ring.now))) r.now.rows }
-    requires generators_of { MatrixOf (R.sig ring.now) generators.now }
-    requires block_of { IsExactOf (R.sig ring.now) block.now }
-    ensures { Judges (λ u. u) result (check program (R.sig ring.now) (plain r.now) (Certificate.Kernel Side.Right generators.now block.now) tt) }
-{
-    required(
-        Place::Header(Section::Body, Name::Generators),
-        Reason::Shape,
-        generators.rows() == r.cols(),
-    )?;
-    let place = Place::Block(Section::Body);
-    let matrix_adjoint = transposed_adjoint(ring, alloc, place, r)?;
-    let generators_adjoint = transposed_adjoint(ring, alloc, place, generators)?;
-    exact_block(
-        ring,
-        alloc,
-        &matrix_adjoint,
-        &generators_adjoint,
-        block,
-        Section::Body,
-    )
 }

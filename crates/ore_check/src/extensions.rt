@@ -3,7 +3,7 @@
 ghost use Rattle.std.specs.Prelude.{◌≡◌, ◌∷◌, []};
 ghost use Rattle.std.specs.List.{All};
 ghost use Rattle.ore_algebra.specs.Limits.{program};
-ghost use Rattle.ore_ring.specs.Belongs.{Belongs};
+ghost use Rattle.ore_ring.specs.Belongs.{AllBelong};
 ghost use Rattle.ore_rows.specs.Stored.{sums_of};
 ghost use Rattle.ore_parts.specs.OfSignature.{IsExactOf, IsOutsideOf};
 ghost use Rattle.ore_cert.specs.CertificateOf.{AreLinksOf};
@@ -35,7 +35,7 @@ pub fn resolution<R: OreRing>(
     r: &Matrix,
     links: &Links,
 ) -> Result<(), Refusal>
-    requires of { All (All (Belongs (R.sig ring.now))) r.now.rows }
+    requires of { All (AllBelong (R.sig ring.now)) r.now.rows }
     requires links_of { AreLinksOf (R.sig ring.now) links.now }
     ensures { Judges (λ u. u) result (check program (R.sig ring.now) (plain r.now) (Certificate.Resolution links.now) tt) }
 {
@@ -55,7 +55,7 @@ pub fn extension_zero<R: OreRing>(
     links: &Links,
     block: &ExactBlock,
 ) -> Result<(), Refusal>
-    requires of { All (All (Belongs (R.sig ring.now))) r.now.rows }
+    requires of { All (AllBelong (R.sig ring.now)) r.now.rows }
     requires links_of { AreLinksOf (R.sig ring.now) links.now }
     requires block_of { IsExactOf (R.sig ring.now) block.now }
     ensures { Judges (λ u. u) result (check program (R.sig ring.now) (plain r.now) (Certificate.ExtZero links.now block.now) tt) }
@@ -81,9 +81,9 @@ pub fn extension_nonzero<R: OreRing>(
     element: &Row,
     block: &OutsideBlock,
 ) -> Result<(), Refusal>
-    requires of { All (All (Belongs (R.sig ring.now))) r.now.rows }
+    requires of { All (AllBelong (R.sig ring.now)) r.now.rows }
     requires links_of { AreLinksOf (R.sig ring.now) links.now }
-    requires element_of { All (Belongs (R.sig ring.now)) element.now }
+    requires element_of { AllBelong (R.sig ring.now) element.now }
     requires block_of { IsOutsideOf (R.sig ring.now) block.now }
     ensures { Judges (λ u. u) result (check program (R.sig ring.now) (plain r.now) (Certificate.ExtNonzero links.now element.now block.now) tt) }
 {

@@ -6,11 +6,15 @@
 ghost use Rattle.ore_check.specs.Laws.{CheckIsTrue, ExactIsTorsionFree, HasOneVerdict, LastLineIsEnd, PartsBeginAtLines, RightKernelIsExact};
 ghost use Rattle.ore_algebra.specs.Limits.{program};
 ghost use Rattle.ore_check.specs.NonZeroSteps.{PlansFormNonZeroSteps};
-ghost use Rattle.ore_check.specs.PlanLaws.{AdjointHasItsReport, ExtFormsRight, FormsRight, NoReportIsNone, ReportIsTrueIfValid, ResolveFormsRight};
+ghost use Rattle.ore_check.specs.PlanBudgets.{BudgetExists};
+ghost use Rattle.ore_check.specs.PlanLaws.{AdjointHasItsReport, ExtFormsRight, FormsCorrect, NoReportIsNone, ReportIsTrueIfValid, ResolveFormsRight};
 ghost use Rattle.ore_check.specs.Plans.{analyse, inverse_left, inverse_right, kernel_left, kernel_right};
 ghost use Rattle.ore_check.specs.ValidLaws.{CheckAtMost, CheckIsValid, CheckShowsValid, ValidIsNotInvalid, ValidIsTrue, ValidPasses};
+ghost use Rattle.ore_check.specs.Written.{RightMayBeWritten};
 
+use ore_groebner::laws::law_run_ends;
 use ore_monomial::Signature;
+use ore_pairs::laws::law_few_choices;
 
 /// A certificate for which the check says that it is valid is true.
 pub fn law_check_means(sig: &Signature)
@@ -84,14 +88,14 @@ pub fn law_valid_is_not_invalid(sig: &Signature)
 
 /// The certificates that the plans of kernels form are true, and the check accepts them.
 pub fn law_kernels_formed(sig: &Signature)
-    ensures left { FormsRight sig.now (kernel_left program sig.now) }
-    ensures right { FormsRight sig.now (kernel_right program sig.now) }
+    ensures left { FormsCorrect sig.now (kernel_left program sig.now) }
+    ensures right { FormsCorrect sig.now (kernel_right program sig.now) }
 {}
 
 /// The certificates that the plans of inverses form are true, and the check accepts them.
 pub fn law_inverses_formed(sig: &Signature)
-    ensures left { FormsRight sig.now (inverse_left program sig.now) }
-    ensures right { FormsRight sig.now (inverse_right program sig.now) }
+    ensures left { FormsCorrect sig.now (inverse_left program sig.now) }
+    ensures right { FormsCorrect sig.now (inverse_right program sig.now) }
 {}
 
 /// Where no report of a text is honest by a rule and within a budget, none of courses is.
@@ -106,7 +110,7 @@ pub fn law_resolutions_formed(sig: &Signature)
 
 /// The verdicts that plan analyse forms are true, and the check accepts them.
 pub fn law_verdicts_formed(sig: &Signature)
-    ensures { FormsRight sig.now (analyse program sig.now) }
+    ensures { FormsCorrect sig.now (analyse program sig.now) }
 {}
 
 /// The certificates that plan ext forms are true, and the check accepts them.
@@ -117,4 +121,18 @@ pub fn law_extensions_formed(sig: &Signature)
 /// No step of a certificate that a plan forms multiplies by zero.
 pub fn law_steps_formed(sig: &Signature)
     ensures { PlansFormNonZeroSteps sig.now }
+{}
+
+/// For each plan and matrix some number is greater than that of all pairs that the runs of the plan treat together,
+/// whatever is chosen and over numbers of any size. No honest report treats so many, nor says that so many were spent.
+pub fn law_budget_exists(sig: &Signature)
+    ensures { BudgetExists sig.now }
+{
+    law_run_ends(sig);
+    law_few_choices(sig);
+}
+
+/// A right certificate, of which no step multiplies by zero and whose stored parts are in range, may be written.
+pub fn law_right_may_be_written(sig: &Signature)
+    ensures { RightMayBeWritten sig.now }
 {}

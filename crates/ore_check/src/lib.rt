@@ -16,10 +16,13 @@
 //! are counted in 128 bits, those behind a link up to 2^65, and the answer has 2^64 - 1 for any line past that number.
 //! The functions ask that all operators that they are handed are of the signature of the ring.
 //!
+//! [`certify`] forms the identities of a certificate that a search found.
+//!
 //! `specs/Plans.antt` has the plans of the commands: what each does with the matrix of a problem, in order, as a course
 //! of forced work and runs (`ore_course`) that ends with forming the identities of its certificate. `specs/Reports.antt`
 //! says which answers a plan forms, and when the report of a stopped plan is honest. The laws say that each certificate
-//! that a plan forms is true and one that the check accepts (`specs/PlanLaws.antt`).
+//! that a plan forms is true and one that the check accepts (`specs/PlanLaws.antt`), that it may be written
+//! (`specs/Written.antt`), and that some budget is enough for each plan (`specs/PlanBudgets.antt`).
 //!
 //! The crate stands on `ore_cert` for certificates, on `ore_blocks` for the check of blocks and for refusals, on
 //! `ore_adjoint` for transposed adjoints, on `ore_groebner` for what runs show, and on `ore_rows` and below for
@@ -38,5 +41,5 @@ pub mod links;
 
 pub use answer::Checked;
 pub use certificate::{check, check_exact, check_outside};
-pub use identities::form_identities;
+pub use identities::certify;
 pub use ore_blocks::Reason;

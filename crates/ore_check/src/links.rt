@@ -3,7 +3,7 @@
 ghost use Rattle.std.specs.Prelude.{◌≡◌, ◌≤◌, ◌-◌, length, IfOk};
 ghost use Rattle.std.specs.List.{All};
 ghost use Rattle.ore_algebra.specs.Limits.{program};
-ghost use Rattle.ore_ring.specs.Belongs.{Belongs};
+ghost use Rattle.ore_ring.specs.Belongs.{AllBelong};
 ghost use Rattle.ore_parts.specs.OfSignature.{IsLinkOf};
 ghost use Rattle.ore_blocks.specs.CheckBlock.{plain};
 ghost use Rattle.ore_blocks.specs.Judging.{Judges};
@@ -28,7 +28,7 @@ pub fn check_links<R: OreRing>(
     r: &Matrix,
     links: &Links,
 ) -> Result<(), Refusal>
-    requires of { All (All (Belongs (R.sig ring.now))) r.now.rows }
+    requires of { All (AllBelong (R.sig ring.now)) r.now.rows }
     requires links_of { All (IsLinkOf (R.sig ring.now)) links.now }
     ensures judges { Judges (λ _. last_two r.now links.now) result (check_links program (R.sig ring.now) 0 (plain r.now) (plain r.now) links.now) }
     ensures fits { IfOk result (λ _. 1 ≤ length links.now → (matrix_before r.now links.now (length links.now)).cols ≡ length (matrix_before r.now links.now (length links.now - 1)).rows) }
@@ -48,7 +48,7 @@ fn check_link<R: OreRing>(
     before: &Matrix,
     link: &Link,
 ) -> Result<(), Refusal>
-    requires of { All (All (Belongs (R.sig ring.now))) before.now.rows }
+    requires of { All (AllBelong (R.sig ring.now)) before.now.rows }
     requires link_of { IsLinkOf (R.sig ring.now) link.now }
     ensures judges { Judges (λ u. u) result (check_link program (R.sig ring.now) i (plain before.now) link.now) }
     ensures fits { IfOk result (λ _. link.now.l.cols ≡ length before.now.rows) }
@@ -80,11 +80,11 @@ pub fn adjoints_of<R: OreRing>(
     before: &Matrix,
     last: &Matrix,
 ) -> Result<(Matrix, Matrix), Refusal>
-    requires before_of { All (All (Belongs (R.sig ring.now))) before.now.rows }
-    requires last_of { All (All (Belongs (R.sig ring.now))) last.now.rows }
+    requires before_of { All (AllBelong (R.sig ring.now)) before.now.rows }
+    requires last_of { All (AllBelong (R.sig ring.now)) last.now.rows }
     ensures judges { Judges (λ p. (plain p.0, plain p.1)) result (adjoints_of program (R.sig ring.now) (plain before.now, plain last.now)) }
     ensures fits { IfOk result (λ p. last.now.cols ≡ length before.now.rows → p.1.cols ≡ length p.0.rows) }
-    ensures of { IfOk result (λ p. All (All (Belongs (R.sig ring.now))) p.0.rows × All (All (Belongs (R.sig ring.now))) p.1.rows) }
+    ensures of { IfOk result (λ p. All (AllBelong (R.sig ring.now)) p.0.rows × All (AllBelong (R.sig ring.now)) p.1.rows) }
 {
     let place = Place::Block(Section::Body);
     let last_adjoint = transposed_adjoint(ring, alloc, place, last)?;

@@ -1,11 +1,11 @@
 use Rattle.std.proofs.Common.{rules, sym, ◌∙◌, drop, ◌+◌}
 use Rattle.std.proofs.lemmas.Result.{err_from_is_err_and}
 use Rattle.ore_algebra.specs.Limits.{program}
+use Rattle.ore_algebra.proofs.ListLaws.{drop_read}
 use Rattle.ore_monomial.proofs.Stops.{fails_like}
 use Rattle.ore_rows.specs.Stored.{rows_of, sums_of}
 use Rattle.ore_blocks.specs.PlaceConditions.{less_step}
 use Rattle.ore_blocks.proofs.Folds.{folded_on, folded_stops}
-use Rattle.ore_blocks.proofs.ReadItems.{drop_read}
 use Rattle.ore_blocks.proofs.formed.less_steps.Goals as goal
 
 pub returns-in_err-left-clause-gives : goal.returns-in_err-left-clause-gives

@@ -1,6 +1,6 @@
 use Rattle.std.proofs.Common.{sym, ◌∙◌, subst}
 use Rattle.ore_algebra.specs.Limits.{program}
-use Rattle.ore_rational.proofs.FractionLaws.{rationals}
+use Rattle.ore_rational.specs.Field.{rationals}
 use Rattle.ore_rows.specs.Rows.{AreLong}
 use Rattle.ore_rows.specs.Stored.{HasColumns, rows_of}
 use Rattle.ore_parts.specs.OfSignature.{MatrixOf}
