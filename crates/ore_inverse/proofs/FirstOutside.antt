@@ -11,16 +11,16 @@ use Rattle.std.specs.declared.result.Result.TheVariants.{Ok, Err}
 use Rattle.ore_algebra.specs.Limits.{Cause, program}
 use Rattle.ore_algebra.proofs.ResultLaws.{same_ok, no_ok}
 use Rattle.ore_course.proofs.Basics.{same_cons}
-use Rattle.ore_rational.proofs.FractionLaws.{rationals}
+use Rattle.ore_rational.specs.Field.{rationals}
 use Rattle.ore_monomial.specs.Signature.{Signature}
 use Rattle.ore_monomial.specs.Term.{Term}
 use Rattle.ore_rows.specs.Arithmetic.{within}
-use Rattle.ore_rows.specs.Reduction.{Work, row_at}
+use Rattle.ore_rows.specs.Reduction.{ReductionState, row_at}
 use Rattle.ore_rows.specs.ReduceRows.{Reductions, AllReduce, LeavesRest, negated, reduce_row, reduce_rows_from}
 use Rattle.ore_rows.specs.RowLead.{row_lead}
 use Rattle.ore_rows.specs.Rows.{Row, RowOf, AreLong, unit_row, identity_rows, combine, matrix_times, InRowModule}
 use Rattle.ore_rows.proofs.UnitRows.{long_identity, row-identity_rows}
-use Rattle.ore_pairs.specs.Run.{State}
+use Rattle.ore_pairs.specs.Run.{RunState}
 use Rattle.ore_blocks.specs.BlockOfRun.{outside_block_of}
 use Rattle.ore_blocks.specs.CheckBlock.{RowMatrix}
 use Rattle.ore_blocks.proofs.ValidBlocks.{outside_shows}
@@ -30,20 +30,20 @@ use Rattle.ore_check.proofs.FormedInverses.{rows_are_reduced, AreFound, found_wi
 use Rattle.ore_inverse.specs.Inverses.{IsFirstOutside}
 use Rattle.ore_inverse.proofs.ReducedInOrder.{row_stops, row_leaves, row_reduces, rows_end}
 
-all_or_rest : {i : ℕ} {w : Work rationals} {before : List (Row rationals)} → ◌≡◌ {A = Reductions rationals} (AllReduce before) (LeavesRest i w) → ⊥
+all_or_rest : {i : ℕ} {w : ReductionState rationals} {before : List (Row rationals)} → ◌≡◌ {A = Reductions rationals} (AllReduce before) (LeavesRest i w) → ⊥
 all_or_rest e = cc
 
-same_place : {i k : ℕ} {v w : Work rationals} → ◌≡◌ {A = Reductions rationals} (LeavesRest k v) (LeavesRest i w) → k ≡ i
+same_place : {i k : ℕ} {v w : ReductionState rationals} → ◌≡◌ {A = Reductions rationals} (LeavesRest k v) (LeavesRest i w) → k ≡ i
 same_place e = cc
 
-module _ (s : Signature) (a : RowMatrix) (long : AreLong rationals a.cols a.rows) (of_a : AllByRecursion (RowOf rationals s) a.rows) (last : State rationals) (end : IsEndOf s a last) where
-  abbrev reduce_one : Row rationals → Result (Work rationals) Cause
+module _ (s : Signature) (a : RowMatrix) (long : AreLong rationals a.cols a.rows) (of_a : AllByRecursion (RowOf rationals s) a.rows) (last : RunState rationals) (end : IsEndOf s a last) where
+  abbrev reduce_one : Row rationals → Result (ReductionState rationals) Cause
   reduce_one z = reduce_row rationals s.order (within program s) (length a.rows) last.basis z
 
   abbrev reduce_from : ℕ → List (Row rationals) → List (Row rationals) → Result (Reductions rationals) Cause
   reduce_from k before rows = reduce_rows_from rationals s.order (within program s) (length a.rows) last.basis k before rows
 
-  inside_module : (z : Row rationals) → length z ≡ a.cols → RowOf rationals s z → (w : Work rationals) → reduce_one z ≡ Ok w → row_lead rationals s.order w.row ≡ None → InRowModule rationals s a.cols a.rows z
+  inside_module : (z : Row rationals) → length z ≡ a.cols → RowOf rationals s z → (w : ReductionState rationals) → reduce_one z ≡ Ok w → row_lead rationals s.order w.row ≡ None → InRowModule rationals s a.cols a.rows z
   unfolding InRowModule matrix_times
   inside_module z wide of_z w e none =
       let c = negated rationals w.cofactor in
@@ -58,30 +58,30 @@ module _ (s : Signature) (a : RowMatrix) (long : AreLong rationals a.cols a.rows
       )
 
   -- what holds of rows from a place on
-  abbrev Before : ℕ → ℕ → Work rationals → List (Row rationals) → Type 0
+  abbrev Before : ℕ → ℕ → ReductionState rationals → List (Row rationals) → Type 0
   Before k i w rows = (b : List (Row rationals)) → reduce_from k b rows ≡ Ok (LeavesRest i w) → (j : ℕ) → k + j < i → InRowModule rationals s a.cols a.rows (row_at rows j)
 
-  rows_before : (k i : ℕ) (before rows : List (Row rationals)) (w : Work rationals) → AreLong rationals a.cols rows → AllByRecursion (RowOf rationals s) rows → reduce_from k before rows ≡ Ok (LeavesRest i w)
+  rows_before : (k i : ℕ) (before rows : List (Row rationals)) (w : ReductionState rationals) → AreLong rationals a.cols rows → AllByRecursion (RowOf rationals s) rows → reduce_from k before rows ≡ Ok (LeavesRest i w)
       → (j : ℕ) → k + j < i → InRowModule rationals s a.cols a.rows (row_at rows j)
   rows_before k i before [] w l d e j h = absurd (all_or_rest (same_ok (AllReduce before) (LeavesRest i w) (sym (rows_end rationals s.order (within program s) (length a.rows) last.basis k before) ∙ e)))
   rows_before k i before (z ∷ rows) w (lz, l) (dz, d) e j h = by_row (reduce_one z) refl j h (λ b. rows_before (suc k) i b rows w l d)
     where
-      by_place : (v : Work rationals) → reduce_one z ≡ Ok v → row_lead rationals s.order v.row ≡ None → (j : ℕ) → k + j < i → Before (suc k) i w rows → InRowModule rationals s a.cols a.rows (row_at (z ∷ rows) j)
+      by_place : (v : ReductionState rationals) → reduce_one z ≡ Ok v → row_lead rationals s.order v.row ≡ None → (j : ℕ) → k + j < i → Before (suc k) i w rows → InRowModule rationals s a.cols a.rows (row_at (z ∷ rows) j)
       by_place v f g zero h later = inside_module z lz dz v f g
       by_place v f g (suc j) h later =
           later (before ++ negated rationals v.cofactor ∷ []) (sym (row_reduces rationals s.order (within program s) (length a.rows) last.basis k before z rows v f g) ∙ e) j (omega (arith, h))
 
-      by_lead : (v : Work rationals) → reduce_one z ≡ Ok v → (t : Option Term) → row_lead rationals s.order v.row ≡ t → (j : ℕ) → k + j < i → Before (suc k) i w rows → InRowModule rationals s a.cols a.rows (row_at (z ∷ rows) j)
+      by_lead : (v : ReductionState rationals) → reduce_one z ≡ Ok v → (t : Option Term) → row_lead rationals s.order v.row ≡ t → (j : ℕ) → k + j < i → Before (suc k) i w rows → InRowModule rationals s a.cols a.rows (row_at (z ∷ rows) j)
       by_lead v f None g j h later = by_place v f g j h later
       by_lead v f (Some t) g j h later =
           let same : k ≡ i = same_place (same_ok (LeavesRest k v) (LeavesRest i w) (sym (row_leaves rationals s.order (within program s) (length a.rows) last.basis k before z rows v f t g) ∙ e)) in
           absurd (omega (arith, h, same))
 
-      by_row : (x : Result (Work rationals) Cause) → reduce_one z ≡ x → (j : ℕ) → k + j < i → Before (suc k) i w rows → InRowModule rationals s a.cols a.rows (row_at (z ∷ rows) j)
+      by_row : (x : Result (ReductionState rationals) Cause) → reduce_one z ≡ x → (j : ℕ) → k + j < i → Before (suc k) i w rows → InRowModule rationals s a.cols a.rows (row_at (z ∷ rows) j)
       by_row (Ok v) f j h later = by_lead v f (row_lead rationals s.order v.row) refl j h later
       by_row (Err c) f j h later = absurd (no_ok (sym (row_stops rationals s.order (within program s) (length a.rows) last.basis k before z rows c f) ∙ e))
 
-  pub first_outside : (k : ℕ) (w : Work rationals) → reduced program s a last (identity_rows rationals a.cols) ≡ Ok (LeavesRest k w) → IsFirstOutside s a k
+  pub first_outside : (k : ℕ) (w : ReductionState rationals) → reduced program s a last (identity_rows rationals a.cols) ≡ Ok (LeavesRest k w) → IsFirstOutside s a k
   first_outside k w e =
       let (j, place, less, there, t, lead) = rows_are_reduced s a long of_a last end (identity_rows rationals a.cols) (LeavesRest k w) (long_identity rationals a.cols) e in
       let same : j ≡ k = omega (arith, place) in

@@ -1,47 +1,41 @@
 -- What the code of inverses finds, beside what their plans find.
---     end_of                  a complete run ends in its last state
 --     stored_is               a stored matrix of a signature has its order
 --     all_reduce, leaves_rest     what stored reductions are, of plain operators
 --     all_of, rest_of         they are of the signature
---     reduced_is              the rows that the code reduces are those that the plan reduces
 --     rest_of_signature, block_of_signature     the outside block of a rest is of the signature
-use Rattle.std.proofs.Common.{◌≡◌, ℕ, List, length, sym, ap, ◌∙◌, subst}
+use Rattle.std.proofs.Common.{◌≡◌, ℕ, sym, ap, ◌∙◌, subst}
 use Rattle.std.specs.List.{All, AllByRecursion}
 use Rattle.std.specs.declared.result.Result.{Result}
 use Rattle.std.specs.declared.result.Result.TheVariants.{Ok}
-use Rattle.std.proofs.lemmas.List.{length-map}
 use Rattle.ore_algebra.specs.Limits.{Cause, program}
-use Rattle.ore_rational.proofs.FractionLaws.{rationals}
+use Rattle.ore_rational.specs.Field.{rationals}
 use Rattle.ore_monomial.specs.Signature.{Signature}
 use Rattle.ore_ring.specs.Belongs.{Belongs}
-use Rattle.ore_rows.specs.Arithmetic.{within}
-use Rattle.ore_rows.specs.Reduction.{Work}
-use Rattle.ore_rows.specs.ReduceRows.{Reductions, AllReduce, LeavesRest, reduce_rows}
+use Rattle.ore_rows.specs.Reduction.{ReductionState}
+use Rattle.ore_rows.specs.ReduceRows.{Reductions, AllReduce, LeavesRest}
 use Rattle.ore_rows.specs.Rows.{AreLong, RowOf, identity_rows}
-use Rattle.ore_rows.specs.Stored.{OperatorMatrix, sums_of, rows_of}
-use Rattle.ore_rows.specs.StoredBasis.{monics}
-use Rattle.ore_rows.specs.declared.choices.Choice.{Choice}
+use Rattle.ore_rows.specs.Stored.{OperatorMatrix, rows_of}
 use Rattle.ore_rows.proofs.UnitRows.{long_identity}
 use Rattle.ore_division.specs.StoredWork.{work_of}
 use Rattle.ore_division.specs.declared.division.Reduced.{Reduced}
-use Rattle.ore_pairs.specs.Run.{State}
-use Rattle.ore_pairs.proofs.CompleteStates.{tested}
-use Rattle.ore_parts.specs.OfSignature.{MatrixOf, IsOutsideOf}
+use Rattle.ore_pairs.specs.Run.{RunState}
+use Rattle.ore_parts.specs.OfSignature.{IsOutsideOf}
 use Rattle.ore_parts.specs.declared.block.OutsideBlock.{OutsideBlock}
 use Rattle.ore_blocks.specs.BlockOfRun.{outside_block_of}
 use Rattle.ore_blocks.specs.CheckBlock.{RowMatrix, plain}
 use Rattle.ore_blocks.proofs.Converted.{wide_rows, rows_are_of}
 use Rattle.ore_groebner.specs.Courses.{last_of}
-use Rattle.ore_groebner.specs.Honest.{IsHonest}
 use Rattle.ore_groebner.specs.declared.outcome.Finished.{Finished}
-use Rattle.ore_syzygy.proofs.HonestBlocks.{last_is, ordered-rows}
+use Rattle.ore_syzygy.proofs.HonestBlocks.{ordered-rows}
 use Rattle.ore_check.specs.Plans.{reduced}
 use Rattle.ore_check.specs.Plans as plans
 use Rattle.ore_check.proofs.FormedKernels.{IsEndOf}
 use Rattle.ore_check.proofs.FormedInverses.{rows_are_reduced, unit_block_of}
+use Rattle.ore_inverse.specs.Runs.{IsRunOn}
 use Rattle.ore_inverse.specs.StoredReductions.{reductions_of, AreReductionsOf}
 use Rattle.ore_inverse.specs.declared.reductions.Reductions.{Reductions as Stored}
 use Rattle.ore_inverse.specs.declared.reductions.Reductions.TheVariants as stored
+use Rattle.ore_inverse.proofs.StoredRuns.{end_of}
 
 module _ (s : Signature) where
   pub stored_is : (m : OperatorMatrix) (n : ℕ) → All (All (Belongs s)) m.rows → m.cols ≡ n → plans.stored s (record { cols = n; rows = rows_of m }) ≡ m
@@ -62,20 +56,12 @@ module _ (s : Signature) where
     rest_of k w is = subst (AreReductionsOf s n) is of
 
   -- unit rows of a matrix, reduced by the last state of a run on it
-  module _ (a : RowMatrix) (long : AreLong rationals a.cols a.rows) (of_a : AllByRecursion (RowOf rationals s) a.rows) (last : State rationals) (end : IsEndOf s a last) where
-    pub rest_of_signature : (k : ℕ) (w : Work rationals) → reduced program s a last (identity_rows rationals a.cols) ≡ Ok (LeavesRest k w) → IsOutsideOf s (outside_block_of s a last w.steps w.row)
+  module _ (a : RowMatrix) (long : AreLong rationals a.cols a.rows) (of_a : AllByRecursion (RowOf rationals s) a.rows) (last : RunState rationals) (end : IsEndOf s a last) where
+    pub rest_of_signature : (k : ℕ) (w : ReductionState rationals) → reduced program s a last (identity_rows rationals a.cols) ≡ Ok (LeavesRest k w) → IsOutsideOf s (outside_block_of s a last w.steps w.row)
     rest_of_signature k w e =
         let (j, place, less, there, t, lead) = rows_are_reduced s a long of_a last end (identity_rows rationals a.cols) (LeavesRest k w) (long_identity rationals a.cols) e in
         unit_block_of s a long of_a last end j less w there t lead
 
-  module _ (f : Finished) (a : OperatorMatrix) (choices : List Choice) (h : IsHonest s a choices f) where
-    pub end_of : IsEndOf s (plain a) (last_of f)
-    end_of = subst (IsEndOf s (plain a)) (last_is s f a choices h) (record { first = h.start; choices = choices; begun = h.begun; led = h.led; over = tested rationals h.last h.complete })
-
-    -- n unit rows of n entries, where the matrix has n columns
-    pub reduced_is : (n : ℕ) → n ≡ a.cols → reduced program s (plain a) (last_of f) (identity_rows rationals a.cols) ≡ reduce_rows rationals s.order (within program s) f.basis.width (monics f.basis) (identity_rows rationals n)
-    reduced_is n same = λ i. reduce_rows rationals s.order (within program s) ((length-map a.rows sums_of ∙ sym h.width) i) (monics f.basis) (identity_rows rationals (sym same i))
-
-    pub block_of_signature : MatrixOf s a → (b : OutsideBlock) (k : ℕ) (w : Work rationals) → reduced program s (plain a) (last_of f) (identity_rows rationals a.cols) ≡ Ok (LeavesRest k w)
-        → b ≡ outside_block_of s (plain a) (last_of f) w.steps w.row → IsOutsideOf s b
-    block_of_signature of b k w e same = subst (IsOutsideOf s) (sym same) (rest_of_signature (plain a) (wide_rows s a of) (rows_are_of s a of) (last_of f) end_of k w e)
+  pub block_of_signature : (a : OperatorMatrix) (f : Finished) (on : IsRunOn s a f) (b : OutsideBlock) (k : ℕ) (w : ReductionState rationals) → reduced program s (plain a) (last_of f) (identity_rows rationals a.cols) ≡ Ok (LeavesRest k w)
+      → b ≡ outside_block_of s (plain a) (last_of f) w.steps w.row → IsOutsideOf s b
+  block_of_signature a f on b k w e same = subst (IsOutsideOf s) (sym same) (rest_of_signature (plain a) (wide_rows s a on.matrix_of) (rows_are_of s a on.matrix_of) (last_of f) (end_of s a f on) k w e)

@@ -1,7 +1,9 @@
 pub mod ReducedInOrder
+pub mod StoredRuns
 pub mod FoundInverses
 pub mod FirstOutside
+pub mod ReducedSyzygies
 pub mod FollowedInverses
 pub mod LeftSearch
-pub mod RightSearch
+pub mod TurnedAnswers
 pub mod InverseAnswers

@@ -3,14 +3,14 @@
 --     row_stops, row_leaves, row_reduces     the first row of some: it stops, leaves a rest, or leaves nothing
 --     rows_next, rows_end             the rows from a place on
 --     reduced_stops, reduced_leaves, reduced_more     of stored rows, what one row does
-use Rattle.std.proofs.Common.{◌≡◌, ◌≢◌, ℕ, suc, ◌+◌, ◌<◌, ◌≤◌, Bool, true, false, cond, nat_eq, List, [], ◌∷◌, ◌++◌, length, map, take, drop, get_or, refl, sym, ap, ◌∙◌, subst, arith}
+use Rattle.std.proofs.Common.{◌≡◌, ℕ, suc, ◌+◌, ◌<◌, ◌≤◌, false, cond, nat_eq, List, [], ◌∷◌, ◌++◌, length, map, take, drop, refl, sym, ap, ◌∙◌, subst, arith}
 use Rattle.std.specs.List.{slice_get}
 use Rattle.std.specs.declared.option.Option.{Option}
 use Rattle.std.specs.declared.option.Option.TheVariants.{None, Some}
 use Rattle.std.specs.declared.result.Result.{Result}
 use Rattle.std.specs.declared.result.Result.TheVariants.{Ok, Err}
 use Rattle.std.proofs.lemmas.Bool.Decides.{nat_tests}
-use Rattle.std.proofs.lemmas.List.{ext_get_or, get_or-replicate, length-replicate, length-map, map-append, take_more, drop-map, at_drop_all}
+use Rattle.std.proofs.lemmas.List.{ext_get_or, get_or-replicate, length-replicate, map-append, take_more, drop-map, at_drop_all}
 use Rattle.std.proofs.lemmas.Option.{slice_get_within, get_or_from_slice_get}
 use Rattle.ore_algebra.specs.Domain.{Domain}
 use Rattle.ore_algebra.specs.Free.{empty_sum, single}
@@ -18,11 +18,11 @@ use Rattle.ore_algebra.specs.Limits.{Cause, ◌>>=◌}
 use Rattle.ore_monomial.specs.Monomial.{unit, plain_cmp}
 use Rattle.ore_monomial.specs.declared.order.Order.{Order}
 use Rattle.ore_monomial.specs.Term.{Term}
-use Rattle.ore_rational.proofs.FractionLaws.{rationals}
+use Rattle.ore_rational.specs.Field.{rationals}
 use Rattle.ore_monomial.specs.LetterRule.{Operator}
 use Rattle.ore_ring.specs.Ordered.{Ordered}
 use Rattle.ore_rows.specs.Arithmetic.{Arithmetic}
-use Rattle.ore_rows.specs.Reduction.{Monic, Work}
+use Rattle.ore_rows.specs.Reduction.{BasisRow, ReductionState}
 use Rattle.ore_rows.specs.ReduceRows.{Reductions, AllReduce, LeavesRest, negated, reduce_row, reduce_rows_from}
 use Rattle.ore_rows.specs.RowLead.{row_lead}
 use Rattle.ore_rows.specs.Rows.{Row, zero_row, unit_row, unit_entry}
@@ -46,27 +46,27 @@ module _ (K : Domain) where
       ext_get_or (empty_sum K plain_cmp) (unit_row K n n) (zero_row K n) (length-unit_row K n n ∙ sym (length-replicate n (empty_sum K plain_cmp)))
       (λ j h. let l = subst (λ m. j < m) (length-unit_row K n n) h in entry-unit_row K n n j l ∙ past n j l ∙ sym (get_or-replicate n j (empty_sum K plain_cmp) (empty_sum K plain_cmp) l))
 
-module _ (K : Domain) (o : Order) (A : Arithmetic K) (n : ℕ) (basis : List (Monic (Row K))) (k : ℕ) (before : List (Row K)) (r : Row K) (rows : List (Row K)) where
-  abbrev goes_on : Work K → Option Term → Result (Reductions K) Cause
+module _ (K : Domain) (o : Order) (A : Arithmetic K) (n : ℕ) (basis : List (BasisRow (Row K))) (k : ℕ) (before : List (Row K)) (r : Row K) (rows : List (Row K)) where
+  abbrev goes_on : ReductionState K → Option Term → Result (Reductions K) Cause
   goes_on w t = elim t [ None ↦ reduce_rows_from K o A n basis (suc k) (before ++ negated K w.cofactor ∷ []) rows | Some u ↦ Ok (LeavesRest k w) ]
 
-  abbrev comes_to : Result (Work K) Cause → Result (Reductions K) Cause
+  abbrev comes_to : Result (ReductionState K) Cause → Result (Reductions K) Cause
   comes_to x = x >>= (λ w. goes_on w (row_lead K o w.row))
 
   pub row_stops : (c : Cause) → reduce_row K o A n basis r ≡ Err c → reduce_rows_from K o A n basis k before (r ∷ rows) ≡ Err c
   unfolding reduce_rows_from
   row_stops c e = ap comes_to e
 
-  pub row_leaves : (w : Work K) → reduce_row K o A n basis r ≡ Ok w → (t : Term) → row_lead K o w.row ≡ Some t → reduce_rows_from K o A n basis k before (r ∷ rows) ≡ Ok (LeavesRest k w)
+  pub row_leaves : (w : ReductionState K) → reduce_row K o A n basis r ≡ Ok w → (t : Term) → row_lead K o w.row ≡ Some t → reduce_rows_from K o A n basis k before (r ∷ rows) ≡ Ok (LeavesRest k w)
   unfolding reduce_rows_from
   row_leaves w e t lead = ap comes_to e ∙ ap (goes_on w) lead
 
-  pub row_reduces : (w : Work K) → reduce_row K o A n basis r ≡ Ok w → row_lead K o w.row ≡ None
+  pub row_reduces : (w : ReductionState K) → reduce_row K o A n basis r ≡ Ok w → row_lead K o w.row ≡ None
       → reduce_rows_from K o A n basis k before (r ∷ rows) ≡ reduce_rows_from K o A n basis (suc k) (before ++ negated K w.cofactor ∷ []) rows
   unfolding reduce_rows_from
   row_reduces w e lead = ap comes_to e ∙ ap (goes_on w) lead
 
-pub rows_end : (K : Domain) (o : Order) (A : Arithmetic K) (n : ℕ) (basis : List (Monic (Row K))) (k : ℕ) (before : List (Row K)) → reduce_rows_from K o A n basis k before [] ≡ Ok (AllReduce before)
+pub rows_end : (K : Domain) (o : Order) (A : Arithmetic K) (n : ℕ) (basis : List (BasisRow (Row K))) (k : ℕ) (before : List (Row K)) → reduce_rows_from K o A n basis k before [] ≡ Ok (AllReduce before)
 unfolding reduce_rows_from
 rows_end K o A n basis k before = refl
 
@@ -79,7 +79,7 @@ summed_more f row out more k x y so_far at same pushed =
 
 -- ---- stored rows
 
-module _ (o : Order) (A : Arithmetic rationals) (n : ℕ) (basis : List (Monic (Row rationals))) (m : OperatorMatrix) (k : ℕ) (before : List (Row rationals)) where
+module _ (o : Order) (A : Arithmetic rationals) (n : ℕ) (basis : List (BasisRow (Row rationals))) (m : OperatorMatrix) (k : ℕ) (before : List (Row rationals)) where
   abbrev from_there : Result (Reductions rationals) Cause
   from_there = reduce_rows_from rationals o A n basis k before (drop k (rows_of m))
 

@@ -3,20 +3,19 @@
 --     IsOfLeftInverse, IsOfRightInverse             a certificate is of such a kind
 --     IsFirstOutside                                the first unit row that isn't in the row module of a matrix
 --     NamesFirstUnit                                a certificate names such a unit row
---     IsLeftAnswer, IsRightAnswer                   what an answer says of a matrix, with what shows it
+--     IsLeftInverseAnswer, IsRightInverseAnswer     what an answer says of a matrix, with what shows it
 use Rattle.std.specs.Prelude.{◌≡◌, ℕ, ◌<◌, length}
-use Rattle.ore_rational.proofs.FractionLaws.{rationals}
+use Rattle.ore_rational.specs.Field.{rationals}
 use Rattle.ore_monomial.specs.Signature.{Signature}
 use Rattle.ore_rows.specs.Rows.{unit_row, InRowModule}
 use Rattle.ore_parts.specs.OfSignature.{MatrixOf, IsOutsideOf}
 use Rattle.ore_cert.specs.declared.certificate.Certificate.{Certificate}
 use Rattle.ore_cert.specs.declared.certificate.Certificate.TheVariants.{LeftInverse, RightInverse, NoLeftInverse, NoRightInverse}
-use Rattle.ore_blocks.specs.CheckBlock.{RowMatrix}
+use Rattle.ore_blocks.specs.CheckBlock.{RowMatrix, plain}
 use Rattle.ore_blocks.specs.Valid.{IsValidOutsideFor}
-use Rattle.ore_check.specs.Meaning.{HasLeftInverse, HasRightInverse, transposed_adjoint}
-use Rattle.ore_check.specs.Valid.{IsLeftInverseFor, IsRightInverseFor}
-use Rattle.ore_inverse.specs.declared.inverse.InverseAnswer.{InverseAnswer}
-use Rattle.ore_inverse.specs.declared.inverse.InverseAnswer.TheVariants.{Found, None}
+use Rattle.ore_check.specs.Meaning.{IsLeftInverse, IsRightInverse, HasLeftInverse, HasRightInverse, transposed_adjoint}
+use Rattle.ore_inverse.specs.declared.answer.InverseAnswer.{InverseAnswer}
+use Rattle.ore_inverse.specs.declared.answer.InverseAnswer.TheVariants.{Found, None}
 
 -- of a left inverse, or that there is none
 abbrev pub left_certificate_of : InverseAnswer → Certificate
@@ -56,13 +55,13 @@ module _ (s : Signature) where
 
   -- m of the signature, with m r the identity; or no matrix is such an inverse, as the first unit row shows that isn't in
   -- the row module of r, with a valid block of the signature
-  abbrev pub IsLeftAnswer : RowMatrix → InverseAnswer → Type 0
-  IsLeftAnswer r (Found m) = MatrixOf s m × IsLeftInverseFor s r m
-  IsLeftAnswer r (None k block) = (¬ HasLeftInverse s r) × IsFirstOutside r k × IsOutsideOf s block × IsValidOutsideFor s r (unit_row rationals r.cols k) block
+  abbrev pub IsLeftInverseAnswer : RowMatrix → InverseAnswer → Type 0
+  IsLeftInverseAnswer r (Found m) = MatrixOf s m × IsLeftInverse s r (plain m)
+  IsLeftInverseAnswer r (None k block) = (¬ HasLeftInverse s r) × IsFirstOutside r k × IsOutsideOf s block × IsValidOutsideFor s r (unit_row rationals r.cols k) block
 
   -- m of the signature, with r m the identity; or no matrix is such an inverse, as the first unit row shows that isn't in
   -- the row module of the transposed adjoint of r, with a valid block of the signature
-  abbrev pub IsRightAnswer : RowMatrix → InverseAnswer → Type 0
-  IsRightAnswer r (Found m) = MatrixOf s m × IsRightInverseFor s r m
-  IsRightAnswer r (None k block) =
+  abbrev pub IsRightInverseAnswer : RowMatrix → InverseAnswer → Type 0
+  IsRightInverseAnswer r (Found m) = MatrixOf s m × IsRightInverse s r (plain m)
+  IsRightInverseAnswer r (None k block) =
       (¬ HasRightInverse s r) × IsFirstOutside (transposed_adjoint s r) k × IsOutsideOf s block × IsValidOutsideFor s (transposed_adjoint s r) (unit_row rationals (length r.rows) k) block

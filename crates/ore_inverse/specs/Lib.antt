@@ -1,2 +1,4 @@
+pub mod Runs
 pub mod StoredReductions
 pub mod Inverses
+pub mod Search

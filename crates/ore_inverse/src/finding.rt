@@ -3,27 +3,22 @@
 ghost use Rattle.std.specs.Prelude.{◌≡◌, IfOk, IfErr};
 ghost use Rattle.std.specs.List.{All};
 ghost use Rattle.ore_algebra.specs.Limits.{program};
-ghost use Rattle.ore_monomial.specs.Gives.{Gives};
-ghost use Rattle.ore_ring.specs.Belongs.{Belongs};
-ghost use Rattle.ore_cert.specs.CertificateOf.{IsCertificateOf};
+ghost use Rattle.ore_ring.specs.Belongs.{AllBelong};
 ghost use Rattle.ore_blocks.specs.CheckBlock.{plain};
-ghost use Rattle.ore_groebner.specs.Choosing.{AreAfforded};
+ghost use Rattle.ore_groebner.specs.Choosing.{AreWithinBudget};
 ghost use Rattle.ore_groebner.specs.Courses.{FollowsTo, HaltsIn};
-ghost use Rattle.ore_check.specs.Check.{IsNoReport, check};
-ghost use Rattle.ore_check.specs.PlanLaws.{IsRight};
-ghost use Rattle.ore_check.specs.Plans.{formed_as, inverse_left, inverse_right};
+ghost use Rattle.ore_check.specs.PlanLaws.{IsCorrect};
+ghost use Rattle.ore_check.specs.Plans.{inverse_left, inverse_right};
 ghost use Rattle.ore_inverse.specs.Inverses.{IsOfLeftInverse, IsOfRightInverse, NamesFirstUnit};
 
-use crate::reductions::{Reductions, reduce_units};
+use crate::answer::{left_certificate_of, right_certificate_of};
+use crate::search::{find_left, turned};
 use ore_adjoint::transpose_adjoint;
 use ore_cert::Certificate;
-use ore_check::form_identities;
-use ore_groebner::run::run;
+use ore_check::certify;
 use ore_groebner::{Chooser, Halt};
-use ore_monomial::RingStop;
 use ore_ring::OreRing;
 use ore_rows::Matrix;
-use ore_syzygy::outside_block;
 use std::alloc::Global;
 
 /// The certificate of a left inverse of `r`, which has a row for each column of `r` and a column for each of its rows; or
@@ -38,29 +33,18 @@ pub fn left_certificate<R: OreRing, C: Chooser>(
     r: &Matrix,
     chooser: &mut C,
 ) -> Result<Certificate, Halt>
-    requires { All (All (Belongs (R.sig ring.now))) r.now.rows }
-    ensures right { IfOk result (IsRight (R.sig ring.now) (plain r.now)) }
+    requires { All (AllBelong (R.sig ring.now)) r.now.rows }
+    ensures correct { IfOk result (IsCorrect (R.sig ring.now) (plain r.now)) }
     ensures kind { IfOk result IsOfLeftInverse }
     ensures first { IfOk result (NamesFirstUnit (R.sig ring.now) (plain r.now)) }
     ensures answered { IfOk result (FollowsTo (R.sig ring.now) C.allows C.allows_spent (inverse_left program (R.sig ring.now) (plain r.now)) (C.given chooser.old) (C.given chooser.new)) }
     ensures halts { IfErr result (HaltsIn (R.sig ring.now) C.allows C.allows_spent (inverse_left program (R.sig ring.now) (plain r.now)) (C.given chooser.old) (C.given chooser.new) (C.settings chooser.new)) }
-    ensures afforded { AreAfforded (C.given chooser.old) (C.settings chooser.old).budget → AreAfforded (C.given chooser.new) (C.settings chooser.new).budget }
+    ensures within_budget { AreWithinBudget (C.given chooser.old) (C.settings chooser.old).budget → AreWithinBudget (C.given chooser.new) (C.settings chooser.new).budget }
     ensures settings { C.settings chooser.new ≡ C.settings chooser.old }
 {
-    let cols = r.cols();
-    let _rows = r.rows();
-    let run = run(ring, alloc, r, chooser)?;
-    let reductions = reduce_units(ring, alloc, &run.basis, cols)?;
-    match reductions {
-        Reductions::AllReduce(s) => {
-            let _fits = s.cols();
-            Ok(formed(ring, alloc, r, Certificate::LeftInverse { s })?)
-        }
-        Reductions::LeavesRest(unit, rest) => {
-            let block = outside_block(ring, alloc, &run, &rest)?;
-            Ok(formed(ring, alloc, r, Certificate::NoLeftInverse { unit, block })?)
-        }
-    }
+    let _cols = r.cols();
+    let answer = find_left(ring, alloc, r, chooser)?;
+    Ok(certify(ring, alloc, r, left_certificate_of(answer))?)
 }
 
 /// The certificate of a right inverse of `r`, which has a row for each column of `r` and a column for each of its rows; or
@@ -75,47 +59,18 @@ pub fn right_certificate<R: OreRing, C: Chooser>(
     r: &Matrix,
     chooser: &mut C,
 ) -> Result<Certificate, Halt>
-    requires { All (All (Belongs (R.sig ring.now))) r.now.rows }
-    ensures right { IfOk result (IsRight (R.sig ring.now) (plain r.now)) }
+    requires { All (AllBelong (R.sig ring.now)) r.now.rows }
+    ensures correct { IfOk result (IsCorrect (R.sig ring.now) (plain r.now)) }
     ensures kind { IfOk result IsOfRightInverse }
     ensures first { IfOk result (NamesFirstUnit (R.sig ring.now) (plain r.now)) }
     ensures answered { IfOk result (FollowsTo (R.sig ring.now) C.allows C.allows_spent (inverse_right program (R.sig ring.now) (plain r.now)) (C.given chooser.old) (C.given chooser.new)) }
     ensures halts { IfErr result (HaltsIn (R.sig ring.now) C.allows C.allows_spent (inverse_right program (R.sig ring.now) (plain r.now)) (C.given chooser.old) (C.given chooser.new) (C.settings chooser.new)) }
-    ensures afforded { AreAfforded (C.given chooser.old) (C.settings chooser.old).budget → AreAfforded (C.given chooser.new) (C.settings chooser.new).budget }
+    ensures within_budget { AreWithinBudget (C.given chooser.old) (C.settings chooser.old).budget → AreWithinBudget (C.given chooser.new) (C.settings chooser.new).budget }
     ensures settings { C.settings chooser.new ≡ C.settings chooser.old }
 {
     let _cols = r.cols();
-    let rows = r.rows();
     let adjoint = transpose_adjoint(ring, alloc, r)?;
-    let _fits = adjoint.cols();
-    let run = run(ring, alloc, &adjoint, chooser)?;
-    let reductions = reduce_units(ring, alloc, &run.basis, rows)?;
-    match reductions {
-        Reductions::AllReduce(combinations) => {
-            let s = transpose_adjoint(ring, alloc, &combinations)?;
-            let _fits = s.cols();
-            Ok(formed(ring, alloc, r, Certificate::RightInverse { s })?)
-        }
-        Reductions::LeavesRest(unit, rest) => {
-            let block = outside_block(ring, alloc, &run, &rest)?;
-            Ok(formed(ring, alloc, r, Certificate::NoRightInverse { unit, block })?)
-        }
-    }
-}
-
-// A certificate, once its identities are formed.
-fn formed<R: OreRing>(
-    ring: &R,
-    alloc: Global,
-    r: &Matrix,
-    cert: Certificate,
-) -> Result<Certificate, RingStop>
-    requires of { All (All (Belongs (R.sig ring.now))) r.now.rows }
-    requires cert_of { IsCertificateOf (R.sig ring.now) cert }
-    requires claims { IsNoReport cert }
-    ensures formed { (claims : IsNoReport cert) → Gives (λ c. c) result (formed_as cert (check program (R.sig ring.now) (plain r.now) cert claims)) }
-    ensures same { IfOk result (λ c. c ≡ cert) }
-{
-    form_identities(ring, alloc, r, &cert)?;
-    Ok(cert)
+    let found = find_left(ring, alloc, &adjoint, chooser)?;
+    let answer = turned(ring, alloc, found)?;
+    Ok(certify(ring, alloc, r, right_certificate_of(answer))?)
 }

@@ -1,30 +1,21 @@
 //! One-sided inverses of matrices.
 
-ghost use Rattle.std.specs.Prelude.{◌≡◌, ◌⊎◌, IfOk, IfErr};
+ghost use Rattle.std.specs.Prelude.{◌≡◌, IfOk, IfErr};
 ghost use Rattle.std.specs.List.{All};
 ghost use Rattle.ore_algebra.specs.Limits.{program};
-ghost use Rattle.ore_ring.specs.Belongs.{Belongs};
+ghost use Rattle.ore_ring.specs.Belongs.{AllBelong};
 ghost use Rattle.ore_blocks.specs.CheckBlock.{plain};
-ghost use Rattle.ore_groebner.specs.Choosing.{AreAfforded};
+ghost use Rattle.ore_groebner.specs.Choosing.{AreWithinBudget};
 ghost use Rattle.ore_groebner.specs.Courses.{FollowsTo, HaltsIn};
 ghost use Rattle.ore_check.specs.Plans.{inverse_left, inverse_right};
-ghost use Rattle.ore_inverse.specs.Inverses.{left_certificate_of, right_certificate_of, IsOfLeftInverse, IsOfRightInverse, IsLeftAnswer, IsRightAnswer};
+ghost use Rattle.ore_inverse.specs.Inverses.{left_certificate_of, right_certificate_of, IsLeftInverseAnswer, IsRightInverseAnswer};
 
+use crate::answer::{InverseAnswer, answer_of};
 use crate::finding::{left_certificate, right_certificate};
-use ore_cert::{Certificate, OutsideBlock};
 use ore_groebner::{Chooser, Halt};
 use ore_ring::OreRing;
 use ore_rows::Matrix;
 use std::alloc::Global;
-
-/// An inverse, or that there is none.
-#[derive(Drop)]
-pub enum InverseAnswer {
-    /// The inverse, with a row for each column of the matrix and a column for each of its rows.
-    Found(Matrix),
-    /// The place, from 0, of the first unit row that isn't in the row module, and a block that shows it.
-    None(usize, OutsideBlock),
-}
 
 /// A matrix S with S `r` the identity, or that there is none, found by the choices of the chooser.
 ///
@@ -36,11 +27,11 @@ pub fn left_inverse<R: OreRing, C: Chooser>(
     r: &Matrix,
     chooser: &mut C,
 ) -> Result<InverseAnswer, Halt>
-    requires { All (All (Belongs (R.sig ring.now))) r.now.rows }
-    ensures inverse { IfOk result (IsLeftAnswer (R.sig ring.now) (plain r.now)) }
+    requires { All (AllBelong (R.sig ring.now)) r.now.rows }
+    ensures inverse { IfOk result (IsLeftInverseAnswer (R.sig ring.now) (plain r.now)) }
     ensures answered { IfOk result (λ x. FollowsTo (R.sig ring.now) C.allows C.allows_spent (inverse_left program (R.sig ring.now) (plain r.now)) (C.given chooser.old) (C.given chooser.new) (left_certificate_of x)) }
     ensures halts { IfErr result (HaltsIn (R.sig ring.now) C.allows C.allows_spent (inverse_left program (R.sig ring.now) (plain r.now)) (C.given chooser.old) (C.given chooser.new) (C.settings chooser.new)) }
-    ensures afforded { AreAfforded (C.given chooser.old) (C.settings chooser.old).budget → AreAfforded (C.given chooser.new) (C.settings chooser.new).budget }
+    ensures within_budget { AreWithinBudget (C.given chooser.old) (C.settings chooser.old).budget → AreWithinBudget (C.given chooser.new) (C.settings chooser.new).budget }
     ensures settings { C.settings chooser.new ≡ C.settings chooser.old }
 {
     let cert = left_certificate(ring, alloc, r, chooser)?;
@@ -58,35 +49,13 @@ pub fn right_inverse<R: OreRing, C: Chooser>(
     r: &Matrix,
     chooser: &mut C,
 ) -> Result<InverseAnswer, Halt>
-    requires { All (All (Belongs (R.sig ring.now))) r.now.rows }
-    ensures inverse { IfOk result (IsRightAnswer (R.sig ring.now) (plain r.now)) }
+    requires { All (AllBelong (R.sig ring.now)) r.now.rows }
+    ensures inverse { IfOk result (IsRightInverseAnswer (R.sig ring.now) (plain r.now)) }
     ensures answered { IfOk result (λ x. FollowsTo (R.sig ring.now) C.allows C.allows_spent (inverse_right program (R.sig ring.now) (plain r.now)) (C.given chooser.old) (C.given chooser.new) (right_certificate_of x)) }
     ensures halts { IfErr result (HaltsIn (R.sig ring.now) C.allows C.allows_spent (inverse_right program (R.sig ring.now) (plain r.now)) (C.given chooser.old) (C.given chooser.new) (C.settings chooser.new)) }
-    ensures afforded { AreAfforded (C.given chooser.old) (C.settings chooser.old).budget → AreAfforded (C.given chooser.new) (C.settings chooser.new).budget }
+    ensures within_budget { AreWithinBudget (C.given chooser.old) (C.settings chooser.old).budget → AreWithinBudget (C.given chooser.new) (C.settings chooser.new).budget }
     ensures settings { C.settings chooser.new ≡ C.settings chooser.old }
 {
     let cert = right_certificate(ring, alloc, r, chooser)?;
     Ok(answer_of(cert))
-}
-
-// The answer that a certificate gives.
-fn answer_of(cert: Certificate) -> InverseAnswer
-    requires { IsOfLeftInverse cert ⊎ IsOfRightInverse cert }
-    ensures left { IsOfLeftInverse cert → cert ≡ left_certificate_of result }
-    ensures right { IsOfRightInverse cert → cert ≡ right_certificate_of result }
-{
-    match cert {
-        Certificate::LeftInverse { s } | Certificate::RightInverse { s } => {
-            InverseAnswer::Found(s)
-        }
-        Certificate::NoLeftInverse { unit, block } | Certificate::NoRightInverse { unit, block } =>
-            InverseAnswer::None(unit, block),
-        Certificate::Controllable { .. } => unreachable!(),
-        Certificate::AutonomousElement { .. } => unreachable!(),
-        Certificate::Kernel { .. } => unreachable!(),
-        Certificate::Resolution { .. } => unreachable!(),
-        Certificate::ExtZero { .. } => unreachable!(),
-        Certificate::ExtNonzero { .. } => unreachable!(),
-        Certificate::Halted { .. } => unreachable!(),
-    }
 }

@@ -11,7 +11,10 @@
 //! chooser: its answer is the one that the plan forms by the choices given, and a halt comes only where these choices lead
 //! the plan to it.
 //!
+//!  * `runs`: complete runs on stored matrices.
 //!  * `reductions`: rows reduced in order.
+//!  * `answer`: an inverse or none, and its certificates.
+//!  * `search`: the search for a left inverse, and the turn of an answer.
 //!  * `finding`: the certificates.
 //!  * `inverse`: the inverses.
 //!
@@ -19,10 +22,15 @@
 //! on `ore_check` for identities and plans, on `ore_cert` for certificates, and on `ore_groebner` for runs.
 #![tactic(auto)]
 
+pub mod answer;
 pub mod finding;
 pub mod inverse;
 pub mod reductions;
+pub mod runs;
+mod search;
 
+pub use answer::InverseAnswer;
 pub use finding::{left_certificate, right_certificate};
-pub use inverse::{InverseAnswer, left_inverse, right_inverse};
+pub use inverse::{left_inverse, right_inverse};
 pub use reductions::{Reductions, reduce_rows, reduce_units};
+pub use runs::run_on;

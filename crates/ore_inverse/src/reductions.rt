@@ -1,25 +1,25 @@
 //! Rows reduced one after another, up to the first of which something is left.
 
-ghost use Rattle.std.specs.Prelude.{◌≡◌, ◌<◌, ◌^◌, length, IfOk, IfErr};
+ghost use Rattle.std.specs.Prelude.{◌≡◌, ◌<◌, ◌^◌, [], length, IfOk, IfErr};
 ghost use Rattle.std.specs.List.{All};
 ghost use Rattle.ore_algebra.specs.Limits.{program};
-ghost use Rattle.ore_rational.proofs.FractionLaws.{rationals};
+ghost use Rattle.ore_rational.specs.Field.{rationals};
 ghost use Rattle.ore_monomial.specs.Gives.{Gives};
 ghost use Rattle.ore_monomial.specs.declared.stop.RingStop.TheVariants.{Memory};
-ghost use Rattle.ore_ring.specs.Belongs.{Belongs};
+ghost use Rattle.ore_ring.specs.Belongs.{AllBelong, Belongs};
 ghost use Rattle.ore_ring.specs.Within.{opposite};
 ghost use Rattle.ore_rows.specs.Arithmetic.{within};
 ghost use Rattle.ore_rows.specs.ReduceRows as plain;
 ghost use Rattle.ore_rows.specs.Rows.{identity_rows, zero_row};
 ghost use Rattle.ore_rows.specs.Stored.{rows_of, sums_of};
-ghost use Rattle.ore_rows.specs.StoredBasis.{AllBelong, monics};
+ghost use Rattle.ore_rows.specs.StoredBasis.{BasisBelongs, monics};
 ghost use Rattle.ore_division.specs.StoredWork.{work_of};
 ghost use Rattle.ore_inverse.specs.StoredReductions.{reductions_of, AreReductionsOf};
 
 use ore_division::{Reduced, reduce};
 use ore_monomial::{NoMemory, RingStop, Signature};
 use ore_ring::{Op, OreRing};
-use ore_rows::{Basis, Matrix, Row, identity, row_copy, unit_row};
+use ore_rows::{Basis, Matrix, Row, Steps, identity, row_copy, unit_row};
 use std::alloc::Global;
 
 /// What reducing rows in order gives.
@@ -46,8 +46,8 @@ pub fn reduce_rows<R: OreRing>(
 ) -> Result<Reductions, RingStop>
     requires cols { rows.now.cols ≡ basis.now.cols }
     requires few { basis.now.width < 2 ^ 63 }
-    requires rows_of { All (All (Belongs (R.sig ring.now))) rows.now.rows }
-    requires basis_of { AllBelong (R.sig ring.now) basis.now.items }
+    requires rows_of { All (AllBelong (R.sig ring.now)) rows.now.rows }
+    requires basis_of { BasisBelongs (R.sig ring.now) basis.now.items }
     ensures gives { Gives reductions_of result (plain.reduce_rows rationals (R.sig ring.now).order (within program (R.sig ring.now)) basis.now.width (monics basis.now) (rows_of rows.now)) }
     ensures of { IfOk result (AreReductionsOf (R.sig ring.now) basis.now.width) }
 {
@@ -76,7 +76,7 @@ pub fn reduce_units<R: OreRing>(
 ) -> Result<Reductions, RingStop>
     requires cols { n ≡ basis.now.cols }
     requires few { basis.now.width < 2 ^ 63 }
-    requires basis_of { AllBelong (R.sig ring.now) basis.now.items }
+    requires basis_of { BasisBelongs (R.sig ring.now) basis.now.items }
     ensures gives { Gives reductions_of result (plain.reduce_rows rationals (R.sig ring.now).order (within program (R.sig ring.now)) basis.now.width (monics basis.now) (identity_rows rationals n)) }
     ensures of { IfOk result (AreReductionsOf (R.sig ring.now) basis.now.width) }
 {
@@ -92,16 +92,28 @@ fn reduce_row<R: OreRing>(
     row: &Row,
 ) -> Result<Reduced, RingStop>
     requires width { length row.now ≡ basis.now.cols }
-    requires row_of { All (Belongs (R.sig ring.now)) row.now }
-    requires basis_of { AllBelong (R.sig ring.now) basis.now.items }
+    requires row_of { AllBelong (R.sig ring.now) row.now }
+    requires basis_of { BasisBelongs (R.sig ring.now) basis.now.items }
     ensures gives { Gives work_of result (plain.reduce_row rationals (R.sig ring.now).order (within program (R.sig ring.now)) basis.now.width (monics basis.now) (sums_of row.now)) }
-    ensures row_of { IfOk result (λ w. All (Belongs (R.sig ring.now)) w.row) }
-    ensures cofactor_of { IfOk result (λ w. All (Belongs (R.sig ring.now)) w.cofactor) }
+    ensures row_of { IfOk result (λ w. AllBelong (R.sig ring.now) w.row) }
+    ensures cofactor_of { IfOk result (λ w. AllBelong (R.sig ring.now) w.cofactor) }
     ensures cofactor_width { IfOk result (λ w. length w.cofactor ≡ basis.now.width) }
 {
     let copy = row_copy(ring, alloc, row)?;
     let zeros = zero_row(alloc, ring.signature(), basis.width())?;
     reduce(ring, alloc, basis, copy, zeros)
+}
+
+/// What is left of a row, as a row from which no steps are taken.
+pub fn without_steps(alloc: Global, rest: Reduced) -> Reduced
+    ensures row { result.row ≡ rest.row }
+    ensures steps { result.steps ≡ [] }
+{
+    Reduced {
+        row: rest.row,
+        cofactor: rest.cofactor,
+        steps: Steps::from_vec(Vec::new(alloc)),
+    }
 }
 
 /// The row of `n` zeros.
@@ -111,7 +123,7 @@ fn reduce_row<R: OreRing>(
 pub fn zero_row(alloc: Global, sig: &Signature, n: usize) -> Result<Row, NoMemory>
     ensures value { IfOk result (λ r. sums_of r ≡ zero_row rationals n) }
     ensures width { IfOk result (λ r. length r ≡ n) }
-    ensures of { IfOk result (All (Belongs sig.now)) }
+    ensures of { IfOk result (AllBelong sig.now) }
 {
     unit_row(alloc, sig, n, n)
 }
@@ -121,10 +133,10 @@ pub fn zero_row(alloc: Global, sig: &Signature, n: usize) -> Result<Row, NoMemor
 /// # Errors
 /// Want of memory.
 pub fn negated<R: OreRing>(ring: &R, alloc: Global, row: &Row) -> Result<Row, RingStop>
-    requires { All (Belongs (R.sig ring.now)) row.now }
+    requires { AllBelong (R.sig ring.now) row.now }
     ensures value { IfOk result (λ r. sums_of r ≡ plain.negated rationals (sums_of row.now)) }
     ensures width { IfOk result (λ r. length r ≡ length row.now) }
-    ensures of { IfOk result (All (Belongs (R.sig ring.now))) }
+    ensures of { IfOk result (AllBelong (R.sig ring.now)) }
     ensures memory { IfErr result (λ e. e ≡ Memory) }
 {
     let mut out = Vec::new(alloc);

@@ -1,33 +1,29 @@
 -- The code of a kernel's certificate follows the plan of that kernel.
 --     block_is                   the block of a run for its syzygies, by unit rows that are stored
---     memory_is, formed_is       there is no memory for the certificate of a kernel; it is formed, or an identity stops
 --     left_generators, right_generators     the generators as they stand in the certificate of the plan
 --     left_halted, right_halted  a plan halts where its search for the kernel does
 --     left_found, right_found    a kernel was found, and its certificate is left to form
---     certified, stopped         then the plan forms the certificate, or halts where an identity stops
+--     left_with                  the same with the block that the code makes
 --     right_on                   what the plans form is right
 use Rattle.std.proofs.Common.{◌≡◌, ℕ, Bool, List, length, IfOk, IfErr, sym, ap, ◌∙◌, subst}
 use Rattle.std.specs.List.{All}
 use Rattle.std.specs.declared.result.Result.{Result}
 use Rattle.std.specs.declared.result.Result.TheVariants.{Ok, Err}
-use Rattle.ore_algebra.specs.Limits.{program, Cause}
+use Rattle.ore_algebra.specs.Limits.{program}
 use Rattle.ore_course.specs.Choices.{Runner}
 use Rattle.ore_course.specs.Course.{◌>>=◌}
 use Rattle.ore_course.specs.Following.{Follows}
 use Rattle.ore_course.specs.Leading.{Rule}
-use Rattle.ore_course.proofs.Calls.{started, worked_last, called}
-use Rattle.ore_rational.proofs.FractionLaws.{rationals}
-use Rattle.ore_monomial.specs.Gives.{Gives}
+use Rattle.ore_course.proofs.Calls.{started, called}
+use Rattle.ore_rational.specs.Field.{rationals}
 use Rattle.ore_monomial.specs.Signature.{Signature}
-use Rattle.ore_monomial.specs.declared.stop.RingStop.{RingStop}
-use Rattle.ore_monomial.specs.declared.stop.RingStop.TheVariants.{Memory}
 use Rattle.ore_ring.specs.Belongs.{Belongs}
 use Rattle.ore_rows.specs.Rows.{identity_rows}
-use Rattle.ore_rows.specs.Shown.{Shown}
+use Rattle.ore_rows.specs.BasisLeads.{BasisLeads}
 use Rattle.ore_rows.specs.Stored.{OperatorMatrix, rows_of}
 use Rattle.ore_rows.specs.declared.choices.Choice.{Choice}
 use Rattle.ore_pairs.specs.Reached.{rule_of}
-use Rattle.ore_pairs.specs.Run.{State}
+use Rattle.ore_pairs.specs.Run.{RunState}
 use Rattle.ore_pairs.specs.Runner.{runner_within}
 use Rattle.ore_parts.specs.OfSignature.{MatrixOf}
 use Rattle.ore_parts.specs.declared.block.ExactBlock.{ExactBlock}
@@ -41,26 +37,23 @@ use Rattle.ore_blocks.specs.KernelCourse.{RunCourse, RightKernel, syzygies_of, k
 use Rattle.ore_blocks.proofs.Converted.{rows_count, wide_rows, rows_are_of}
 use Rattle.ore_groebner.specs.Choosing.{Settings}
 use Rattle.ore_groebner.specs.Courses.{last_of, FollowsTo, HaltsIn}
-use Rattle.ore_groebner.specs.Halting.{halt_of}
-use Rattle.ore_groebner.specs.Honest.{IsHonest}
+use Rattle.ore_groebner.specs.Honest.{IsHonestRun}
 use Rattle.ore_groebner.specs.declared.outcome.Finished.{Finished}
 use Rattle.ore_groebner.specs.declared.outcome.Halt.{Halt}
-use Rattle.ore_groebner.specs.declared.outcome.StopAt.TheVariants.{Forced}
-use Rattle.ore_groebner.proofs.EngineCalls.{work_halts_last, call_halts}
-use Rattle.ore_check.specs.Check.{check}
-use Rattle.ore_check.specs.PlanLaws.{IsRight}
-use Rattle.ore_check.specs.Plans.{stored, formed_as, certified as forming, kernel_left, kernel_right}
+use Rattle.ore_groebner.proofs.EngineCalls.{call_halts}
+use Rattle.ore_check.specs.PlanLaws.{IsCorrect}
+use Rattle.ore_check.specs.Plans.{stored, certified as forming, kernel_left, kernel_right}
 use Rattle.ore_check.proofs.FormedKernels.{kernel_left_right, kernel_right_right}
 use Rattle.ore_syzygy.specs.Kernels.{IsLeftKernel, IsRunOnAdjoint, right_answer}
-use Rattle.ore_syzygy.specs.RunBlock.{IsExactBlockOf}
+use Rattle.ore_syzygy.specs.RunBlock.{IsExactBlockOfRun}
 use Rattle.ore_syzygy.specs.declared.kernel.Kernel.{Kernel}
 use Rattle.ore_syzygy.proofs.HonestBlocks.{ordered-rows}
 use Rattle.ore_syzygy.proofs.RunKernels.{syzygies_width}
-use Rattle.ore_kernels.specs.KernelPlans.{kernel_course, kernel_of, IsKernelBlockOf, IsLeftToForm, IsFormedKernel}
+use Rattle.ore_kernels.specs.KernelPlans.{kernel_course, IsKernelBlockOf, IsLeftToForm}
 
 module _ (s : Signature) where
   pub block_is : (f : Finished) (units : OperatorMatrix) → units.cols ≡ length f.syzygies.rows → rows_of units ≡ identity_rows rationals (length f.syzygies.rows)
-      → (b : ExactBlock) → IsExactBlockOf s f units b → IsKernelBlockOf s f b
+      → (b : ExactBlock) → IsExactBlockOfRun s f units b → IsKernelBlockOf s f b
   block_is f units cols rows b h a choices honest = h a choices honest ∙ ap (λ (u : RowMatrix). exact_block_of s (plain a) (last_of f) u) same
     where
       count : length (rows_of f.syzygies) ≡ length f.syzygies.rows
@@ -69,19 +62,9 @@ module _ (s : Signature) where
       same : plain units ≡ record { cols = length (rows_of f.syzygies); rows = identity_rows rationals (length (rows_of f.syzygies)) }
       same = λ i. record { cols = (cols ∙ sym count) i; rows = (rows ∙ ap (identity_rows rationals) (sym count)) i }
 
-  -- ---- the certificate of a kernel
-
-  pub memory_is : (r : RowMatrix) (side : Side) (k : Kernel) (e : RingStop) → e ≡ Memory → IsFormedKernel s r side k (Err e)
-  memory_is r side k e h = subst (λ (x : RingStop). IsFormedKernel s r side k (Err x)) (sym h) (λ a choices honest. tt)
-
-  module _ (r : RowMatrix) (side : Side) (k : Kernel) (block : ExactBlock) (is : IsKernelBlockOf s k.run block) (result : Result Certificate RingStop) where
-    pub formed_is : Gives (λ c. c) result (formed_as (certificate.Kernel side k.generators block) (check program s r (certificate.Kernel side k.generators block) tt)) → IsFormedKernel s r side k result
-    formed_is h a choices honest =
-        subst (λ (b : ExactBlock). Gives (λ c. c) result (formed_as (certificate.Kernel side k.generators b) (check program s r (certificate.Kernel side k.generators b) tt))) (is a choices honest) h
-
   -- ---- the generators
 
-  left_generators : (f : Finished) (a : OperatorMatrix) (choices : List Choice) → IsHonest s a choices f → stored s (syzygies_of (plain a) (last_of f)) ≡ f.syzygies
+  left_generators : (f : Finished) (a : OperatorMatrix) (choices : List Choice) → IsHonestRun s a choices f → stored s (syzygies_of (plain a) (last_of f)) ≡ f.syzygies
   left_generators f a choices h = λ i. record { cols = sym (syzygies_width s f a choices h) i; rows = ordered-rows s f.syzygies.rows h.syzygies_of i }
 
   right_generators : (m : OperatorMatrix) → All (All (Belongs s)) m.rows → stored s (plain m) ≡ m
@@ -89,15 +72,15 @@ module _ (s : Signature) where
 
   -- ---- the plans
 
-  module _ (allows : Shown → List (ℕ × ℕ) → Choice → Bool) (allows_spent : Shown → List (ℕ × ℕ) → Bool) where
-    abbrev runner : Runner (State rationals) Choice
+  module _ (allows : BasisLeads → List (ℕ × ℕ) → Choice → Bool) (allows_spent : BasisLeads → List (ℕ × ℕ) → Bool) where
+    abbrev runner : Runner (RunState rationals) Choice
     runner = runner_within program s
 
-    abbrev rule : Rule (State rationals) Choice
+    abbrev rule : Rule (RunState rationals) Choice
     rule = rule_of s allows allows_spent
 
     module _ (r : RowMatrix) (before : List (List Choice)) where
-      abbrev left_rest : State rationals → RunCourse Certificate
+      abbrev left_rest : RunState rationals → RunCourse Certificate
       left_rest a = forming program s r (certificate.Kernel Left (stored s (syzygies_of r a)) (kernel_block s r a)) tt
 
       left_begun : Follows runner rule (kernel_left program s r) before before (run_on program s r >>= left_rest)
@@ -129,7 +112,7 @@ module _ (s : Signature) where
         right_halted is h = subst (λ (at : Side). IfErr result (HaltsIn s allows allows_spent (kernel_course at s r) before given settings)) (sym is) (right_halts given settings result h)
 
     module _ (r : OperatorMatrix) (before given : List (List Choice)) (choices : List Choice) where
-      left_ends : (result : Result Kernel Halt) → IfOk result (IsLeftKernel s r) → IfOk result (λ k. IsHonest s r choices k.run)
+      left_ends : (result : Result Kernel Halt) → IfOk result (IsLeftKernel s r) → IfOk result (λ k. IsHonestRun s r choices k.run)
           → IfOk result (λ k. FollowsTo s allows allows_spent (run_on program s (plain r)) before given (last_of k.run))
           → IfOk result (IsLeftToForm s allows allows_spent Left (plain r) before given)
       left_ends (Ok k) kernel honest h = (
@@ -156,7 +139,7 @@ module _ (s : Signature) where
       right_ends (Err halt) of honest h = tt
 
       module _ (side : Side) (result : Result Kernel Halt) where
-        pub left_found : side ≡ Left → IfOk result (IsLeftKernel s r) → IfOk result (λ k. IsHonest s r choices k.run)
+        pub left_found : side ≡ Left → IfOk result (IsLeftKernel s r) → IfOk result (λ k. IsHonestRun s r choices k.run)
             → IfOk result (λ k. FollowsTo s allows allows_spent (run_on program s (plain r)) before given (last_of k.run))
             → IfOk result (IsLeftToForm s allows allows_spent side (plain r) before given)
         left_found is kernel honest h = subst (λ (at : Side). IfOk result (IsLeftToForm s allows allows_spent at (plain r) before given)) (sym is) (left_ends result kernel honest h)
@@ -166,17 +149,12 @@ module _ (s : Signature) where
             → IfOk result (IsLeftToForm s allows allows_spent side (plain r) before given)
         right_found is of honest h = subst (λ (at : Side). IfOk result (IsLeftToForm s allows allows_spent at (plain r) before given)) (sym is) (right_ends result of honest h)
 
-    module _ (r : RowMatrix) (side : Side) (k : Kernel) (before given : List (List Choice)) (left : IsLeftToForm s allows allows_spent side r before given k) where
-      abbrev formed : Result Certificate Cause
-      formed = formed_as (kernel_of s side k (plain left.0)) (check program s r (kernel_of s side k (plain left.0)) tt)
-
-      pub certified : (c : Certificate) → IsFormedKernel s r side k (Ok c) → FollowsTo s allows allows_spent (kernel_course side s r) before given c
-      certified c h = worked_last runner rule formed c (h left.0 left.1 left.2) left.3
-
-      pub stopped : (settings : Settings) (e : RingStop) → IsFormedKernel s r side k (Err e) → HaltsIn s allows allows_spent (kernel_course side s r) before given settings (halt_of e Forced)
-      stopped settings e h = work_halts_last s allows allows_spent given settings formed e (h left.0 left.1 left.2) left.3
+    pub left_with : (r : RowMatrix) (side : Side) (k : Kernel) (before given : List (List Choice)) → IsLeftToForm s allows allows_spent side r before given k → (block : ExactBlock) → IsKernelBlockOf s k.run block
+        → Follows runner rule (kernel_course side s r) before given (forming program s r (certificate.Kernel side k.generators block) tt)
+    left_with r side k before given (a, choices, honest, left) block is =
+        subst (λ (b : ExactBlock). Follows runner rule (kernel_course side s r) before given (forming program s r (certificate.Kernel side k.generators b) tt)) (sym (is a choices honest)) left
 
     -- what a plan forms is right
-    pub right_on : (side : Side) (r : OperatorMatrix) → MatrixOf s r → (before given : List (List Choice)) (c : Certificate) → FollowsTo s allows allows_spent (kernel_course side s (plain r)) before given c → IsRight s (plain r) c
+    pub right_on : (side : Side) (r : OperatorMatrix) → MatrixOf s r → (before given : List (List Choice)) (c : Certificate) → FollowsTo s allows allows_spent (kernel_course side s (plain r)) before given c → IsCorrect s (plain r) c
     right_on Left r of before given c h = kernel_left_right s (plain r) (wide_rows s r of) (rows_are_of s r of) h.added c h.leads
     right_on Right r of before given c h = kernel_right_right s (plain r) (wide_rows s r of) (rows_are_of s r of) h.added c h.leads

@@ -4,15 +4,11 @@
 --     IsKernelBlockOf       an exact block is that of a run for its own syzygies
 --     kernel_of             the certificate of a kernel that a run on some matrix found
 --     IsLeftToForm          the choices given since lead the plan to where that certificate is left to form
---     IsFormedKernel        that certificate is formed, or an operation stops
 use Rattle.std.specs.Prelude.{◌≡◌, ℕ, Bool, List}
-use Rattle.std.specs.declared.result.Result.{Result}
 use Rattle.ore_algebra.specs.Limits.{program}
 use Rattle.ore_course.specs.Following.{Follows}
-use Rattle.ore_monomial.specs.Gives.{Gives}
 use Rattle.ore_monomial.specs.Signature.{Signature}
-use Rattle.ore_monomial.specs.declared.stop.RingStop.{RingStop}
-use Rattle.ore_rows.specs.Shown.{Shown}
+use Rattle.ore_rows.specs.BasisLeads.{BasisLeads}
 use Rattle.ore_rows.specs.Stored.{OperatorMatrix}
 use Rattle.ore_rows.specs.declared.choices.Choice.{Choice}
 use Rattle.ore_pairs.specs.Reached.{rule_of}
@@ -27,10 +23,9 @@ use Rattle.ore_cert.specs.declared.report.Plan.TheVariants.{KernelLeft, KernelRi
 use Rattle.ore_blocks.specs.CheckBlock.{RowMatrix, plain}
 use Rattle.ore_blocks.specs.KernelCourse.{RunCourse, kernel_block}
 use Rattle.ore_groebner.specs.Courses.{last_of}
-use Rattle.ore_groebner.specs.Honest.{IsHonest}
+use Rattle.ore_groebner.specs.Honest.{IsHonestRun}
 use Rattle.ore_groebner.specs.declared.outcome.Finished.{Finished}
-use Rattle.ore_check.specs.Check.{check}
-use Rattle.ore_check.specs.Plans.{formed_as, certified, kernel_left, kernel_right}
+use Rattle.ore_check.specs.Plans.{certified, kernel_left, kernel_right}
 use Rattle.ore_syzygy.specs.declared.kernel.Kernel.{Kernel}
 
 -- as a report names it
@@ -46,19 +41,14 @@ kernel_course Right s r = kernel_right program s r
 module _ (s : Signature) where
   -- on whatever matrix the run is
   abbrev pub IsKernelBlockOf : Finished → ExactBlock → Type 0
-  IsKernelBlockOf f b = (a : OperatorMatrix) (choices : List Choice) → IsHonest s a choices f → b ≡ kernel_block s (plain a) (last_of f)
+  IsKernelBlockOf f b = (a : OperatorMatrix) (choices : List Choice) → IsHonestRun s a choices f → b ≡ kernel_block s (plain a) (last_of f)
 
   -- the generators, with the block of the run on a
   abbrev pub kernel_of : Side → Kernel → RowMatrix → Certificate
   kernel_of side k a = certificate.Kernel side k.generators (kernel_block s a (last_of k.run))
 
   -- the run is on some matrix, and forming the certificate is all that is left of the plan for r
-  abbrev pub IsLeftToForm : (Shown → List (ℕ × ℕ) → Choice → Bool) → (Shown → List (ℕ × ℕ) → Bool) → Side → RowMatrix → (before given : List (List Choice)) → Kernel → Type 0
+  abbrev pub IsLeftToForm : (BasisLeads → List (ℕ × ℕ) → Choice → Bool) → (BasisLeads → List (ℕ × ℕ) → Bool) → Side → RowMatrix → (before given : List (List Choice)) → Kernel → Type 0
   IsLeftToForm allows allows_spent side r before given k =
-      (a : OperatorMatrix) × (choices : List Choice) × IsHonest s a choices k.run
+      (a : OperatorMatrix) × (choices : List Choice) × IsHonestRun s a choices k.run
       × Follows (runner_within program s) (rule_of s allows allows_spent) (kernel_course side s r) before given (certified program s r (kernel_of side k (plain a)) tt)
-
-  -- on whatever matrix the run is, for the matrix r
-  abbrev pub IsFormedKernel : RowMatrix → Side → Kernel → Result Certificate RingStop → Type 0
-  IsFormedKernel r side k result =
-      (a : OperatorMatrix) (choices : List Choice) → IsHonest s a choices k.run → Gives (λ c. c) result (formed_as (kernel_of side k (plain a)) (check program s r (kernel_of side k (plain a)) tt))

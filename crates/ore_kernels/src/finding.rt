@@ -2,19 +2,18 @@
 
 ghost use Rattle.std.specs.Prelude.{◌≡◌, IfOk, IfErr};
 ghost use Rattle.std.specs.List.{All};
-ghost use Rattle.ore_ring.specs.Belongs.{Belongs};
+ghost use Rattle.ore_ring.specs.Belongs.{AllBelong};
 ghost use Rattle.ore_blocks.specs.CheckBlock.{plain};
-ghost use Rattle.ore_check.specs.PlanLaws.{IsRight};
-ghost use Rattle.ore_groebner.specs.Choosing.{AreAfforded};
+ghost use Rattle.ore_check.specs.PlanLaws.{IsCorrect};
+ghost use Rattle.ore_groebner.specs.Choosing.{AreWithinBudget};
 ghost use Rattle.ore_groebner.specs.Courses.{FollowsTo, HaltsIn};
-ghost use Rattle.ore_kernels.specs.KernelPlans.{kernel_course, IsFormedKernel, IsLeftToForm};
+ghost use Rattle.ore_kernels.specs.KernelPlans.{kernel_course, IsLeftToForm};
 ghost use Rattle.ore_syzygy.specs.RunBlock.{HasRun};
 
 use crate::block::kernel_block;
 use ore_cert::{Certificate, Side};
-use ore_check::form_identities;
+use ore_check::certify;
 use ore_groebner::{Chooser, Halt};
-use ore_monomial::RingStop;
 use ore_ring::OreRing;
 use ore_rows::Matrix;
 use ore_syzygy::{Kernel, left_kernel, right_kernel};
@@ -34,18 +33,26 @@ pub fn kernel_certificate<R: OreRing, C: Chooser>(
     r: &Matrix,
     chooser: &mut C,
 ) -> Result<Certificate, Halt>
-    requires { All (All (Belongs (R.sig ring.now))) r.now.rows }
+    requires { All (AllBelong (R.sig ring.now)) r.now.rows }
     // It is true, and the check accepts it.
-    ensures right { IfOk result (IsRight (R.sig ring.now) (plain r.now)) }
+    ensures correct { IfOk result (IsCorrect (R.sig ring.now) (plain r.now)) }
     // The plan forms it by the choices given, or halts so.
     ensures answered { IfOk result (FollowsTo (R.sig ring.now) C.allows C.allows_spent (kernel_course side (R.sig ring.now) (plain r.now)) (C.given chooser.old) (C.given chooser.new)) }
     ensures halts { IfErr result (HaltsIn (R.sig ring.now) C.allows C.allows_spent (kernel_course side (R.sig ring.now) (plain r.now)) (C.given chooser.old) (C.given chooser.new) (C.settings chooser.new)) }
-    ensures afforded { AreAfforded (C.given chooser.old) (C.settings chooser.old).budget → AreAfforded (C.given chooser.new) (C.settings chooser.new).budget }
+    ensures within_budget { AreWithinBudget (C.given chooser.old) (C.settings chooser.old).budget → AreWithinBudget (C.given chooser.new) (C.settings chooser.new).budget }
     ensures settings { C.settings chooser.new ≡ C.settings chooser.old }
 {
     let _cols = r.cols();
     let kernel = find_kernel(ring, alloc, side, r, chooser)?;
-    Ok(certify(ring, alloc, side, r, kernel)?)
+    let Kernel { generators, run } = kernel;
+    let _columns = generators.cols();
+    let (_, block) = kernel_block(ring, alloc, run)?;
+    let certificate = Certificate::Kernel {
+        side,
+        generators,
+        block,
+    };
+    Ok(certify(ring, alloc, r, certificate)?)
 }
 
 // The kernel, which the plan has found before it forms the certificate.
@@ -56,41 +63,16 @@ fn find_kernel<R: OreRing, C: Chooser>(
     r: &Matrix,
     chooser: &mut C,
 ) -> Result<Kernel, Halt>
-    requires { All (All (Belongs (R.sig ring.now))) r.now.rows }
+    requires { All (AllBelong (R.sig ring.now)) r.now.rows }
     ensures left { IfOk result (IsLeftToForm (R.sig ring.now) C.allows C.allows_spent side (plain r.now) (C.given chooser.old) (C.given chooser.new)) }
-    ensures of { IfOk result (λ k. All (All (Belongs (R.sig ring.now))) k.generators.rows) }
+    ensures of { IfOk result (λ k. All (AllBelong (R.sig ring.now)) k.generators.rows) }
     ensures run { IfOk result (λ k. HasRun (R.sig ring.now) k.run) }
     ensures halts { IfErr result (HaltsIn (R.sig ring.now) C.allows C.allows_spent (kernel_course side (R.sig ring.now) (plain r.now)) (C.given chooser.old) (C.given chooser.new) (C.settings chooser.new)) }
-    ensures afforded { AreAfforded (C.given chooser.old) (C.settings chooser.old).budget → AreAfforded (C.given chooser.new) (C.settings chooser.new).budget }
+    ensures within_budget { AreWithinBudget (C.given chooser.old) (C.settings chooser.old).budget → AreWithinBudget (C.given chooser.new) (C.settings chooser.new).budget }
     ensures settings { C.settings chooser.new ≡ C.settings chooser.old }
 {
     match side {
         Side::Left => left_kernel(ring, alloc, r, chooser),
         Side::Right => right_kernel(ring, alloc, r, chooser),
     }
-}
-
-// The certificate of a kernel of the matrix `r`, once its identities are formed.
-fn certify<R: OreRing>(
-    ring: &R,
-    alloc: Global,
-    side: Side,
-    r: &Matrix,
-    kernel: Kernel,
-) -> Result<Certificate, RingStop>
-    requires of { All (All (Belongs (R.sig ring.now))) r.now.rows }
-    requires generators_of { All (All (Belongs (R.sig ring.now))) kernel.generators.rows }
-    requires run { HasRun (R.sig ring.now) kernel.run }
-    ensures { IsFormedKernel (R.sig ring.now) (plain r.now) side kernel result }
-{
-    let block = kernel_block(ring, alloc, &kernel.run)?;
-    let generators = kernel.generators;
-    let _columns = generators.cols();
-    let certificate = Certificate::Kernel {
-        side,
-        generators,
-        block,
-    };
-    form_identities(ring, alloc, r, &certificate)?;
-    Ok(certificate)
 }

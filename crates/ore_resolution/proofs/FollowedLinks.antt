@@ -1,7 +1,6 @@
 -- The code that finds links follows its course.
 --     last_pushed, before_pushed     the last two matrices with one link more
 --     fits_pushed            the last of them has a column for each row of the one before
---     run_of                 a run on a matrix is one on some matrix
 --     link_is                the link that a run makes, as it is stored
 --     begun, taken           before the first link; before one link more
 --     link_halts, link_found that link halts; it is found
@@ -18,13 +17,13 @@ use Rattle.ore_course.specs.Course.{◌>>=◌}
 use Rattle.ore_course.specs.Following.{Follows}
 use Rattle.ore_course.specs.Leading.{Rule}
 use Rattle.ore_course.proofs.Calls.{started, called, called_last}
-use Rattle.ore_rational.proofs.FractionLaws.{rationals}
+use Rattle.ore_rational.specs.Field.{rationals}
 use Rattle.ore_monomial.specs.Signature.{Signature}
-use Rattle.ore_rows.specs.Shown.{Shown}
+use Rattle.ore_rows.specs.BasisLeads.{BasisLeads}
 use Rattle.ore_rows.specs.Stored.{OperatorMatrix, rows_of}
 use Rattle.ore_rows.specs.declared.choices.Choice.{Choice}
 use Rattle.ore_pairs.specs.Reached.{rule_of}
-use Rattle.ore_pairs.specs.Run.{State}
+use Rattle.ore_pairs.specs.Run.{RunState}
 use Rattle.ore_pairs.specs.Runner.{runner_within}
 use Rattle.ore_parts.specs.OfSignature.{MatrixOf}
 use Rattle.ore_parts.specs.declared.block.ExactBlock.{ExactBlock}
@@ -37,20 +36,19 @@ use Rattle.ore_blocks.specs.KernelCourse.{RunCourse, syzygies_of, run_on}
 use Rattle.ore_blocks.proofs.Converted.{wide_rows, rows_are_of}
 use Rattle.ore_groebner.specs.Choosing.{Settings}
 use Rattle.ore_groebner.specs.Courses.{last_of, FollowsTo, HaltsIn}
-use Rattle.ore_groebner.specs.Honest.{IsHonest}
+use Rattle.ore_groebner.specs.Honest.{IsHonestRun}
 use Rattle.ore_groebner.specs.declared.outcome.Finished.{Finished}
 use Rattle.ore_groebner.specs.declared.outcome.Halt.{Halt}
 use Rattle.ore_groebner.proofs.EngineCalls.{call_halts, call_halts_last}
 use Rattle.ore_check.specs.InnerContracts.{matrix_before}
-use Rattle.ore_check.specs.PlanLaws.{IsRight}
+use Rattle.ore_check.specs.PlanLaws.{IsCorrect}
 use Rattle.ore_check.specs.Plans.{Resolution, next_link, links, resolution, resolve, ext, certified}
 use Rattle.ore_check.proofs.FormedExtensions.{ext_right}
 use Rattle.ore_check.proofs.FormedResolutions.{resolve_right, stored_back}
 use Rattle.ore_kernels.specs.KernelPlans.{IsKernelBlockOf}
 use Rattle.ore_inverse.proofs.FoundInverses.{stored_is}
-use Rattle.ore_syzygy.specs.RunBlock.{HasRun}
 use Rattle.ore_syzygy.proofs.RunKernels.{syzygies_width}
-use Rattle.ore_resolution.specs.Stored.{resolution_of, link_of, extension, IsNextLink, IsRunOn}
+use Rattle.ore_resolution.specs.Stored.{resolution_of, link_of, extension, IsNextLink}
 
 pub last_pushed : (r : OperatorMatrix) (ks : List Link) (x : Link) → matrix_before r (ks ++ x ∷ []) (length (ks ++ x ∷ [])) ≡ x.l
 unfolding matrix_before
@@ -72,13 +70,10 @@ fits_pushed r ks x more pushed last last_is fits =
     (ap (λ (m : OperatorMatrix). m.cols) (last_pushed r ks x) ∙ fits ∙ ap (λ (m : OperatorMatrix). length m.rows) (last_is ∙ sym (before_pushed r ks x)))
 
 module _ (s : Signature) where
-  pub run_of : (a : OperatorMatrix) (f : Finished) → IsRunOn s a f → HasRun s f
-  run_of a f run = record { matrix = a; choices = run.choices; honest = run.honest; matrix_of = run.matrix_of; few_rows = run.few_rows; few_cols = run.few_cols }
-
-  pub link_is : (a : OperatorMatrix) (f : Finished) (choices : List Choice) (block : ExactBlock) → IsHonest s a choices f → IsKernelBlockOf s f block → record { l = f.syzygies; block = block } ≡ link_of s (plain a) (last_of f)
+  pub link_is : (a : OperatorMatrix) (f : Finished) (choices : List Choice) (block : ExactBlock) → IsHonestRun s a choices f → IsKernelBlockOf s f block → record { l = f.syzygies; block = block } ≡ link_of s (plain a) (last_of f)
   link_is a f choices block honest shown = λ i. record { l = sym (stored_is s f.syzygies (length (rows_of a)) honest.syzygies_of (syzygies_width s f a choices honest)) i; block = shown a choices honest i }
 
-  next_is : (r : OperatorMatrix) (ks : List Link) (st : State rationals)
+  next_is : (r : OperatorMatrix) (ks : List Link) (st : RunState rationals)
       → next_link s (resolution_of r ks) st ≡ resolution_of r (ks ++ link_of s (plain (matrix_before r ks (length ks))) st ∷ [])
   next_is r ks st =
       let link = link_of s (plain (matrix_before r ks (length ks))) st in
@@ -88,11 +83,11 @@ module _ (s : Signature) where
         last = (sym (stored_back s (syzygies_of (plain (matrix_before r ks (length ks))) st)) ∙ ap plain (sym (last_pushed r ks link))) i;
       }
 
-  module _ (allows : Shown → List (ℕ × ℕ) → Choice → Bool) (allows_spent : Shown → List (ℕ × ℕ) → Bool) where
-    abbrev runner : Runner (State rationals) Choice
+  module _ (allows : BasisLeads → List (ℕ × ℕ) → Choice → Bool) (allows_spent : BasisLeads → List (ℕ × ℕ) → Bool) where
+    abbrev runner : Runner (RunState rationals) Choice
     runner = runner_within program s
 
-    abbrev rule : Rule (State rationals) Choice
+    abbrev rule : Rule (RunState rationals) Choice
     rule = rule_of s allows allows_spent
 
     module _ (r : OperatorMatrix) (n : ℕ) (before : List (List Choice)) where
@@ -115,7 +110,7 @@ module _ (s : Signature) where
           (subst (λ m. Follows runner rule course before given (links program s m (resolution_of r ks))) (let none : n - k ≡ 0 = omega (arith, h) in none) led)
 
       module _ (mid : List (List Choice)) (k : ℕ) (ks : List Link) (less : k < n) (led : Follows runner rule course before mid (links program s (n - k) (resolution_of r ks))) (last : OperatorMatrix) (last_is : last ≡ matrix_before r ks (length ks)) where
-        abbrev more : State rationals → RunCourse Resolution
+        abbrev more : RunState rationals → RunCourse Resolution
         more st = links program s (n - (k + 1)) (next_link s (resolution_of r ks) st)
 
         taken : Follows runner rule course before mid (run_on program s (plain (matrix_before r ks (length ks))) >>= more)
@@ -172,8 +167,8 @@ module _ (s : Signature) where
       -- ---- what they form
 
       module _ (few : IsLength n) (of : MatrixOf s r) (given : List (List Choice)) (c : Certificate) where
-        pub resolved_right : FollowsTo s allows allows_spent (resolve program s n (plain r)) before given c → IsRight s (plain r) c
+        pub resolved_right : FollowsTo s allows allows_spent (resolve program s n (plain r)) before given c → IsCorrect s (plain r) c
         resolved_right h = resolve_right s n few (plain r) (wide_rows s r of) (rows_are_of s r of) h.added c h.leads
 
-        pub extended_right : FollowsTo s allows allows_spent (ext program s n (plain r)) before given c → IsRight s (plain r) c
+        pub extended_right : FollowsTo s allows allows_spent (ext program s n (plain r)) before given c → IsCorrect s (plain r) c
         extended_right h = ext_right s n few (plain r) (wide_rows s r of) (rows_are_of s r of) h.added c h.leads

@@ -2,30 +2,27 @@
 --     resolution_of      the resolution that links of a matrix are: the last two matrices stand before and in the last link
 --     link_of            the link that the last state of a run makes
 --     IsNextLink         the choices given since lead a run to the state that makes this link
---     IsRunOn            a run on a stored matrix
+--     adjoint_course     a run on the transposed adjoint of a matrix
 --     extension, extension_ends     what plan ext does behind the links
 --     IsResolutionOf     a certificate with so many links
 --     IsExtensionOf      a certificate of the extension module at this place
-use Rattle.std.specs.Prelude.{◌≡◌, ℕ, ◌-◌, ◌<◌, ◌^◌, Bool, List, [], length}
+use Rattle.std.specs.Prelude.{◌≡◌, ℕ, ◌-◌, Bool, List, [], length}
 use Rattle.ore_algebra.specs.Limits.{program}
-use Rattle.ore_course.specs.Course.{◌>>=◌, forced}
-use Rattle.ore_rational.proofs.FractionLaws.{rationals}
+use Rattle.ore_course.specs.Course.{Done, ◌>>=◌, forced}
+use Rattle.ore_rational.specs.Field.{rationals}
 use Rattle.ore_monomial.specs.Signature.{Signature}
 use Rattle.ore_rows.specs.ReduceRows.{Reductions, AllReduce, LeavesRest}
-use Rattle.ore_rows.specs.Shown.{Shown}
+use Rattle.ore_rows.specs.BasisLeads.{BasisLeads}
 use Rattle.ore_rows.specs.Stored.{OperatorMatrix}
 use Rattle.ore_rows.specs.declared.choices.Choice.{Choice}
-use Rattle.ore_pairs.specs.Run.{State}
+use Rattle.ore_pairs.specs.Run.{RunState}
 use Rattle.ore_parts.specs.declared.block.Link.{Link}
 use Rattle.ore_cert.specs.declared.certificate.Certificate.{Certificate}
 use Rattle.ore_cert.specs.declared.certificate.Certificate.TheVariants.{Resolution as Resolved, ExtZero, ExtNonzero}
 use Rattle.ore_blocks.specs.BlockOfRun.{ordered_row, exact_block_of, outside_block_of}
 use Rattle.ore_blocks.specs.CheckBlock.{RowMatrix, plain}
 use Rattle.ore_blocks.specs.KernelCourse.{RunCourse, syzygies_of, kernel_block, run_on, transposed_adjoint_within}
-use Rattle.ore_parts.specs.OfSignature.{MatrixOf}
 use Rattle.ore_groebner.specs.Courses.{FollowsTo}
-use Rattle.ore_groebner.specs.Honest.{IsHonest}
-use Rattle.ore_groebner.specs.declared.outcome.Finished.{Finished}
 use Rattle.ore_check.specs.InnerContracts.{matrix_before}
 use Rattle.ore_check.specs.Plans.{Resolution, stored, certified, reduced}
 
@@ -46,23 +43,22 @@ IsExtensionOf n other = ⊥
 
 module _ (s : Signature) where
   -- its matrix has the syzygies of the run as rows
-  abbrev pub link_of : RowMatrix → State rationals → Link
+  abbrev pub link_of : RowMatrix → RunState rationals → Link
   link_of a st = record { l = stored s (syzygies_of a st); block = kernel_block s a st }
 
   -- on the matrix before it
-  abbrev pub IsNextLink : (Shown → List (ℕ × ℕ) → Choice → Bool) → (Shown → List (ℕ × ℕ) → Bool) → RowMatrix → (before given : List (List Choice)) → Link → Type 0
-  IsNextLink allows allows_spent a before given k = (st : State rationals) × FollowsTo s allows allows_spent (run_on program s a) before given st × (k ≡ link_of a st)
+  abbrev pub IsNextLink : (BasisLeads → List (ℕ × ℕ) → Choice → Bool) → (BasisLeads → List (ℕ × ℕ) → Bool) → RowMatrix → (before given : List (List Choice)) → Link → Type 0
+  IsNextLink allows allows_spent a before given k = (st : RunState rationals) × FollowsTo s allows allows_spent (run_on program s a) before given st × (k ≡ link_of a st)
 
-  -- some choices lead on the matrix to it; as any stored one, the matrix has fewer than 2^63 rows and columns
-  pub record IsRunOn (a : OperatorMatrix) (f : Finished) : Type 0 where
-    pub choices : List Choice
-    pub honest : IsHonest s a choices f
-    pub matrix_of : MatrixOf s a
-    pub few_rows : length a.rows < 2 ^ 63
-    pub few_cols : a.cols < 2 ^ 63
+  -- a run on the transposed adjoint of a matrix, and its last state
+  unfoldable pub adjoint_course : RowMatrix → RunCourse (RowMatrix × RunState rationals)
+  adjoint_course m = do
+    adjoint ← forced (transposed_adjoint_within program s m)
+    last ← run_on program s adjoint
+    Done (adjoint, last)
 
   -- the certificate: what is left of the elements decides which one
-  abbrev pub extension_ends : RowMatrix → Resolution → RowMatrix → State rationals → RowMatrix → State rationals → Reductions rationals → RunCourse Certificate
+  abbrev pub extension_ends : RowMatrix → Resolution → RowMatrix → RunState rationals → RowMatrix → RunState rationals → Reductions rationals → RunCourse Certificate
   extension_ends r resolved last e before f elements = elim elements [
     | AllReduce combinations ↦ certified program s r (ExtZero resolved.links (exact_block_of s last e (record { cols = length before.rows; rows = combinations }))) tt
     | LeavesRest n w ↦ certified program s r (ExtNonzero resolved.links (ordered_row s.order w.row) (outside_block_of s before f [] w.row)) tt

@@ -10,24 +10,22 @@
 //! `ore_check/specs/Plans.antt`) by the choices of a chooser: its answer is the one that the plan forms by the choices
 //! given, and a halt comes only where these choices lead the plan to it.
 //!
-//!  * `runs`: complete runs.
 //!  * `links`: the links of a resolution.
-//!  * `certify`: the identities of a certificate.
 //!  * `resolution`: resolutions.
+//!  * `elements`: what decides whether an extension module is zero.
 //!  * `extension`: extension modules.
 //!  * `laws`: what extension modules say of torsion.
 //!
-//! The crate stands on `ore_syzygy` for blocks, on `ore_kernels` for the block of a kernel, on `ore_inverse` for rows
-//! reduced in order, on `ore_adjoint` for transposed adjoints, on `ore_check` for identities and plans, on `ore_cert`
+//! The crate stands on `ore_syzygy` for blocks, on `ore_kernels` for the block of a kernel, on `ore_inverse` for runs and
+//! rows reduced in order, on `ore_adjoint` for transposed adjoints, on `ore_check` for identities and plans, on `ore_cert`
 //! for certificates, and on `ore_groebner` for runs.
 #![tactic(auto)]
 
-mod certify;
+mod elements;
 pub mod extension;
 pub mod laws;
 mod links;
 pub mod resolution;
-mod runs;
 
 pub use extension::ext;
 pub use resolution::resolve;

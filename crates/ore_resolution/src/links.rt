@@ -3,19 +3,19 @@
 ghost use Rattle.std.specs.Prelude.{◌≡◌, ◌≤◌, ◌-◌, length, IfOk, IfErr};
 ghost use Rattle.std.specs.List.{All};
 ghost use Rattle.ore_algebra.specs.Limits.{program};
-ghost use Rattle.ore_ring.specs.Belongs.{Belongs};
+ghost use Rattle.ore_ring.specs.Belongs.{AllBelong};
 ghost use Rattle.ore_parts.specs.OfSignature.{IsLinkOf};
 ghost use Rattle.ore_blocks.specs.CheckBlock.{plain};
 ghost use Rattle.ore_blocks.specs.KernelCourse.{run_on};
-ghost use Rattle.ore_groebner.specs.Choosing.{AreAfforded};
+ghost use Rattle.ore_groebner.specs.Choosing.{AreWithinBudget};
 ghost use Rattle.ore_groebner.specs.Courses.{FollowsTo, HaltsIn};
 ghost use Rattle.ore_check.specs.InnerContracts.{matrix_before};
 ghost use Rattle.ore_check.specs.Plans.{resolution};
 ghost use Rattle.ore_resolution.specs.Stored.{resolution_of, IsNextLink};
 
-use crate::runs::run_on;
 use ore_cert::{Link, Links};
 use ore_groebner::{Chooser, Halt};
+use ore_inverse::run_on;
 use ore_kernels::block::kernel_block;
 use ore_ring::OreRing;
 use ore_rows::Matrix;
@@ -32,13 +32,13 @@ pub fn find_links<R: OreRing, C: Chooser>(
     count: u8,
     chooser: &mut C,
 ) -> Result<Links, Halt>
-    requires { All (All (Belongs (R.sig ring.now))) r.now.rows }
+    requires { All (AllBelong (R.sig ring.now)) r.now.rows }
     ensures of { IfOk result (All (IsLinkOf (R.sig ring.now))) }
     ensures many { IfOk result (λ ks. length ks ≡ count) }
     ensures fits { IfOk result (λ ks. 1 ≤ length ks → (matrix_before r.now ks (length ks)).cols ≡ length (matrix_before r.now ks (length ks - 1)).rows) }
     ensures answered { IfOk result (λ ks. FollowsTo (R.sig ring.now) C.allows C.allows_spent (resolution program (R.sig ring.now) count (plain r.now)) (C.given chooser.old) (C.given chooser.new) (resolution_of r.now ks)) }
     ensures halts { IfErr result (HaltsIn (R.sig ring.now) C.allows C.allows_spent (resolution program (R.sig ring.now) count (plain r.now)) (C.given chooser.old) (C.given chooser.new) (C.settings chooser.new)) }
-    ensures afforded { AreAfforded (C.given chooser.old) (C.settings chooser.old).budget → AreAfforded (C.given chooser.new) (C.settings chooser.new).budget }
+    ensures within_budget { AreWithinBudget (C.given chooser.old) (C.settings chooser.old).budget → AreWithinBudget (C.given chooser.new) (C.settings chooser.new).budget }
     ensures settings { C.settings chooser.new ≡ C.settings chooser.old }
 {
     let mut links = Vec::new(alloc);
@@ -58,19 +58,18 @@ fn next_link<R: OreRing, C: Chooser>(
     last: &Matrix,
     chooser: &mut C,
 ) -> Result<Link, Halt>
-    requires { All (All (Belongs (R.sig ring.now))) last.now.rows }
+    requires { All (AllBelong (R.sig ring.now)) last.now.rows }
     ensures of { IfOk result (IsLinkOf (R.sig ring.now)) }
     ensures fits { IfOk result (λ k. k.l.cols ≡ length last.now.rows) }
     ensures answered { IfOk result (IsNextLink (R.sig ring.now) C.allows C.allows_spent (plain last.now) (C.given chooser.old) (C.given chooser.new)) }
     ensures halts { IfErr result (HaltsIn (R.sig ring.now) C.allows C.allows_spent (run_on program (R.sig ring.now) (plain last.now)) (C.given chooser.old) (C.given chooser.new) (C.settings chooser.new)) }
-    ensures afforded { AreAfforded (C.given chooser.old) (C.settings chooser.old).budget → AreAfforded (C.given chooser.new) (C.settings chooser.new).budget }
+    ensures within_budget { AreWithinBudget (C.given chooser.old) (C.settings chooser.old).budget → AreWithinBudget (C.given chooser.new) (C.settings chooser.new).budget }
     ensures settings { C.settings chooser.new ≡ C.settings chooser.old }
 {
     let run = run_on(ring, alloc, last, chooser)?;
-    let Ok(block) = kernel_block(ring, alloc, &run) else {
+    let Ok((l, block)) = kernel_block(ring, alloc, run) else {
         return Err(Halt::Memory);
     };
-    let l = run.syzygies;
     let _fits = l.cols();
     Ok(Link { l, block })
 }

@@ -3,18 +3,18 @@
 ghost use Rattle.std.specs.Prelude.{◌≡◌, IfOk, IfErr};
 ghost use Rattle.std.specs.List.{All};
 ghost use Rattle.ore_algebra.specs.Limits.{program};
-ghost use Rattle.ore_ring.specs.Belongs.{Belongs};
+ghost use Rattle.ore_ring.specs.Belongs.{AllBelong};
 ghost use Rattle.ore_cert.specs.EachKind.{IsLength};
 ghost use Rattle.ore_blocks.specs.CheckBlock.{plain};
-ghost use Rattle.ore_groebner.specs.Choosing.{AreAfforded};
+ghost use Rattle.ore_groebner.specs.Choosing.{AreWithinBudget};
 ghost use Rattle.ore_groebner.specs.Courses.{FollowsTo, HaltsIn};
-ghost use Rattle.ore_check.specs.PlanLaws.{IsRight};
+ghost use Rattle.ore_check.specs.PlanLaws.{IsCorrect};
 ghost use Rattle.ore_check.specs.Plans.{resolve};
 ghost use Rattle.ore_resolution.specs.Stored.{IsResolutionOf};
 
-use crate::certify::certified;
 use crate::links::find_links;
 use ore_cert::Certificate;
+use ore_check::certify;
 use ore_groebner::{Chooser, Halt};
 use ore_ring::OreRing;
 use ore_rows::Matrix;
@@ -35,18 +35,18 @@ pub fn resolve<R: OreRing, C: Chooser>(
     count: u8,
     chooser: &mut C,
 ) -> Result<Certificate, Halt>
-    requires of { All (All (Belongs (R.sig ring.now))) r.now.rows }
+    requires of { All (AllBelong (R.sig ring.now)) r.now.rows }
     requires count { IsLength count }
     // It is true, and the check accepts it.
-    ensures right { IfOk result (IsRight (R.sig ring.now) (plain r.now)) }
+    ensures correct { IfOk result (IsCorrect (R.sig ring.now) (plain r.now)) }
     ensures kind { IfOk result (IsResolutionOf count) }
     // The plan forms it by the choices given, or halts so.
     ensures answered { IfOk result (FollowsTo (R.sig ring.now) C.allows C.allows_spent (resolve program (R.sig ring.now) count (plain r.now)) (C.given chooser.old) (C.given chooser.new)) }
     ensures halts { IfErr result (HaltsIn (R.sig ring.now) C.allows C.allows_spent (resolve program (R.sig ring.now) count (plain r.now)) (C.given chooser.old) (C.given chooser.new) (C.settings chooser.new)) }
-    ensures afforded { AreAfforded (C.given chooser.old) (C.settings chooser.old).budget → AreAfforded (C.given chooser.new) (C.settings chooser.new).budget }
+    ensures within_budget { AreWithinBudget (C.given chooser.old) (C.settings chooser.old).budget → AreWithinBudget (C.given chooser.new) (C.settings chooser.new).budget }
     ensures settings { C.settings chooser.new ≡ C.settings chooser.old }
 {
     let _cols = r.cols();
     let links = find_links(ring, alloc, r, count, chooser)?;
-    Ok(certified(ring, alloc, r, Certificate::Resolution { links })?)
+    Ok(certify(ring, alloc, r, Certificate::Resolution { links })?)
 }

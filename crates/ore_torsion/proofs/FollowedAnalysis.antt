@@ -15,19 +15,19 @@ use Rattle.ore_course.specs.Course.{◌>>=◌, forced}
 use Rattle.ore_course.specs.Following.{Follows}
 use Rattle.ore_course.specs.Leading.{Rule}
 use Rattle.ore_course.proofs.Calls.{started, worked, called, called_last}
-use Rattle.ore_rational.proofs.FractionLaws.{rationals}
+use Rattle.ore_rational.specs.Field.{rationals}
 use Rattle.ore_monomial.specs.Gives.{Fails}
 use Rattle.ore_monomial.specs.Signature.{Signature}
 use Rattle.ore_monomial.specs.declared.stop.RingStop.{RingStop}
 use Rattle.ore_ring.specs.Belongs.{Belongs}
 use Rattle.ore_ring.specs.Ordered.{Ordered}
 use Rattle.ore_rows.specs.ReduceRows.{Reductions}
-use Rattle.ore_rows.specs.Shown.{Shown}
+use Rattle.ore_rows.specs.BasisLeads.{BasisLeads}
 use Rattle.ore_rows.specs.Stored.{OperatorMatrix, sums_of, rows_of}
 use Rattle.ore_rows.specs.declared.choices.Choice.{Choice}
 use Rattle.ore_division.specs.declared.division.Reduced.{Reduced}
 use Rattle.ore_pairs.specs.Reached.{rule_of}
-use Rattle.ore_pairs.specs.Run.{State}
+use Rattle.ore_pairs.specs.Run.{RunState}
 use Rattle.ore_pairs.specs.Runner.{runner_within}
 use Rattle.ore_parts.specs.OfSignature.{MatrixOf}
 use Rattle.ore_cert.specs.declared.certificate.Certificate.{Certificate}
@@ -43,33 +43,33 @@ use Rattle.ore_groebner.specs.declared.outcome.Finished.{Finished}
 use Rattle.ore_groebner.specs.declared.outcome.Halt.{Halt}
 use Rattle.ore_groebner.specs.declared.outcome.StopAt.TheVariants.{Forced}
 use Rattle.ore_groebner.proofs.EngineCalls.{work_halts, call_halts, call_halts_last}
-use Rattle.ore_check.specs.PlanLaws.{IsRight}
-use Rattle.ore_check.specs.Plans.{first_nonzero, certified, reduced, autonomous_element, autonomous, analyse}
+use Rattle.ore_check.specs.PlanLaws.{IsCorrect}
+use Rattle.ore_check.specs.Plans.{IsFormed, first_nonzero, certified, reduced, autonomous_element, autonomous, analyse}
 use Rattle.ore_check.proofs.FormedVerdicts.{analyse_right}
+use Rattle.ore_check.proofs.LastWork.{certified_halts, certified_as}
 use Rattle.ore_inverse.specs.StoredReductions.{reductions_of}
 use Rattle.ore_inverse.specs.declared.reductions.Reductions.{Reductions as Stored}
 use Rattle.ore_inverse.specs.declared.reductions.Reductions.TheVariants as stored_as
-use Rattle.ore_inverse.proofs.FollowedInverses.{certified_halts, certified_as}
 use Rattle.ore_inverse.proofs.FoundInverses.{stored_is}
-use Rattle.ore_torsion.specs.Verdicts.{IsFormed, controllable_of, element_of, verdict_course}
+use Rattle.ore_torsion.specs.Verdicts.{controllable_of, element_of, verdict_course}
 
-module _ (s : Signature) (allows : Shown → List (ℕ × ℕ) → Choice → Bool) (allows_spent : Shown → List (ℕ × ℕ) → Bool) where
-  abbrev runner : Runner (State rationals) Choice
+module _ (s : Signature) (allows : BasisLeads → List (ℕ × ℕ) → Choice → Bool) (allows_spent : BasisLeads → List (ℕ × ℕ) → Bool) where
+  abbrev runner : Runner (RunState rationals) Choice
   runner = runner_within program s
 
-  abbrev rule : Rule (State rationals) Choice
+  abbrev rule : Rule (RunState rationals) Choice
   rule = rule_of s allows allows_spent
 
   -- ---- the kernel rows
 
   module _ (r : RowMatrix) (before : List (List Choice)) where
-    abbrev after_second : State rationals → RowMatrix → State rationals → RunCourse Certificate
+    abbrev after_second : RunState rationals → RowMatrix → RunState rationals → RunCourse Certificate
     after_second a q c = forced (reduced program s r a c.syzygies) >>= verdict_course s r a q c
 
-    abbrev after_kernel : State rationals → RightKernel → RunCourse Certificate
+    abbrev after_kernel : RunState rationals → RightKernel → RunCourse Certificate
     after_kernel a k = run_on program s k.generators >>= after_second a k.generators
 
-    abbrev after_first : State rationals → RunCourse Certificate
+    abbrev after_first : RunState rationals → RunCourse Certificate
     after_first a = right_kernel program s r >>= after_kernel a
 
     begun : Follows runner rule (analyse program s r) before before (run_on program s r >>= after_first)
@@ -80,7 +80,7 @@ module _ (s : Signature) (allows : Shown → List (ℕ × ℕ) → Choice → Bo
     first_halts given settings halt h = call_halts s allows allows_spent given settings (run_on program s r) after_first halt h begun
 
     -- the run on r
-    module _ (a : State rationals) (mid : List (List Choice)) (led : FollowsTo s allows allows_spent (run_on program s r) before mid a) where
+    module _ (a : RunState rationals) (mid : List (List Choice)) (led : FollowsTo s allows allows_spent (run_on program s r) before mid a) where
       to_kernel : Follows runner rule (analyse program s r) before mid (right_kernel program s r >>= after_kernel a)
       to_kernel = called runner rule (run_on program s r) a after_first led begun
 
@@ -96,7 +96,7 @@ module _ (s : Signature) (allows : Shown → List (ℕ × ℕ) → Choice → Bo
         second_halts given settings halt h = call_halts s allows allows_spent given settings (run_on program s k.generators) (after_second a k.generators) halt h to_second
 
         -- the run on its generators
-        module _ (c : State rationals) (given : List (List Choice)) (ran : FollowsTo s allows allows_spent (run_on program s k.generators) late given c) where
+        module _ (c : RunState rationals) (given : List (List Choice)) (ran : FollowsTo s allows allows_spent (run_on program s k.generators) late given c) where
           to_reduce : Follows runner rule (analyse program s r) before given (forced (reduced program s r a c.syzygies) >>= verdict_course s r a k.generators c)
           to_reduce = called runner rule (run_on program s k.generators) c (after_second a k.generators) ran to_second
 
@@ -109,7 +109,7 @@ module _ (s : Signature) (allows : Shown → List (ℕ × ℕ) → Choice → Bo
   -- ---- the verdict
 
   -- the run on r ends in a, and the run g is on q; its syzygies are reduced to x
-  module _ (r : OperatorMatrix) (a : State rationals) (q : OperatorMatrix) (g : Finished) (x : Stored) (before mid : List (List Choice))
+  module _ (r : OperatorMatrix) (a : RunState rationals) (q : OperatorMatrix) (g : Finished) (x : Stored) (before mid : List (List Choice))
       (left : Follows runner rule (analyse program s (plain r)) before mid (verdict_course s (plain r) a (plain q) (last_of g) (reductions_of x))) where
     left_as : (y : Stored) → x ≡ y → Follows runner rule (analyse program s (plain r)) before mid (verdict_course s (plain r) a (plain q) (last_of g) (reductions_of y))
     left_as y is = subst (λ (y : Stored). Follows runner rule (analyse program s (plain r)) before mid (verdict_course s (plain r) a (plain q) (last_of g) (reductions_of y))) is left
@@ -126,10 +126,10 @@ module _ (s : Signature) (allows : Shown → List (ℕ × ℕ) → Choice → Bo
           (λ i. (stored_is s q q.cols of_q refl i, (rows_count r ∙ sym cols) i)) (left_as (stored_as.AllReduce m) is)
 
       pub verdict_formed : (c : Certificate) → IsFormed s (plain r) controllable (Ok c) → FollowsTo s allows allows_spent (analyse program s (plain r)) before mid c
-      verdict_formed c h = certified_as s allows allows_spent (analyse program s (plain r)) before mid (plain r) controllable tt left_to_form c (h tt)
+      verdict_formed c h = certified_as s allows allows_spent (analyse program s (plain r)) before mid (plain r) controllable tt left_to_form c h
 
       pub verdict_halts : (settings : Settings) (e : RingStop) → IsFormed s (plain r) controllable (Err e) → HaltsIn s allows allows_spent (analyse program s (plain r)) before mid settings (halt_of e Forced)
-      verdict_halts settings e h = certified_halts s allows allows_spent (analyse program s (plain r)) before mid (plain r) controllable tt left_to_form settings e (h tt)
+      verdict_halts settings e h = certified_halts s allows allows_spent (analyse program s (plain r)) before mid (plain r) controllable tt left_to_form settings e h
 
     -- a row is left of one: the plan goes on with the search for its operator
     module _ (k : ℕ) (w : Reduced) (is : x ≡ stored_as.LeavesRest k w) (given : List (List Choice)) where
@@ -146,7 +146,7 @@ module _ (s : Signature) (allows : Shown → List (ℕ × ℕ) → Choice → Bo
     abbrev course : RunCourse Certificate
     course = autonomous program s (plain r) (last_of f) (sums_of z)
 
-    abbrev ends : State rationals → RunCourse Certificate
+    abbrev ends : RunState rationals → RunCourse Certificate
     ends d = certified program s (plain r) (autonomous_element s (plain r) (last_of f) (sums_of z) (first_nonzero (length (rows_of r)) d.syzygies)) tt
 
     operator_begun : Follows runner rule course before before (run_on program s (plain m) >>= ends)
@@ -165,12 +165,12 @@ module _ (s : Signature) (allows : Shown → List (ℕ × ℕ) → Choice → Bo
       element_left = called runner rule (run_on program s (plain m)) (last_of g) ends led operator_begun
 
       pub operator_formed : (c : Certificate) → IsFormed s (plain r) element (Ok c) → FollowsTo s allows allows_spent course before given c
-      operator_formed c h = certified_as s allows allows_spent course before given (plain r) element tt element_left c (h tt)
+      operator_formed c h = certified_as s allows allows_spent course before given (plain r) element tt element_left c h
 
       pub operator_halts : (settings : Settings) (e : RingStop) → IsFormed s (plain r) element (Err e) → HaltsIn s allows allows_spent course before given settings (halt_of e Forced)
-      operator_halts settings e h = certified_halts s allows allows_spent course before given (plain r) element tt element_left settings e (h tt)
+      operator_halts settings e h = certified_halts s allows allows_spent course before given (plain r) element tt element_left settings e h
 
   -- ---- the plan
 
-  pub analyse_is_right : (r : OperatorMatrix) → MatrixOf s r → (before given : List (List Choice)) (c : Certificate) → FollowsTo s allows allows_spent (analyse program s (plain r)) before given c → IsRight s (plain r) c
+  pub analyse_is_right : (r : OperatorMatrix) → MatrixOf s r → (before given : List (List Choice)) (c : Certificate) → FollowsTo s allows allows_spent (analyse program s (plain r)) before given c → IsCorrect s (plain r) c
   analyse_is_right r of before given c h = analyse_right s (plain r) (wide_rows s r of) (rows_are_of s r of) h.added c h.leads

@@ -1,22 +1,19 @@
 -- The certificates of both verdicts, as the code makes them, beside those of the plan.
 --     same_formed           a certificate is another one
 --     memory_formed         there was no memory
---     without_steps         a block for a row that no step was taken from
 --     controllable_is       the certificate that there is no torsion
 --     element_is            that of an autonomous element
-use Rattle.std.proofs.Common.{◌≡◌, ℕ, List, [], ◌∷◌, length, refl, sym, ap, ◌∙◌, subst}
+use Rattle.std.proofs.Common.{◌≡◌, ℕ, List, [], length, sym, ap, ◌∙◌, subst}
 use Rattle.std.specs.List.{All}
 use Rattle.std.specs.declared.result.Result.{Result}
 use Rattle.std.specs.declared.result.Result.TheVariants.{Err}
-use Rattle.std.proofs.lemmas.List.Elements.{All-head, All-tail}
-use Rattle.ore_rational.proofs.FractionLaws.{rationals}
+use Rattle.ore_rational.specs.Field.{rationals}
 use Rattle.ore_monomial.specs.LetterRule.{Operator}
 use Rattle.ore_monomial.specs.Signature.{Signature}
 use Rattle.ore_monomial.specs.declared.stop.RingStop.{RingStop}
 use Rattle.ore_monomial.specs.declared.stop.RingStop.TheVariants as stop
 use Rattle.ore_ring.specs.Belongs.{Belongs}
 use Rattle.ore_ring.specs.Ordered.{Ordered}
-use Rattle.ore_rows.specs.Reduction.{Step}
 use Rattle.ore_rows.specs.ReduceRows.{negated}
 use Rattle.ore_rows.specs.Rows.{Row}
 use Rattle.ore_rows.specs.Stored.{OperatorMatrix, sums_of, rows_of}
@@ -24,14 +21,17 @@ use Rattle.ore_parts.specs.declared.block.ExactBlock.{ExactBlock}
 use Rattle.ore_parts.specs.declared.block.OutsideBlock.{OutsideBlock}
 use Rattle.ore_cert.specs.declared.certificate.Certificate.{Certificate}
 use Rattle.ore_cert.specs.declared.certificate.Certificate.TheVariants.{Controllable, AutonomousElement}
-use Rattle.ore_blocks.specs.BlockOfRun.{ordered_row}
+use Rattle.ore_blocks.specs.BlockOfRun.{ordered_row, outside_block_of}
 use Rattle.ore_blocks.specs.CheckBlock.{RowMatrix, plain}
 use Rattle.ore_blocks.proofs.Converted.{rows_count}
+use Rattle.ore_groebner.specs.Courses.{last_of}
 use Rattle.ore_groebner.specs.declared.outcome.Finished.{Finished}
-use Rattle.ore_check.specs.Plans.{first_nonzero}
-use Rattle.ore_syzygy.specs.RunBlock.{IsExactBlockOf, IsOutsideBlockOf}
+use Rattle.ore_check.specs.Plans.{IsFormed, first_nonzero}
+use Rattle.ore_syzygy.specs.RunBlock.{IsExactBlockOfRun}
+use Rattle.ore_syzygy.proofs.HonestBlocks.{ordered_row-sums_of}
+use Rattle.ore_inverse.specs.Runs.{IsRunOn}
 use Rattle.ore_torsion.specs.FirstEntries.{part_of}
-use Rattle.ore_torsion.specs.Verdicts.{IsRunOn, IsFormed, controllable_of, element_of}
+use Rattle.ore_torsion.specs.Verdicts.{controllable_of, element_of}
 
 module _ (s : Signature) where
   pub same_formed : (r : RowMatrix) (c d : Certificate) → c ≡ d → (result : Result Certificate RingStop) → IsFormed s r c result → IsFormed s r d result
@@ -42,33 +42,26 @@ module _ (s : Signature) where
   memory_formed r c stop.Degree h claims = absurd cc
   memory_formed r c stop.Memory h claims = tt
 
-  pub without_steps : (f : Finished) (steps : List (Step rationals)) → steps ≡ [] → (z : List Ordered) (b : OutsideBlock) → IsOutsideBlockOf s f steps z b → IsOutsideBlockOf s f [] z b
-  without_steps f steps none z b h = subst (λ (steps : List (Step rationals)). IsOutsideBlockOf s f steps z b) none h
-
-  pub controllable_is : (q : OperatorMatrix) (f : Finished) → IsRunOn s q f → (combinations : OperatorMatrix) (b : ExactBlock) → IsExactBlockOf s f combinations b → Controllable q b ≡ controllable_of s q f (plain combinations)
-  controllable_is q f on combinations b h = ap (λ (b : ExactBlock). Controllable q b) (h q on.0 on.1)
+  pub controllable_is : (q : OperatorMatrix) (f : Finished) → IsRunOn s q f → (combinations : OperatorMatrix) (b : ExactBlock) → IsExactBlockOfRun s f combinations b → Controllable q b ≡ controllable_of s q f (plain combinations)
+  controllable_is q f on combinations b h = ap (λ (b : ExactBlock). Controllable q b) (h q on.choices on.honest)
 
   operator_is : (f : Ordered) → Belongs s f → record { by = s.order; sum = f.sum } ≡ f
   operator_is f of = λ i. record { by = sym of.order i; sum = f.sum }
 
-  ordered-row : (r : List Ordered) → All (Belongs s) r → ordered_row s.order (sums_of r) ≡ r
-  ordered-row [] h = refl
-  ordered-row (f ∷ r) h = λ i. operator_is f (All-head (Belongs s) f r h) i ∷ ordered-row r (All-tail (Belongs s) f r h) i
-
-  pub element_is : (r : OperatorMatrix) (f : Finished) → IsRunOn s r f → (z : List Ordered) → All (Belongs s) z → (syzygies : OperatorMatrix)
+  pub element_is : (r : OperatorMatrix) (f : Finished) (z : List Ordered) → All (Belongs s) z → (element : List Ordered) → element ≡ z → (syzygies : OperatorMatrix)
       → (n : ℕ) → n ≡ length r.rows → (p : Ordered × List Ordered) → part_of p ≡ first_nonzero n (rows_of syzygies) → Belongs s p.0
       → (cofactor : List Ordered) → sums_of cofactor ≡ negated rationals (sums_of p.1) → All (Belongs s) cofactor
-      → (b : OutsideBlock) → IsOutsideBlockOf s f [] z b → AutonomousElement z p.0 cofactor b ≡ element_of s (plain r) f z (plain syzygies)
-  element_is r f on z of_z syzygies n count p found of_p cofactor opposite of_cofactor b h = λ i. AutonomousElement (rows i) (operators i) (cofactors i) (h r on.0 on.1 i)
+      → (b : OutsideBlock) → b ≡ outside_block_of s (plain r) (last_of f) [] (sums_of z) → AutonomousElement element p.0 cofactor b ≡ element_of s (plain r) f z (plain syzygies)
+  element_is r f z of_z element same syzygies n count p found of_p cofactor opposite of_cofactor b h = λ i. AutonomousElement ((same ∙ rows) i) (operators i) (cofactors i) (h i)
     where
       first : part_of p ≡ first_nonzero (length (rows_of r)) (rows_of syzygies)
       first = found ∙ ap (λ n. first_nonzero n (rows_of syzygies)) (count ∙ sym (rows_count r))
 
       rows : z ≡ ordered_row s.order (sums_of z)
-      rows = sym (ordered-row z of_z)
+      rows = sym (ordered_row-sums_of s z of_z)
 
       operators : p.0 ≡ record { by = s.order; sum = (first_nonzero (length (rows_of r)) (rows_of syzygies)).0 }
       operators = sym (operator_is p.0 of_p) ∙ ap (λ (x : Operator rationals × Row rationals). record { by = s.order; sum = x.0 }) first
 
       cofactors : cofactor ≡ ordered_row s.order (negated rationals (first_nonzero (length (rows_of r)) (rows_of syzygies)).1)
-      cofactors = sym (ordered-row cofactor of_cofactor) ∙ ap (ordered_row s.order) (opposite ∙ ap (λ (x : Operator rationals × Row rationals). negated rationals x.1) first)
+      cofactors = sym (ordered_row-sums_of s cofactor of_cofactor) ∙ ap (ordered_row s.order) (opposite ∙ ap (λ (x : Operator rationals × Row rationals). negated rationals x.1) first)

@@ -1,4 +1,3 @@
 pub mod FirstRows
 pub mod FormedVerdicts
-pub mod KernelRows
 pub mod FollowedAnalysis

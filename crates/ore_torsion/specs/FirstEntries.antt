@@ -3,7 +3,7 @@
 --     part_of       an operator and a row, without their orders
 use Rattle.std.specs.Prelude.{◌≢◌, List, [], ◌∷◌}
 use Rattle.ore_algebra.specs.Free.{empty_sum}
-use Rattle.ore_rational.proofs.FractionLaws.{rationals}
+use Rattle.ore_rational.specs.Field.{rationals}
 use Rattle.ore_monomial.specs.LetterRule.{Operator}
 use Rattle.ore_monomial.specs.Monomial.{plain_cmp}
 use Rattle.ore_ring.specs.Ordered.{Ordered}

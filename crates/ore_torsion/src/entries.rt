@@ -3,7 +3,7 @@
 ghost use Rattle.std.specs.Prelude.{◌≡◌, ◌↔◌, ◌∷◌, suc, IsTrue, IfOk, IfErr};
 ghost use Rattle.std.specs.List.{All};
 ghost use Rattle.ore_monomial.specs.declared.stop.RingStop.TheVariants.{Memory};
-ghost use Rattle.ore_ring.specs.Belongs.{Belongs};
+ghost use Rattle.ore_ring.specs.Belongs.{AllBelong, Belongs};
 ghost use Rattle.ore_rows.specs.Stored.{rows_of};
 ghost use Rattle.ore_check.specs.Plans.{first_nonzero as first_in};
 ghost use Rattle.ore_torsion.specs.FirstEntries.{HasFirst, part_of};
@@ -22,10 +22,10 @@ pub(crate) fn first_nonzero<R: OreRing>(
     rows: &Matrix,
 ) -> Result<(Op, Row), RingStop>
     requires cols { rows.now.cols ≡ suc n }
-    requires rows_of { All (All (Belongs (R.sig ring.now))) rows.now.rows }
+    requires rows_of { All (AllBelong (R.sig ring.now)) rows.now.rows }
     ensures value { IfOk result (λ p. part_of p ≡ first_in n (rows_of rows.now)) }
     ensures operator_of { IfOk result (λ p. Belongs (R.sig ring.now) p.0) }
-    ensures others_of { IfOk result (λ p. All (Belongs (R.sig ring.now)) p.1) }
+    ensures others_of { IfOk result (λ p. AllBelong (R.sig ring.now) p.1) }
     ensures memory { IfErr result (λ e. e ≡ Memory) }
 {
     for k in 0..rows.rows() {
@@ -52,10 +52,10 @@ fn has_first(row: &Row) -> bool
 // The first entry of a row, and the others.
 fn parted<R: OreRing>(ring: &R, alloc: Global, row: &Row) -> Result<(Op, Row), RingStop>
     requires first { HasFirst row.now }
-    requires row_of { All (Belongs (R.sig ring.now)) row.now }
+    requires row_of { AllBelong (R.sig ring.now) row.now }
     ensures value { IfOk result (λ p. p.0 ∷ p.1 ≡ row.now) }
     ensures operator_of { IfOk result (λ p. Belongs (R.sig ring.now) p.0) }
-    ensures others_of { IfOk result (λ p. All (Belongs (R.sig ring.now)) p.1) }
+    ensures others_of { IfOk result (λ p. AllBelong (R.sig ring.now) p.1) }
     ensures memory { IfErr result (λ e. e ≡ Memory) }
 {
     match row.entries() {

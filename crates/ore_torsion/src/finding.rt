@@ -4,27 +4,27 @@ ghost use Rattle.std.specs.Prelude.{◌≡◌, [], length, IfOk, IfErr};
 ghost use Rattle.std.specs.List.{All};
 ghost use Rattle.ore_algebra.specs.Limits.{program};
 ghost use Rattle.ore_course.specs.Following.{Follows};
-ghost use Rattle.ore_ring.specs.Belongs.{Belongs};
+ghost use Rattle.ore_ring.specs.Belongs.{AllBelong};
 ghost use Rattle.ore_rows.specs.Stored.{sums_of};
 ghost use Rattle.ore_pairs.specs.Reached.{rule_of};
 ghost use Rattle.ore_pairs.specs.Runner.{runner_within};
 ghost use Rattle.ore_parts.specs.OfSignature.{IsOutsideOf};
 ghost use Rattle.ore_blocks.specs.BlockOfRun.{outside_block_of};
 ghost use Rattle.ore_blocks.specs.CheckBlock.{plain};
-ghost use Rattle.ore_groebner.specs.Choosing.{AreAfforded};
+ghost use Rattle.ore_groebner.specs.Choosing.{AreWithinBudget};
 ghost use Rattle.ore_groebner.specs.Courses.{last_of, FollowsTo, HaltsIn};
-ghost use Rattle.ore_check.specs.PlanLaws.{IsRight};
+ghost use Rattle.ore_check.specs.PlanLaws.{IsCorrect};
 ghost use Rattle.ore_check.specs.Plans as plans;
-ghost use Rattle.ore_inverse.specs.StoredReductions.{reductions_of};
-ghost use Rattle.ore_syzygy.specs.RunBlock.{HasRun};
-ghost use Rattle.ore_torsion.specs.Verdicts.{IsVerdict, IsRunOn, AreElementsOf, verdict_course};
+ghost use Rattle.ore_inverse.specs.Runs.{IsRunOn};
+ghost use Rattle.ore_inverse.specs.StoredReductions.{reductions_of, AreReducedSyzygies};
+ghost use Rattle.ore_torsion.specs.Verdicts.{IsVerdict, verdict_course};
 
 use crate::forming::{form_controllable, form_element};
 use ore_cert::Certificate;
 use ore_division::Reduced;
 use ore_groebner::run::run;
 use ore_groebner::{Chooser, Finished, Halt};
-use ore_inverse::{Reductions, reduce_rows};
+use ore_inverse::{Reductions, reduce_rows, run_on};
 use ore_ring::OreRing;
 use ore_rows::{Matrix, stack};
 use ore_syzygy::right_kernel;
@@ -45,15 +45,15 @@ pub fn analyse<R: OreRing, C: Chooser>(
     r: &Matrix,
     chooser: &mut C,
 ) -> Result<Certificate, Halt>
-    requires { All (All (Belongs (R.sig ring.now))) r.now.rows }
+    requires { All (AllBelong (R.sig ring.now)) r.now.rows }
     // It is true, and the check accepts it.
-    ensures right { IfOk result (IsRight (R.sig ring.now) (plain r.now)) }
+    ensures correct { IfOk result (IsCorrect (R.sig ring.now) (plain r.now)) }
     // It is one of the two.
     ensures verdict { IfOk result IsVerdict }
     // The plan forms it by the choices given, or halts so.
     ensures answered { IfOk result (FollowsTo (R.sig ring.now) C.allows C.allows_spent (plans.analyse program (R.sig ring.now) (plain r.now)) (C.given chooser.old) (C.given chooser.new)) }
     ensures halts { IfErr result (HaltsIn (R.sig ring.now) C.allows C.allows_spent (plans.analyse program (R.sig ring.now) (plain r.now)) (C.given chooser.old) (C.given chooser.new) (C.settings chooser.new)) }
-    ensures afforded { AreAfforded (C.given chooser.old) (C.settings chooser.old).budget → AreAfforded (C.given chooser.new) (C.settings chooser.new).budget }
+    ensures within_budget { AreWithinBudget (C.given chooser.old) (C.settings chooser.old).budget → AreWithinBudget (C.given chooser.new) (C.settings chooser.new).budget }
     ensures settings { C.settings chooser.new ≡ C.settings chooser.old }
 {
     let _cols = r.cols();
@@ -70,10 +70,10 @@ pub fn analyse<R: OreRing, C: Chooser>(
             alloc,
             r,
             generators,
-            &second,
-            &combinations,
+            second,
+            combinations,
         )?),
-        Reductions::LeavesRest(_, rest) => find_operator(ring, alloc, r, &first, rest, chooser),
+        Reductions::LeavesRest(_, rest) => find_operator(ring, alloc, r, first, rest, chooser),
     }
 }
 
@@ -97,27 +97,21 @@ fn reduce_kernel_rows<R: OreRing, C: Chooser>(
     r: &Matrix,
     chooser: &mut C,
 ) -> Result<Elements, Halt>
-    requires { All (All (Belongs (R.sig ring.now))) r.now.rows }
-    ensures first { IfOk result (λ x. HasRun (R.sig ring.now) x.first) }
-    ensures first_on { IfOk result (λ x. IsRunOn (R.sig ring.now) r.now x.first) }
-    ensures generators_of { IfOk result (λ x. All (All (Belongs (R.sig ring.now))) x.generators.rows) }
-    ensures second { IfOk result (λ x. HasRun (R.sig ring.now) x.second) }
-    ensures second_on { IfOk result (λ x. IsRunOn (R.sig ring.now) x.generators x.second) }
-    ensures reduced { IfOk result (λ x. AreElementsOf (R.sig ring.now) r.now x.first x.second x.reductions) }
+    requires { All (AllBelong (R.sig ring.now)) r.now.rows }
+    ensures first { IfOk result (λ x. IsRunOn (R.sig ring.now) r.now x.first) }
+    ensures generators_of { IfOk result (λ x. All (AllBelong (R.sig ring.now)) x.generators.rows) }
+    ensures second { IfOk result (λ x. IsRunOn (R.sig ring.now) x.generators x.second) }
+    ensures reduced { IfOk result (λ x. AreReducedSyzygies (R.sig ring.now) r.now x.first x.second x.reductions) }
     // The verdict is left to form.
     ensures left { IfOk result (λ x. Follows (runner_within program (R.sig ring.now)) (rule_of (R.sig ring.now) C.allows C.allows_spent) (plans.analyse program (R.sig ring.now) (plain r.now)) (C.given chooser.old) (C.given chooser.new) (verdict_course (R.sig ring.now) (plain r.now) (last_of x.first) (plain x.generators) (last_of x.second) (reductions_of x.reductions))) }
     ensures halts { IfErr result (HaltsIn (R.sig ring.now) C.allows C.allows_spent (plans.analyse program (R.sig ring.now) (plain r.now)) (C.given chooser.old) (C.given chooser.new) (C.settings chooser.new)) }
-    ensures afforded { AreAfforded (C.given chooser.old) (C.settings chooser.old).budget → AreAfforded (C.given chooser.new) (C.settings chooser.new).budget }
+    ensures within_budget { AreWithinBudget (C.given chooser.old) (C.settings chooser.old).budget → AreWithinBudget (C.given chooser.new) (C.settings chooser.new).budget }
     ensures settings { C.settings chooser.new ≡ C.settings chooser.old }
 {
-    let _cols = r.cols();
-    let _rows = r.rows();
-    let first = run(ring, alloc, r, chooser)?;
+    let first = run_on(ring, alloc, r, chooser)?;
     let kernel = right_kernel(ring, alloc, r, chooser)?;
     let generators = kernel.generators;
-    let _generator_cols = generators.cols();
-    let _generator_rows = generators.rows();
-    let second = run(ring, alloc, &generators, chooser)?;
+    let second = run_on(ring, alloc, &generators, chooser)?;
     let reductions = reduce_rows(ring, alloc, &first.basis, &second.syzygies)?;
     Ok(Elements {
         first,
@@ -132,20 +126,19 @@ fn find_operator<R: OreRing, C: Chooser>(
     ring: &R,
     alloc: Global,
     r: &Matrix,
-    first: &Finished,
+    first: Finished,
     rest: Reduced,
     chooser: &mut C,
 ) -> Result<Certificate, Halt>
-    requires r_of { All (All (Belongs (R.sig ring.now))) r.now.rows }
-    requires run { HasRun (R.sig ring.now) first.now }
-    requires run_on { IsRunOn (R.sig ring.now) r.now first.now }
+    requires r_of { All (AllBelong (R.sig ring.now)) r.now.rows }
+    requires run { IsRunOn (R.sig ring.now) r.now first }
     requires width { length rest.row ≡ r.now.cols }
-    requires rest_of { All (Belongs (R.sig ring.now)) rest.row }
-    requires block_of { IsOutsideOf (R.sig ring.now) (outside_block_of (R.sig ring.now) (plain r.now) (last_of first.now) [] (sums_of rest.row)) }
+    requires rest_of { AllBelong (R.sig ring.now) rest.row }
+    requires block_of { IsOutsideOf (R.sig ring.now) (outside_block_of (R.sig ring.now) (plain r.now) (last_of first) [] (sums_of rest.row)) }
     ensures verdict { IfOk result IsVerdict }
-    ensures answered { IfOk result (FollowsTo (R.sig ring.now) C.allows C.allows_spent (plans.autonomous program (R.sig ring.now) (plain r.now) (last_of first.now) (sums_of rest.row)) (C.given chooser.old) (C.given chooser.new)) }
-    ensures halts { IfErr result (HaltsIn (R.sig ring.now) C.allows C.allows_spent (plans.autonomous program (R.sig ring.now) (plain r.now) (last_of first.now) (sums_of rest.row)) (C.given chooser.old) (C.given chooser.new) (C.settings chooser.new)) }
-    ensures afforded { AreAfforded (C.given chooser.old) (C.settings chooser.old).budget → AreAfforded (C.given chooser.new) (C.settings chooser.new).budget }
+    ensures answered { IfOk result (FollowsTo (R.sig ring.now) C.allows C.allows_spent (plans.autonomous program (R.sig ring.now) (plain r.now) (last_of first) (sums_of rest.row)) (C.given chooser.old) (C.given chooser.new)) }
+    ensures halts { IfErr result (HaltsIn (R.sig ring.now) C.allows C.allows_spent (plans.autonomous program (R.sig ring.now) (plain r.now) (last_of first) (sums_of rest.row)) (C.given chooser.old) (C.given chooser.new) (C.settings chooser.new)) }
+    ensures within_budget { AreWithinBudget (C.given chooser.old) (C.settings chooser.old).budget → AreWithinBudget (C.given chooser.new) (C.settings chooser.new).budget }
     ensures settings { C.settings chooser.new ≡ C.settings chooser.old }
 {
     let stacked = stack(ring, alloc, &rest.row, r)?;

@@ -1,194 +1,67 @@
-use Rattle.std.proofs.Common.{sym, subst}
+use Rattle.std.proofs.Common.{sym, ◌∙◌, subst}
+use Rattle.std.specs.declared.result.Result.TheVariants.{Ok, Err}
 use Rattle.std.proofs.lemmas.Result.{err_from_is_err_and}
 use Rattle.ore_algebra.specs.Limits.{program}
-use Rattle.ore_rational.proofs.FractionLaws.{rationals}
-use Rattle.ore_rows.specs.Arithmetic.{within}
-use Rattle.ore_rows.specs.ReduceRows.{reduce_rows}
-use Rattle.ore_rows.specs.Rows.{identity_rows}
-use Rattle.ore_rows.specs.StoredBasis.{monics}
-use Rattle.ore_division.specs.StoredWork.{work_of}
-use Rattle.ore_cert.specs.declared.certificate.Certificate.TheVariants.{LeftInverse, NoLeftInverse}
+use Rattle.ore_cert.specs.CertificateOf.{IsCertificateOf}
+use Rattle.ore_cert.specs.declared.certificate.Certificate.{Certificate}
 use Rattle.ore_blocks.specs.CheckBlock.{plain}
-use Rattle.ore_check.specs.Plans.{inverse_left}
-use Rattle.ore_groebner.specs.Choosing.{present}
+use Rattle.ore_check.specs.Check.{IsNoReport}
+use Rattle.ore_check.specs.Plans.{IsFormed, inverse_left}
+use Rattle.ore_check.proofs.LastWork.{certified_halts, certified_as}
 use Rattle.ore_syzygy.proofs.RunKernels.{matrix_of}
-use Rattle.ore_inverse.specs.Inverses.{NamesFirstUnit}
-use Rattle.ore_inverse.proofs.FollowedInverses.{certified_halts, certified_as, memory_halts, left_is_right}
-use Rattle.ore_inverse.proofs.FoundInverses.{all_reduce, all_of, leaves_rest}
-use Rattle.ore_inverse.proofs.LeftSearch.{left_run_halts, left_reducing_halts, left_found, left_outside, left_block_of, left_first}
+use Rattle.ore_inverse.specs.Inverses.{left_certificate_of, IsOfLeftInverse, NamesFirstUnit}
+use Rattle.ore_inverse.proofs.FollowedInverses.{left_halts, left_found, left_is_right}
+use Rattle.ore_inverse.proofs.InverseAnswers.{left_kind, no_left_report}
 use Rattle.ore_inverse.proofs.finding.left_certificate.Goals as goal
 
-pub returns-in_err-run-clause-halts : goal.returns-in_err-run-clause-halts
-returns-in_err-run-clause-halts g c =
-    let s = g.R.OreRing.sig c.args.ring.now in
-    let r = c.args.r.now in
-    let before = g.C.Chooser.given c.args.chooser.now in
-    let given = g.C.Chooser.given c.run.new.chooser in
-    let settings = g.C.Chooser.settings c.run.new.chooser in
+pub returns-in_err-answer-clause-halts : goal.returns-in_err-answer-clause-halts
+returns-in_err-answer-clause-halts g c =
+    let chooser = c.find_left.new.chooser in
     let e = err_from_is_err_and c.from_residual.result c.from_residual.ensures.1 in
-    rw (e.1, e.2) (left_run_halts s g.C.Rule.allows g.C.Rule.allows_spent r before given settings _ c.in_err-run.ensures.halts)
+    rw (e.1, e.2)
+    (left_halts (g.R.OreRing.sig c.args.ring.now) g.C.Rule.allows g.C.Rule.allows_spent (plain c.args.r.now) (g.C.Chooser.given c.args.chooser.now) (g.C.Chooser.given chooser) (g.C.Chooser.settings chooser) _ c.in_err-answer.ensures.halts)
 
-pub returns-in_err-reductions-clause-halts : goal.returns-in_err-reductions-clause-halts
-returns-in_err-reductions-clause-halts g c =
-    let s = g.R.OreRing.sig c.args.ring.now in
-    let r = c.args.r.now in
-    let before = g.C.Chooser.given c.args.chooser.now in
-    let given = g.C.Chooser.given c.run.new.chooser in
-    let settings = g.C.Chooser.settings c.run.new.chooser in
-    let f = c.in_ok-run.run' in
-    let run = c.in_ok-run.ensures in
-    let n = c.cols-cols.result in
-    let wide = c.cols-cols.ensures.value in
-    let e = err_from_is_err_and c.from_residual-in_err-reductions.result c.from_residual-in_err-reductions.ensures.1 in
-    rw (e.1, e.2) (left_reducing_halts s g.C.Rule.allows g.C.Rule.allows_spent r before given f (present given) run.honest run.answered n wide settings _ c.in_err-reductions.ensures.gives)
+pub certify-requires-clause-cert_of : goal.certify-requires-clause-cert_of
+certify-requires-clause-cert_of g c = subst (IsCertificateOf (g.R.OreRing.sig c.args.ring.now)) (sym c.left_certificate_of.ensures) c.in_ok-answer.ensures.of
 
-pub returns-in_err-formed-in-AllReduce-clause-halts :
-    goal.returns-in_err-formed-in-AllReduce-clause-halts
-returns-in_err-formed-in-AllReduce-clause-halts g c =
-    let s = g.R.OreRing.sig c.args.ring.now in
-    let r = c.args.r.now in
-    let before = g.C.Chooser.given c.args.chooser.now in
-    let given = g.C.Chooser.given c.run.new.chooser in
-    let f = c.in_ok-run.run' in
-    let run = c.in_ok-run.ensures in
-    let n = c.cols-cols.result in
-    let wide = c.cols-cols.ensures.value in
-    let units = reduce_rows rationals s.order (within program s) f.basis.width (monics f.basis) (identity_rows rationals n) in
-    let found = c.in_ok-reductions.ensures in
-    let x = c.in_ok-reductions.reductions in
-    let settings = g.C.Chooser.settings c.run.new.chooser in
-    let m = c.in-AllReduce.s in
-    let followed = left_found s g.C.Rule.allows g.C.Rule.allows_spent r before given f (present given) run.honest run.answered n wide m (all_reduce s units f.basis.width x found.gives found.of m c.in-AllReduce.is) (all_of s units f.basis.width x found.gives found.of m c.in-AllReduce.is).0 (all_of s units f.basis.width x found.gives found.of m c.in-AllReduce.is).1 in
-    let e = err_from_is_err_and c.from_residual-in_err-formed-in-AllReduce.result c.from_residual-in_err-formed-in-AllReduce.ensures.1 in
-    rw (e.1, e.2) (certified_halts s g.C.Rule.allows g.C.Rule.allows_spent (inverse_left program s (plain r)) before given (plain r) (LeftInverse m) tt followed settings _ (c.in_err-formed-in-AllReduce.ensures.formed tt))
+pub certify-requires-clause-claims : goal.certify-requires-clause-claims
+certify-requires-clause-claims g c = subst IsNoReport (sym c.left_certificate_of.ensures) (no_left_report c.in_ok-answer.answer)
 
-pub returns-in-AllReduce-clause-answered : goal.returns-in-AllReduce-clause-answered
-returns-in-AllReduce-clause-answered g c =
+pub returns-in_err-certify-clause-halts : goal.returns-in_err-certify-clause-halts
+returns-in_err-certify-clause-halts g c =
     let s = g.R.OreRing.sig c.args.ring.now in
-    let r = c.args.r.now in
+    let r = plain c.args.r.now in
     let before = g.C.Chooser.given c.args.chooser.now in
-    let given = g.C.Chooser.given c.run.new.chooser in
-    let f = c.in_ok-run.run' in
-    let run = c.in_ok-run.ensures in
-    let n = c.cols-cols.result in
-    let wide = c.cols-cols.ensures.value in
-    let units = reduce_rows rationals s.order (within program s) f.basis.width (monics f.basis) (identity_rows rationals n) in
-    let found = c.in_ok-reductions.ensures in
-    let x = c.in_ok-reductions.reductions in
-    let m = c.in-AllReduce.s in
-    let followed = left_found s g.C.Rule.allows g.C.Rule.allows_spent r before given f (present given) run.honest run.answered n wide m (all_reduce s units f.basis.width x found.gives found.of m c.in-AllReduce.is) (all_of s units f.basis.width x found.gives found.of m c.in-AllReduce.is).0 (all_of s units f.basis.width x found.gives found.of m c.in-AllReduce.is).1 in
-    certified_as s g.C.Rule.allows g.C.Rule.allows_spent (inverse_left program s (plain r)) before given (plain r) (LeftInverse m) tt followed _ (c.in_ok-formed-in-AllReduce.ensures.formed tt)
-
-pub returns-in-AllReduce-clause-right : goal.returns-in-AllReduce-clause-right
-returns-in-AllReduce-clause-right g c =
-    let s = g.R.OreRing.sig c.args.ring.now in
-    let r = c.args.r.now in
-    let before = g.C.Chooser.given c.args.chooser.now in
-    let given = g.C.Chooser.given c.run.new.chooser in
-    let of = matrix_of s r c.cols-cols.result c.cols-cols.ensures.fits c.cols-cols.ensures.value c.requires in
-    left_is_right s g.C.Rule.allows g.C.Rule.allows_spent r of before given _ (returns-in-AllReduce-clause-answered g c)
-
-pub returns-in_err-block-in-LeavesRest-clause-halts :
-    goal.returns-in_err-block-in-LeavesRest-clause-halts
-returns-in_err-block-in-LeavesRest-clause-halts g c =
-    let s = g.R.OreRing.sig c.args.ring.now in
-    let r = c.args.r.now in
-    let before = g.C.Chooser.given c.args.chooser.now in
-    let given = g.C.Chooser.given c.run.new.chooser in
-    let settings = g.C.Chooser.settings c.run.new.chooser in
-    let e = err_from_is_err_and c.from_residual-in_err-block-in-LeavesRest.result c.from_residual-in_err-block-in-LeavesRest.ensures.1 in
-    rw (e.1, e.2) (memory_halts s g.C.Rule.allows g.C.Rule.allows_spent (inverse_left program s (plain r)) before given settings _ c.in_err-block-in-LeavesRest.ensures.memory)
-
-pub formed-requires-in-LeavesRest-clause-cert_of : goal.formed-requires-in-LeavesRest-clause-cert_of
-formed-requires-in-LeavesRest-clause-cert_of g c =
-    let s = g.R.OreRing.sig c.args.ring.now in
-    let r = c.args.r.now in
-    let before = g.C.Chooser.given c.args.chooser.now in
-    let given = g.C.Chooser.given c.run.new.chooser in
-    let f = c.in_ok-run.run' in
-    let run = c.in_ok-run.ensures in
-    let n = c.cols-cols.result in
-    let wide = c.cols-cols.ensures.value in
-    let units = reduce_rows rationals s.order (within program s) f.basis.width (monics f.basis) (identity_rows rationals n) in
-    let found = c.in_ok-reductions.ensures in
-    let x = c.in_ok-reductions.reductions in
-    let of = matrix_of s r c.cols-cols.result c.cols-cols.ensures.fits c.cols-cols.ensures.value c.requires in
-    let k = c.in-LeavesRest.unit in
-    let w = c.in-LeavesRest.rest in
-    let rest = leaves_rest s units f.basis.width x found.gives found.of k w c.in-LeavesRest.is in
-    let b = c.in_ok-block-in-LeavesRest.block in
-    let same = c.in_ok-block-in-LeavesRest.ensures.value r (present given) run.honest in
-    (tt, left_block_of s g.C.Rule.allows g.C.Rule.allows_spent r before given f (present given) run.honest run.answered n wide k (work_of w) rest of b same)
-
-pub returns-in_err-formed-in-LeavesRest-clause-halts :
-    goal.returns-in_err-formed-in-LeavesRest-clause-halts
-returns-in_err-formed-in-LeavesRest-clause-halts g c =
-    let s = g.R.OreRing.sig c.args.ring.now in
-    let r = c.args.r.now in
-    let before = g.C.Chooser.given c.args.chooser.now in
-    let given = g.C.Chooser.given c.run.new.chooser in
-    let f = c.in_ok-run.run' in
-    let run = c.in_ok-run.ensures in
-    let n = c.cols-cols.result in
-    let wide = c.cols-cols.ensures.value in
-    let units = reduce_rows rationals s.order (within program s) f.basis.width (monics f.basis) (identity_rows rationals n) in
-    let found = c.in_ok-reductions.ensures in
-    let x = c.in_ok-reductions.reductions in
-    let settings = g.C.Chooser.settings c.run.new.chooser in
-    let k = c.in-LeavesRest.unit in
-    let w = c.in-LeavesRest.rest in
-    let rest = leaves_rest s units f.basis.width x found.gives found.of k w c.in-LeavesRest.is in
-    let b = c.in_ok-block-in-LeavesRest.block in
-    let same = c.in_ok-block-in-LeavesRest.ensures.value r (present given) run.honest in
-    let followed = left_outside s g.C.Rule.allows g.C.Rule.allows_spent r before given f (present given) run.honest run.answered n wide k (work_of w) rest b same in
-    let e = err_from_is_err_and c.from_residual-in_err-formed-in-LeavesRest.result c.from_residual-in_err-formed-in-LeavesRest.ensures.1 in
-    rw (e.1, e.2) (certified_halts s g.C.Rule.allows g.C.Rule.allows_spent (inverse_left program s (plain r)) before given (plain r) (NoLeftInverse k b) tt followed settings _ (c.in_err-formed-in-LeavesRest.ensures.formed tt))
+    let chooser = c.find_left.new.chooser in
+    let given = g.C.Chooser.given chooser in
+    let x = c.in_ok-answer.answer in
+    let left = left_found s g.C.Rule.allows g.C.Rule.allows_spent r before given x c.in_ok-answer.ensures.answered in
+    let e = err_from_is_err_and c.from_residual-in_err-certify.result c.from_residual-in_err-certify.ensures.1 in
+    rw (e.1, e.2)
+    (certified_halts s g.C.Rule.allows g.C.Rule.allows_spent (inverse_left program s r) before given r (left_certificate_of x) (no_left_report x) left (g.C.Chooser.settings chooser) _
+    (subst (λ (d : Certificate). IsFormed s r d (Err c.in_err-certify.field-0.0)) c.left_certificate_of.ensures c.in_err-certify.ensures.formed))
 
 pub returns-clause-answered : goal.returns-clause-answered
 returns-clause-answered g c =
     let s = g.R.OreRing.sig c.args.ring.now in
-    let r = c.args.r.now in
+    let r = plain c.args.r.now in
     let before = g.C.Chooser.given c.args.chooser.now in
-    let given = g.C.Chooser.given c.run.new.chooser in
-    let f = c.in_ok-run.run' in
-    let run = c.in_ok-run.ensures in
-    let n = c.cols-cols.result in
-    let wide = c.cols-cols.ensures.value in
-    let units = reduce_rows rationals s.order (within program s) f.basis.width (monics f.basis) (identity_rows rationals n) in
-    let found = c.in_ok-reductions.ensures in
-    let x = c.in_ok-reductions.reductions in
-    let k = c.in-LeavesRest.unit in
-    let w = c.in-LeavesRest.rest in
-    let rest = leaves_rest s units f.basis.width x found.gives found.of k w c.in-LeavesRest.is in
-    let b = c.in_ok-block-in-LeavesRest.block in
-    let same = c.in_ok-block-in-LeavesRest.ensures.value r (present given) run.honest in
-    let followed = left_outside s g.C.Rule.allows g.C.Rule.allows_spent r before given f (present given) run.honest run.answered n wide k (work_of w) rest b same in
-    certified_as s g.C.Rule.allows g.C.Rule.allows_spent (inverse_left program s (plain r)) before given (plain r) (NoLeftInverse k b) tt followed _ (c.in_ok-formed-in-LeavesRest.ensures.formed tt)
+    let given = g.C.Chooser.given c.find_left.new.chooser in
+    let x = c.in_ok-answer.answer in
+    let left = left_found s g.C.Rule.allows g.C.Rule.allows_spent r before given x c.in_ok-answer.ensures.answered in
+    certified_as s g.C.Rule.allows g.C.Rule.allows_spent (inverse_left program s r) before given r (left_certificate_of x) (no_left_report x) left _
+    (subst (λ (d : Certificate). IsFormed s r d (Ok c.in_ok-certify.field-0)) c.left_certificate_of.ensures c.in_ok-certify.ensures.formed)
 
-pub returns-clause-right : goal.returns-clause-right
-returns-clause-right g c =
+pub returns-clause-correct : goal.returns-clause-correct
+returns-clause-correct g c =
     let s = g.R.OreRing.sig c.args.ring.now in
     let r = c.args.r.now in
-    let before = g.C.Chooser.given c.args.chooser.now in
-    let given = g.C.Chooser.given c.run.new.chooser in
     let of = matrix_of s r c.cols-cols.result c.cols-cols.ensures.fits c.cols-cols.ensures.value c.requires in
-    left_is_right s g.C.Rule.allows g.C.Rule.allows_spent r of before given _ (returns-clause-answered g c)
+    left_is_right s g.C.Rule.allows g.C.Rule.allows_spent r of (g.C.Chooser.given c.args.chooser.now) (g.C.Chooser.given c.find_left.new.chooser) _ (returns-clause-answered g c)
+
+pub returns-clause-kind : goal.returns-clause-kind
+returns-clause-kind g c = subst IsOfLeftInverse (sym (c.in_ok-certify.ensures.same ∙ c.left_certificate_of.ensures)) (left_kind c.in_ok-answer.answer)
 
 pub returns-clause-first : goal.returns-clause-first
 returns-clause-first g c =
-    let s = g.R.OreRing.sig c.args.ring.now in
-    let r = c.args.r.now in
-    let before = g.C.Chooser.given c.args.chooser.now in
-    let given = g.C.Chooser.given c.run.new.chooser in
-    let f = c.in_ok-run.run' in
-    let run = c.in_ok-run.ensures in
-    let n = c.cols-cols.result in
-    let wide = c.cols-cols.ensures.value in
-    let units = reduce_rows rationals s.order (within program s) f.basis.width (monics f.basis) (identity_rows rationals n) in
-    let found = c.in_ok-reductions.ensures in
-    let x = c.in_ok-reductions.reductions in
-    let of = matrix_of s r c.cols-cols.result c.cols-cols.ensures.fits c.cols-cols.ensures.value c.requires in
-    let k = c.in-LeavesRest.unit in
-    let w = c.in-LeavesRest.rest in
-    let rest = leaves_rest s units f.basis.width x found.gives found.of k w c.in-LeavesRest.is in
-    subst (NamesFirstUnit s (plain r)) (sym c.in_ok-formed-in-LeavesRest.ensures.same) (left_first s g.C.Rule.allows g.C.Rule.allows_spent r before given f (present given) run.honest run.answered n wide k (work_of w) rest of)
+    subst (NamesFirstUnit (g.R.OreRing.sig c.args.ring.now) (plain c.args.r.now)) (sym (c.in_ok-certify.ensures.same ∙ c.left_certificate_of.ensures)) c.in_ok-answer.ensures.first

@@ -2,7 +2,7 @@ use Rattle.std.proofs.Common.{subst}
 use Rattle.ore_algebra.specs.Limits.{program}
 use Rattle.ore_blocks.specs.CheckBlock.{plain}
 use Rattle.ore_groebner.specs.Courses.{FollowsTo}
-use Rattle.ore_check.specs.PlanLaws.{IsRight}
+use Rattle.ore_check.specs.PlanLaws.{IsCorrect}
 use Rattle.ore_check.specs.Plans.{inverse_right}
 use Rattle.ore_inverse.specs.Inverses.{NamesFirstUnit}
 use Rattle.ore_inverse.proofs.InverseAnswers.{right_answer}
@@ -14,7 +14,7 @@ returns-clause-inverse g c =
     let r = plain c.args.r.now in
     let found = c.in_ok-cert.ensures in
     let same = c.answer_of.ensures.right found.kind in
-    right_answer s r c.answer_of.result (subst (IsRight s r) same found.right) (subst (NamesFirstUnit s r) same found.first)
+    right_answer s r c.answer_of.result (subst (IsCorrect s r) same found.correct) (subst (NamesFirstUnit s r) same found.first)
 
 pub returns-clause-answered : goal.returns-clause-answered
 returns-clause-answered g c =

@@ -1,5 +1,5 @@
 use Rattle.std.proofs.Common.{◌∙◌, sym, subst, ap}
-use Rattle.ore_rational.proofs.FractionLaws.{rationals}
+use Rattle.ore_rational.specs.Field.{rationals}
 use Rattle.ore_ring.specs.Belongs.{OperatorOf}
 use Rattle.ore_ring.specs.Within.{opposite}
 use Rattle.ore_ring.proofs.Belonging.{of_scale}

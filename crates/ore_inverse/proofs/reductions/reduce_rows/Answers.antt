@@ -1,9 +1,9 @@
-use Rattle.std.proofs.Common.{rules, refl, true≢false, ◌≡◌, ◌+◌, ◌++◌, ◌≤◌, ◌∷◌, List, [], length, map, drop, sym, ap, ◌∙◌, arith}
+use Rattle.std.proofs.Common.{rules, refl, true≢false, ◌+◌, ◌++◌, ◌≤◌, ◌∷◌, List, [], length, map, drop, sym, ap, ◌∙◌, arith}
 use Rattle.std.proofs.lemmas.List.{map-append}
 use Rattle.std.proofs.lemmas.Result.{err_from_is_err_and}
 use Rattle.std.specs.declared.result.Result.TheVariants.{Ok}
 use Rattle.ore_algebra.specs.Limits.{program}
-use Rattle.ore_rational.proofs.FractionLaws.{rationals}
+use Rattle.ore_rational.specs.Field.{rationals}
 use Rattle.ore_monomial.proofs.Stops.{fails_like}
 use Rattle.ore_rows.specs.Arithmetic.{within}
 use Rattle.ore_rows.specs.ReduceRows.{AllReduce, reduce_rows_from}

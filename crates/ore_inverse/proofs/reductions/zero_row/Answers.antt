@@ -1,6 +1,6 @@
 use Rattle.std.proofs.lemmas.Result.{IfOk-weaker}
 use Rattle.std.proofs.Common.{◌∙◌}
-use Rattle.ore_rational.proofs.FractionLaws.{rationals}
+use Rattle.ore_rational.specs.Field.{rationals}
 use Rattle.ore_inverse.proofs.ReducedInOrder.{unit_row-past}
 use Rattle.ore_inverse.proofs.reductions.zero_row.Goals as goal
 

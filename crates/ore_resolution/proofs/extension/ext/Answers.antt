@@ -25,8 +25,8 @@ returns-clause-halts g c =
     (ext_halts (g.R.OreRing.sig c.args.ring.now) g.C.Rule.allows g.C.Rule.allows_spent c.args.r.now c.args.place (g.C.Chooser.given c.args.chooser.now) mid (resolution_of c.args.r.now c.in_ok-links.links) c.in_ok-links.ensures.answered (g.C.Chooser.given chooser) (g.C.Chooser.settings chooser))
     c.behind_links.ensures.halts
 
-pub returns-clause-right : goal.returns-clause-right
-returns-clause-right g c =
+pub returns-clause-correct : goal.returns-clause-correct
+returns-clause-correct g c =
     let s = g.R.OreRing.sig c.args.ring.now in
     let r = c.args.r.now in
     let of = matrix_of s r c.cols-cols.result c.cols-cols.ensures.fits c.cols-cols.ensures.value c.requires.of in

@@ -23,7 +23,7 @@ loop-k-init g c =
       many = none;
       few = omega arith;
       fits = λ some. absurd (omega (arith, none, some));
-      afforded = λ h. h;
+      within_budget = λ h. h;
       settings = refl;
     }
 
@@ -63,7 +63,7 @@ loop-k-preserved g c =
       many = more ∙ ap (λ n. n + 1) at.invariant.many;
       few = omega (arith, c.loop-k-test.true);
       fits = λ some. fits_pushed c.args.r.now links link c.push.new.self.items pushed c.last_matrix.result.now c.last_matrix.ensures found.fits;
-      afforded = λ h. c.next_link.ensures.afforded (at.invariant.afforded h);
+      within_budget = λ h. c.next_link.ensures.within_budget (at.invariant.within_budget h);
       settings = c.next_link.ensures.settings ∙ at.invariant.settings;
     }
 

@@ -6,7 +6,7 @@ use Rattle.ore_pairs.specs.Reached.{rule_of}
 use Rattle.ore_pairs.specs.Runner.{runner_within}
 use Rattle.ore_parts.specs.OfSignature.{IsLinkOf}
 use Rattle.ore_blocks.specs.CheckBlock.{plain}
-use Rattle.ore_groebner.specs.Choosing.{AreAfforded}
+use Rattle.ore_groebner.specs.Choosing.{AreWithinBudget}
 use Rattle.ore_check.specs.InnerContracts.{matrix_before}
 use Rattle.ore_check.specs.Plans.{links, resolution}
 use Rattle.ore_resolution.specs.Stored.{resolution_of}
@@ -20,6 +20,6 @@ invariant-loop-k g l = record {
   many : length l.links.items ≡ l.k;
   few : l.k ≤ l.count;
   fits : 1 ≤ length l.links.items → (matrix_before l.r l.links.items (length l.links.items)).cols ≡ length (matrix_before l.r l.links.items (length l.links.items - 1)).rows;
-  afforded : AreAfforded (g.C.Chooser.given l.fn.chooser) (g.C.Chooser.settings l.fn.chooser).budget → AreAfforded (g.C.Chooser.given l.chooser) (g.C.Chooser.settings l.chooser).budget;
+  within_budget : AreWithinBudget (g.C.Chooser.given l.fn.chooser) (g.C.Chooser.settings l.fn.chooser).budget → AreWithinBudget (g.C.Chooser.given l.chooser) (g.C.Chooser.settings l.chooser).budget;
   settings : g.C.Chooser.settings l.chooser ≡ g.C.Chooser.settings l.fn.chooser;
 }
