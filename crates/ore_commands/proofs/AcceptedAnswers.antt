@@ -26,17 +26,17 @@ use Rattle.ore_blocks.specs.CheckBlock.{RowMatrix}
 use Rattle.ore_check.specs.Check.{IsNoReport}
 use Rattle.ore_check.specs.Layout.{line_in}
 use Rattle.ore_check.specs.NonZeroSteps.{HasNonZeroSteps}
-use Rattle.ore_check.specs.PlanLaws.{IsRight}
+use Rattle.ore_check.specs.PlanLaws.{IsCorrect}
 use Rattle.ore_check.specs.Plans.{AnswerOf}
 use Rattle.ore_check.specs.Reports.{program_runner, plan_course}
 use Rattle.ore_check.specs.Valid.{IsValid}
 use Rattle.ore_check.proofs.NonZeroSteps.{plans_form_nonzero}
-use Rattle.ore_commands.proofs.WrittenRight.{right_may_be_written}
+use Rattle.ore_check.proofs.WrittenRight.{right_may_be_written}
 use Rattle.ore_reply.specs.Answered.{IsReplyToRead}
 use Rattle.ore_reply.specs.Replies.{valid}
 use Rattle.ore_commands.specs.AcceptedAnswers.{closed, PassesCheck, RightCertificateIsValid}
-use Rattle.ore_commands.specs.Finding.{search_by, text_of, answer_text, IsRightAnswer, IsStorableAnswer, IsFound}
-use Rattle.ore_commands.specs.Verdict.{matrix_of, checked_reply, IsCertificateReply, IsVerdict}
+use Rattle.ore_commands.specs.Finding.{search_by, text_of, answer_text, IsCorrectAnswer, IsStorableAnswer, IsFound}
+use Rattle.ore_commands.specs.ReplyOfCheck.{matrix_of, checked_reply, IsCertificateReply, IsReplyOfCheck}
 use Rattle.ore_commands.specs.declared.search.Search.{Search}
 use Rattle.ore_commands.proofs.ClosedTexts.{raw_lines-closed_append, accepted_closed}
 
@@ -78,16 +78,16 @@ names_counted before (line ∷ lines) [] kinds h = absurd h
 names_counted before (line ∷ lines) (name ∷ names) [] h = absurd h
 
 module _ (bytes : List ℕ) (p : System) (accepted : Accepted bytes p) where
-  valid_behind : (c : Certificate) → IsRight p.signature (matrix_of p) c → HasNonZeroSteps c → IsStorableCertificate c → IsVerdict (closed bytes ++ certificate_text p.names p.signature.order c) (valid (kind_word c))
+  valid_behind : (c : Certificate) → IsCorrect p.signature (matrix_of p) c → HasNonZeroSteps c → IsStorableCertificate c → IsReplyOfCheck (closed bytes ++ certificate_text p.names p.signature.order c) (valid (kind_word c))
   valid_behind c right number h =
       let count = names_counted [] accepted.declarations p.names p.signature.kinds accepted.declared in
       right_is_valid bytes p c accepted (right_may_be_written p.signature p.names accepted.names count (matrix_of p) c right number h) right
 
-  pub verdict_is_valid : (c : Certificate) → IsFound p (search_by plan.Analyse) c → IsVerdict (closed bytes ++ text_of p c) (valid (kind_word c))
-  verdict_is_valid c found = valid_behind c found.right.0 ((plans_form_nonzero p.signature).analyse (matrix_of p) found.formed.0 c found.formed.1.formed) found.storable
+  pub verdict_is_valid : (c : Certificate) → IsFound p (search_by plan.Analyse) c → IsReplyOfCheck (closed bytes ++ text_of p c) (valid (kind_word c))
+  verdict_is_valid c found = valid_behind c found.correct.0 ((plans_form_nonzero p.signature).analyse (matrix_of p) found.formed.0 c found.formed.1.formed) found.storable
 
   plan_passes : (named : Plan) (x : AnswerOf named) (runs : List (List Choice)) → IsFormedBy (program_runner p.signature) (plan_course p.signature named (matrix_of p)) runs x
-      → IsRightAnswer p.signature (matrix_of p) named x → IsStorableAnswer named x → PassesCheck false named bytes (answer_text p false named x)
+      → IsCorrectAnswer p.signature (matrix_of p) named x → IsStorableAnswer named x → PassesCheck false named bytes (answer_text p false named x)
   plan_passes plan.Analyse c runs formed right h = (c, valid_behind c right.0 ((plans_form_nonzero p.signature).analyse (matrix_of p) runs c formed) h)
   plan_passes plan.KernelLeft c runs formed right h = (c, valid_behind c right.0 ((plans_form_nonzero p.signature).kernel_left (matrix_of p) runs c formed) h)
   plan_passes plan.KernelRight c runs formed right h = (c, valid_behind c right.0 ((plans_form_nonzero p.signature).kernel_right (matrix_of p) runs c formed) h)
@@ -102,4 +102,4 @@ module _ (bytes : List ℕ) (p : System) (accepted : Accepted bytes p) where
     where
       by : (brief : Bool) → PassesCheck brief search.plan bytes (answer_text p brief search.plan x)
       by true = tt
-      by false = plan_passes search.plan x found.formed.0 found.formed.1.formed found.right found.storable
+      by false = plan_passes search.plan x found.formed.0 found.formed.1.formed found.correct found.storable

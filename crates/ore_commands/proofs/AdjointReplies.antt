@@ -18,13 +18,13 @@ use Rattle.ore_check.proofs.FormedKernels.{formed_last}
 use Rattle.ore_check.proofs.PlanReports.{adjoint_report}
 use Rattle.ore_reply.specs.declared.status.Status.TheVariants.{Done}
 use Rattle.ore_reply.specs.Replies.{Reply}
-use Rattle.ore_commands.specs.Finding.{halt_status, text_of, matrix_text}
+use Rattle.ore_commands.specs.Finding.{halt_status, text_of, text_with_matrix}
 use Rattle.ore_commands.specs.SearchLaws.{stopped_adjoint, HasOneAdjointReply}
-use Rattle.ore_commands.specs.Verdict.{matrix_of}
+use Rattle.ore_commands.specs.ReplyOfCheck.{matrix_of}
 
 reply_to : System → Result RowMatrix Cause → Reply
 reply_to p r = elim r [
-  | Ok m ↦ record { status = Done; text = matrix_text p m }
+  | Ok m ↦ record { status = Done; text = text_with_matrix p m }
   | Err why ↦ record { status = halt_status (cause_word why); text = text_of p (Halted (stopped_adjoint why)) }
 ]
 

@@ -20,8 +20,9 @@ use Rattle.ore_cert.specs.WholeText.{IsWrittenPlan}
 use Rattle.ore_cert.specs.declared.report.Plan.{Plan}
 use Rattle.ore_cert.specs.declared.report.Plan.TheVariants as plan
 use Rattle.std.specs.declared.result.Result.TheVariants.{Err}
+use Rattle.std.proofs.lemmas.Option.{same_Some}
 use Rattle.ore_io.specs.Faults.{Rose}
-use Rattle.ore_reply.specs.Answered.{IsAnswered, IsDueFrom}
+use Rattle.ore_reply.specs.Answered.{IsDelivered, IsDueFrom}
 use Rattle.ore_reply.specs.InputEnd.{CountsFault}
 use Rattle.ore_reply.specs.MadeReply.{end_reply, IsOfBytes}
 use Rattle.ore_reply.specs.declared.input.InputEnd.{InputEnd}
@@ -32,8 +33,8 @@ use Rattle.ore_reply.specs.declared.status.Status.TheVariants.{Done, ReadFault, 
 use Rattle.ore_commands.specs.declared.command.Command.{Command}
 use Rattle.ore_commands.specs.declared.command.Command.TheVariants.{Check, Search, AnalyseInBrief, AnalyseWithin, Generate, Survey}
 use Rattle.ore_commands.specs.Answer.{IsDueTo, IsDue, IsUnhalted, IsUnhaltedSearch}
-use Rattle.ore_commands.specs.Commands.{search_words, words_of, IsInRange, Calls}
-use Rattle.ore_commands.specs.Finding.{search_by, search_in_brief, search_within, IsSearchVerdict, IsUnreported}
+use Rattle.ore_commands.specs.Commands.{search_words, words_of, IsCommandInRange, AreWordsOfCommand}
+use Rattle.ore_commands.specs.Finding.{search_by, search_in_brief, search_within, IsReplyOfSearch, IsUnreported}
 use Rattle.ore_commands.specs.declared.search.Search.{Search as SearchOf}
 use Rattle.ore_commands.specs.SearchLaws.{CallOneCommand}
 use Rattle.ore_commands.proofs.Searches.{answered}
@@ -165,7 +166,7 @@ few_in_plan (plan.Resolve k) b = let most = b.1 in omega (arith, most)
 few_in_plan (plan.Ext k) b = let most = b.1 in omega (arith, most)
 few_in_plan plan.Adjoint b = omega arith
 
-few : (c : Command) → IsInRange c → number c < 2 ^ 64
+few : (c : Command) → IsCommandInRange c → number c < 2 ^ 64
 unfolding number
 few Check b = omega arith
 few (Search named) b = few_in_plan named b
@@ -199,7 +200,7 @@ plan_called_back (plan.Resolve k) b = refl
 plan_called_back (plan.Ext k) b = refl
 plan_called_back plan.Adjoint b = refl
 
-called_back : (c : Command) → IsInRange c → called (words_of c) ≡ Some (key c)
+called_back : (c : Command) → IsCommandInRange c → called (words_of c) ≡ Some (key c)
 unfolding called compared key
 called_back Check b = refl
 called_back (Search named) b = plan_called_back named b
@@ -208,9 +209,6 @@ called_back (AnalyseWithin n) b = refl
 called_back (Generate n) b = refl
 called_back (Survey n) b = refl
 
-some_same : {A : Type 0} (x y : A) → ◌≡◌ {A = Option A} (Some x) (Some y) → x ≡ y
-some_same x y e = cc
-
 no_none : {A : Type 0} (x : A) → ◌≡◌ {A = Option A} (Some x) None → ⊥
 no_none x e = cc
 
@@ -218,7 +216,7 @@ no_none x e = cc
 pub one_command : CallOneCommand
 one_command words c d h k =
     let same : words_of c ≡ words_of d = sym h.1 ∙ k.1 in
-    let keys : key c ≡ key d = some_same (key c) (key d) (sym (called_back c h.0) ∙ ap called same ∙ called_back d k.0) in
+    let keys : key c ≡ key d = same_Some (key c) (key d) (sym (called_back c h.0) ∙ ap called same ∙ called_back d k.0) in
     let numerals : decimal (number c) ≡ decimal (number d) = sym (spelled c) ∙ ap (digits (key c)) same ∙ ap (λ x. digits x (words_of d)) keys ∙ spelled d in
     let numbers : number c ≡ number d = decimal_injective (number c) (number d) (few c h.0) (few d k.0) numerals in
     sym (made c) ∙ ap (with_number (key c)) numbers ∙ ap (λ x. with_number x (number d)) keys ∙ made d
@@ -228,7 +226,7 @@ one_command words c d h k =
 not_beyond : (bytes taken : List ℕ) (after : Option (List ℕ)) (n : ℕ) → length bytes ≤ n → length taken ≡ n + 1 → Some bytes ≡ prepend_known taken after → ⊥
 not_beyond bytes taken None n few count known = no_none bytes known
 not_beyond bytes taken (Some rest) n few count known =
-    let parts : length bytes ≡ length (taken ++ rest) = ap length (some_same bytes (taken ++ rest) known) in
+    let parts : length bytes ≡ length (taken ++ rest) = ap length (same_Some bytes (taken ++ rest) known) in
     omega (arith, few, count, parts, length-append taken rest)
 
 -- bytes don't call for it, and a failing sink has another status
@@ -257,31 +255,31 @@ end_no_read A e old new status h none (inr f) k = apart (sym f ∙ k)
     apart : ◌≡◌ {A = Status} WriteFault ReadFault → ⊥
     apart x = cc
 
-module _ (search : SearchOf) (bytes : List ℕ) (few : length bytes ≤ 1048576) (none : IsUnreported search bytes) where
-  due_done : (after : Option (List ℕ)) (due : Reply) → IsDueFrom (IsSearchVerdict search) (Some 1048576) (Some bytes) after due → (due.status ≡ ReadFault) ⊎ ((due.status ≡ Memory) ⊎ (due.status ≡ Done))
+module _ (limit : ℕ) (search : SearchOf) (bytes : List ℕ) (few : length bytes ≤ limit) (none : IsUnreported search bytes) where
+  due_done : (after : Option (List ℕ)) (due : Reply) → IsDueFrom (IsReplyOfSearch search) (Some limit) (Some bytes) after due → (due.status ≡ ReadFault) ⊎ ((due.status ≡ Memory) ⊎ (due.status ≡ Done))
   due_done after due (inl e) = inl (ap (λ (r : Reply). r.status) e)
   due_done after due (inr (inl e)) = inr (inl (ap (λ (r : Reply). r.status) e))
-  due_done after due (inr (inr (inl (e, takes)))) = absurd (not_beyond bytes takes.0 after 1048576 few takes.1 takes.2)
+  due_done after due (inr (inr (inl (e, takes)))) = absurd (not_beyond bytes takes.0 after limit few takes.1 takes.2)
   due_done after due (inr (inr (inr (read, within, was, own)))) =
-      inr (inr (answered search bytes due none (subst (λ b. IsSearchVerdict search b due) was.0 own)))
+      inr (inr (answered search bytes due none (subst (λ b. IsReplyOfSearch search b due) was.0 own)))
 
-search_done : (search : SearchOf) (before after : Option (List ℕ)) (due : Reply) → IsUnhaltedSearch search before → IsDueFrom (IsSearchVerdict search) (Some 1048576) before after due
+search_done : (limit : ℕ) (search : SearchOf) (before after : Option (List ℕ)) (due : Reply) → IsUnhaltedSearch (Some limit) search before → IsDueFrom (IsReplyOfSearch search) (Some limit) before after due
     → (due.status ≡ ReadFault) ⊎ ((due.status ≡ Memory) ⊎ (due.status ≡ Done))
-search_done search before after due (bytes, known, few, none) own = due_done search bytes few none after due (subst (λ x. IsDueFrom (IsSearchVerdict search) (Some 1048576) x after due) known own)
+search_done limit search before after due (bytes, known, few, none) own = due_done limit search bytes few none after due (subst (λ x. IsDueFrom (IsReplyOfSearch search) (Some limit) x after due) known own)
 
 command_done : (c : Command) (before after : Option (List ℕ)) (due : Reply) → IsUnhalted c before → IsDueTo c before after due → (due.status ≡ ReadFault) ⊎ ((due.status ≡ Memory) ⊎ (due.status ≡ Done))
 command_done Check before after due unhalted own = absurd unhalted
-command_done (Search named) before after due unhalted own = search_done (search_by named) before after due unhalted own
-command_done AnalyseInBrief before after due unhalted own = search_done search_in_brief before after due unhalted own
-command_done (AnalyseWithin n) before after due unhalted own = search_done (search_within n) before after due unhalted own
+command_done (Search named) before after due unhalted own = search_done _ (search_by named) before after due unhalted own
+command_done AnalyseInBrief before after due unhalted own = search_done _ search_in_brief before after due unhalted own
+command_done (AnalyseWithin n) before after due unhalted own = search_done _ (search_within n) before after due unhalted own
 command_done (Generate n) before after due unhalted (inl e) = inr (inl (ap (λ (r : Reply). r.status) e))
 command_done (Generate n) before after due unhalted (inr e) = inr (inr (ap (λ (r : Reply). r.status) e))
 command_done (Survey n) before after due unhalted (inl e) = inr (inl (ap (λ (r : Reply). r.status) e))
 command_done (Survey n) before after due unhalted (inr (inl (done, says))) = inr (inr done)
 command_done (Survey n) before after due unhalted (inr (inr (report, honest, e))) = absurd (unhalted report honest)
 
-pub ends : (words : List (List ℕ)) (before after old new : Option (List ℕ)) (due : Reply) (status : Status) → IsDue words before after due → IsAnswered due status old new
-    → status ≢ ReadFault → status ≢ WriteFault → (c : Command) → Calls words c → IsUnhalted c before → (status ≡ Done) ⊎ (status ≡ Memory)
+pub ends : (words : List (List ℕ)) (before after old new : Option (List ℕ)) (due : Reply) (status : Status) → IsDue words before after due → IsDelivered due status old new
+    → status ≢ ReadFault → status ≢ WriteFault → (c : Command) → AreWordsOfCommand words c → IsUnhalted c before → (status ≡ Done) ⊎ (status ≡ Memory)
 ends words before after old new due status is_due (inr written) no_read no_write c calls unhalted = absurd (no_write written.0)
 ends words before after old new due status (inl unknown) (inl written) no_read no_write c calls unhalted = absurd (unknown.0 (c, calls))
 ends words before after old new due status (inr (d, known, own)) (inl written) no_read no_write c calls unhalted =

@@ -1,5 +1,5 @@
 -- What a search by a plan finds, and why it halts.
---     certified-right, transposed-right     a certificate that is found is right; the transposed adjoint is of the signature
+--     certified-correct, transposed-correct     a certificate that is found is right; the transposed adjoint is of the signature
 --     certified-any                         what holds of every certificate holds of it
 --     certified-found, transposed-found     the plan asked for answers it
 --     certified-halts, transposed-halts     that plan halts so
@@ -14,32 +14,32 @@ use Rattle.ore_course.specs.Choices.{Runner}
 use Rattle.ore_course.specs.Following.{Follows}
 use Rattle.ore_course.specs.Leading.{Rule}
 use Rattle.ore_course.proofs.Calls.{started, worked_last, halt_reported}
-use Rattle.ore_rational.proofs.FractionLaws.{rationals}
+use Rattle.ore_rational.specs.Field.{rationals}
 use Rattle.ore_monomial.specs.Gives.{Gives}
 use Rattle.ore_monomial.specs.Signature.{Signature}
 use Rattle.ore_monomial.specs.declared.stop.RingStop.{RingStop}
 use Rattle.ore_ring.specs.Belongs.{AllBelong}
-use Rattle.ore_rows.specs.Shown.{Shown}
+use Rattle.ore_rows.specs.BasisLeads.{BasisLeads}
 use Rattle.ore_rows.specs.Stored.{OperatorMatrix, rows_of, sums_of}
 use Rattle.ore_rows.specs.declared.choices.Choice.{Choice}
 use Rattle.ore_adjoint.specs.AdjointMatrix.{transpose_adjoint_within}
 use Rattle.ore_pairs.specs.Reached.{rule_of}
-use Rattle.ore_pairs.specs.Run.{State}
+use Rattle.ore_pairs.specs.Run.{RunState}
 use Rattle.ore_pairs.specs.Runner.{runner_within}
 use Rattle.ore_cert.specs.declared.certificate.Certificate.{Certificate}
 use Rattle.ore_cert.specs.declared.report.Plan.{Plan}
 use Rattle.ore_cert.specs.declared.report.Plan.TheVariants as plan
 use Rattle.ore_blocks.specs.CheckBlock.{RowMatrix, plain}
 use Rattle.ore_blocks.specs.KernelCourse.{transposed_adjoint_within}
-use Rattle.ore_groebner.specs.Choosing.{Settings, AreAfforded}
-use Rattle.ore_groebner.specs.Courses.{FollowsTo, halt_of}
+use Rattle.ore_groebner.specs.Choosing.{Settings, AreWithinBudget}
+use Rattle.ore_groebner.specs.Courses.{FollowsTo, halt_in_course}
 use Rattle.ore_groebner.specs.declared.outcome.Halt.{Halt}
 use Rattle.ore_groebner.proofs.EngineCalls.{work_halts_last}
 use Rattle.ore_syzygy.proofs.FollowedKernels.{adjoint_value, adjoint_stop}
-use Rattle.ore_check.specs.PlanLaws.{IsRight}
-use Rattle.ore_check.specs.Plans.{AnswerOf, adjoint}
+use Rattle.ore_check.specs.PlanLaws.{IsCorrect}
+use Rattle.ore_check.specs.Plans.{AnswerOf, adjoint_course}
 use Rattle.ore_check.specs.Reports.{program_runner, plan_course}
-use Rattle.ore_commands.specs.Search.{certified_of, transposed_of, IsFoundOf, IsFoundBy, IsHaltedBy, IsReportedBy, IsOfPlan, IsRightFound}
+use Rattle.ore_commands.specs.Search.{certified_of, transposed_of, IsFoundOf, IsFoundBy, IsHaltedBy, IsReportedBy, IsOfPlan, IsCorrectFound}
 use Rattle.ore_commands.proofs.Searches.{none_treated}
 use Rattle.ore_commands.specs.declared.found.Found.{Found}
 use Rattle.ore_commands.specs.declared.found.Found.TheVariants.{Certified}
@@ -69,15 +69,15 @@ module _ (answer : Result Certificate Halt) (result : Result Found Halt) (is : r
       by (Err halt) = tt
 
   module _ (s : Signature) (r : RowMatrix) where
-    pub certified-right : (asked named : Plan) → asked ≡ named → IfOk answer (IsRight s r) → IfOk answer (IsOfPlan named) → IfOk result (IsRightFound s r asked)
-    certified-right asked named e h k =
-        subst (λ p. IfOk result (IsRightFound s r p)) (sym e) (ok (λ c. IsRight s r c × IsOfPlan named c) (IsRightFound s r named) (λ c right. right) (both answer h k))
+    pub certified-correct : (asked named : Plan) → asked ≡ named → IfOk answer (IsCorrect s r) → IfOk answer (IsOfPlan named) → IfOk result (IsCorrectFound s r asked)
+    certified-correct asked named e h k =
+        subst (λ p. IfOk result (IsCorrectFound s r p)) (sym e) (ok (λ c. IsCorrect s r c × IsOfPlan named c) (IsCorrectFound s r named) (λ c right. right) (both answer h k))
       where
-        both : (answer : Result Certificate Halt) → IfOk answer (IsRight s r) → IfOk answer (IsOfPlan named) → IfOk answer (λ c. IsRight s r c × IsOfPlan named c)
+        both : (answer : Result Certificate Halt) → IfOk answer (IsCorrect s r) → IfOk answer (IsOfPlan named) → IfOk answer (λ c. IsCorrect s r c × IsOfPlan named c)
         both (Ok c) h k = (h, k)
         both (Err halt) h k = tt
 
-    module _ (allows : Shown → List (ℕ × ℕ) → Choice → Bool) (allows_spent : Shown → List (ℕ × ℕ) → Bool) (before given : List (List Choice)) (asked named : Plan) (same : asked ≡ named) where
+    module _ (allows : BasisLeads → List (ℕ × ℕ) → Choice → Bool) (allows_spent : BasisLeads → List (ℕ × ℕ) → Bool) (before given : List (List Choice)) (asked named : Plan) (same : asked ≡ named) where
       pub certified-found : (of : Certificate → AnswerOf named) → ((c : Certificate) → IsFoundOf named (of c) (Certified c)) → IfOk answer (λ c. FollowsTo s allows allows_spent (plan_course s named r) before given (of c))
           → IfOk result (IsFoundBy s r allows allows_spent asked before given)
       certified-found of is_of h = subst (λ (plan : Plan). IfOk result (IsFoundBy s r allows allows_spent plan before given)) (sym same)
@@ -88,21 +88,21 @@ module _ (answer : Result Certificate Halt) (result : Result Found Halt) (is : r
           (subst (λ (plan : Plan). IfErr answer (IsHaltedBy s r allows allows_spent plan before given settings)) (sym same) h)
 
 -- the transposed adjoint
-module _ (s : Signature) (allows : Shown → List (ℕ × ℕ) → Choice → Bool) (allows_spent : Shown → List (ℕ × ℕ) → Bool) (r : OperatorMatrix) (before : List (List Choice)) where
-  abbrev runner : Runner (State rationals) Choice
+module _ (s : Signature) (allows : BasisLeads → List (ℕ × ℕ) → Choice → Bool) (allows_spent : BasisLeads → List (ℕ × ℕ) → Bool) (r : OperatorMatrix) (before : List (List Choice)) where
+  abbrev runner : Runner (RunState rationals) Choice
   runner = runner_within program s
 
-  abbrev rule : Rule (State rationals) Choice
+  abbrev rule : Rule (RunState rationals) Choice
   rule = rule_of s allows allows_spent
 
-  begun : Follows runner rule (adjoint program s (plain r)) before before (adjoint program s (plain r))
-  begun = started runner rule (adjoint program s (plain r)) before
+  begun : Follows runner rule (adjoint_course program s (plain r)) before before (adjoint_course program s (plain r))
+  begun = started runner rule (adjoint_course program s (plain r)) before
 
   module _ (answer : Result OperatorMatrix RingStop) (result : Result Found Halt) (is : result ≡ transposed_of answer) where
-    pub transposed-right : (asked : Plan) → IfOk answer (λ m. All (AllBelong s) m.rows) → IfOk result (IsRightFound s (plain r) asked)
-    transposed-right asked h = subst (λ x. IfOk x (IsRightFound s (plain r) asked)) (sym is) (by answer h)
+    pub transposed-correct : (asked : Plan) → IfOk answer (λ m. All (AllBelong s) m.rows) → IfOk result (IsCorrectFound s (plain r) asked)
+    transposed-correct asked h = subst (λ x. IfOk x (IsCorrectFound s (plain r) asked)) (sym is) (by answer h)
       where
-        by : (answer : Result OperatorMatrix RingStop) → IfOk answer (λ m. All (AllBelong s) m.rows) → IfOk (transposed_of answer) (IsRightFound s (plain r) asked)
+        by : (answer : Result OperatorMatrix RingStop) → IfOk answer (λ m. All (AllBelong s) m.rows) → IfOk (transposed_of answer) (IsCorrectFound s (plain r) asked)
         by (Ok m) h = h
         by (Err stop) h = tt
 
@@ -130,9 +130,9 @@ module _ (s : Signature) (allows : Shown → List (ℕ × ℕ) → Choice → Bo
           by (Err stop) gives = work_halts_last s allows allows_spent before settings (transposed_adjoint_within program s (plain r)) stop (adjoint_stop s (plain r) stop gives) begun
 
 -- a search that began with no runs
-pub search-reported : (s : Signature) (r : RowMatrix) (allows : Shown → List (ℕ × ℕ) → Choice → Bool) (allows_spent : Shown → List (ℕ × ℕ) → Bool) (named : Plan) (before given : List (List Choice)) (old settings : Settings)
-    (result : Result Found Halt) → IfErr result (IsHaltedBy s r allows allows_spent named before given settings) → (AreAfforded before old.budget → AreAfforded given settings.budget) → before ≡ []
+pub search-reported : (s : Signature) (r : RowMatrix) (allows : BasisLeads → List (ℕ × ℕ) → Choice → Bool) (allows_spent : BasisLeads → List (ℕ × ℕ) → Bool) (named : Plan) (before given : List (List Choice)) (old settings : Settings)
+    (result : Result Found Halt) → IfErr result (IsHaltedBy s r allows allows_spent named before given settings) → (AreWithinBudget before old.budget → AreWithinBudget given settings.budget) → before ≡ []
     → IfErr result (IsReportedBy s r allows allows_spent named given settings.budget)
-search-reported s r allows allows_spent named before given old settings result h afforded start =
-    halt_reported (program_runner s) (rule_of s allows allows_spent) (plan_course s named r) halt_of result before given settings.budget settings.replays settings.kept h start
-    (afforded (subst (λ runs. AreAfforded runs old.budget) (sym start) (none_treated old.budget)))
+search-reported s r allows allows_spent named before given old settings result h within_budget start =
+    halt_reported (program_runner s) (rule_of s allows allows_spent) (plan_course s named r) halt_in_course result before given settings.budget settings.replays settings.kept h start
+    (within_budget (subst (λ runs. AreWithinBudget runs old.budget) (sym start) (none_treated old.budget)))

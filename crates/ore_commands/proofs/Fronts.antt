@@ -4,7 +4,7 @@ use Rattle.std.proofs.Common.{◌≡◌, ℕ, List, length, drop, Ok, ap, subst,
 use Rattle.std.proofs.Math.Seq.{drop-append_seam}
 use Rattle.ore_problem.specs.Problems.{System, prefix_sizes}
 use Rattle.ore_problem.proofs.FrontReads.{prefix_reads_exactly}
-use Rattle.ore_commands.specs.Verdict.{SaysValid, HoldsCertificate}
+use Rattle.ore_commands.specs.ReplyOfCheck.{SaysValid, HoldsCertificate}
 
 pub front_holds : (said bytes : List ℕ) (p : System) (used lines : ℕ) → prefix_sizes bytes ≡ Ok (p, (used, lines)) → SaysValid p (drop used bytes) said → HoldsCertificate said bytes
 front_holds said bytes p used lines e h =

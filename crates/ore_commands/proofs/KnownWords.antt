@@ -4,7 +4,8 @@
 --     second_word      a list of two words, the first of which is known
 --     number_called    a number is named by words exactly where these spell it
 --     two_words_tell   a list of two words, the first of which is known, is one of two known ones exactly where the second is too
-use Rattle.std.proofs.Common.{◌≡◌, ℕ, ◌<◌, Bool, true, false, not, List, [], ◌∷◌, length, refl, sym, ap, subst, ◌∙◌, arith, Some, slice_get, nat_eq}
+use Rattle.ore_text.proofs.Powers.{same_word}
+use Rattle.std.proofs.Common.{◌≡◌, ℕ, ◌<◌, Bool, true, false, not, List, [], ◌∷◌, length, sym, ap, subst, ◌∙◌, arith, Some, slice_get, nat_eq}
 use Rattle.std.specs.Prelude.{IsTrue, ◌↔◌, MatchOption, decimal}
 use Rattle.std.specs.declared.option.Option.{Option}
 use Rattle.std.specs.declared.option.Option.TheVariants.{None}
@@ -57,13 +58,6 @@ three_words (x ∷ y ∷ z ∷ []) a b d l e f g =
     let k : Some y ≡ Some b = f in
     let i : Some z ≡ Some d = g in cc
 three_words (x ∷ y ∷ z ∷ w ∷ words) a b d l e f g = absurd (omega (arith, l))
-
-same_word : (a b : List ℕ) → false ≡ not (pointwise nat_eq a b) → a ≡ b
-same_word a b e = (bytes_eq-Decides a b).0 (by (pointwise nat_eq a b) e)
-  where
-    by : (x : Bool) → false ≡ not x → x ≡ true
-    by true e = refl
-    by false e = cc
 
 pub third_word : (words : List (List ℕ)) (first second a b d : List ℕ) → length words ≡ 3 → slice_get words 0 ≡ Some a → false ≡ not (pointwise nat_eq a first)
     → slice_get words 1 ≡ Some b → false ≡ not (pointwise nat_eq b second) → slice_get words 2 ≡ Some d → words ≡ first ∷ second ∷ d ∷ []

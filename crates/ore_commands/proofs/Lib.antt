@@ -1,9 +1,9 @@
 pub mod KnownWords
 pub mod Fronts
-pub mod Verdicts
-pub mod OneVerdict
+pub mod RepliesOfCheck
+pub mod OneReply
 pub mod Faultless
-pub mod SomeVerdict
+pub mod SomeReply
 pub mod ClosedTexts
 pub mod AcceptedAnswers
 pub mod Searches
@@ -13,5 +13,4 @@ pub mod Completeness
 pub mod AdjointReplies
 pub mod ReportLines
 pub mod Replays
-pub mod WrittenRight
 pub mod OneSearchReply

@@ -22,7 +22,7 @@ use Rattle.ore_reply.specs.Replies.{Reply}
 use Rattle.ore_reply.specs.declared.status.Status.TheVariants.{Done}
 use Rattle.ore_commands.specs.Finding.{live_rule, halt_status, text_of, answer_text, IsSearchReply}
 use Rattle.ore_commands.specs.SearchLaws.{HasOneSearchReply}
-use Rattle.ore_commands.specs.Verdict.{matrix_of}
+use Rattle.ore_commands.specs.ReplyOfCheck.{matrix_of}
 use Rattle.ore_commands.specs.declared.search.Search.{Search}
 use Rattle.ore_commands.proofs.Replays.{runner_closed}
 
@@ -59,14 +59,14 @@ module _ (p : System) (search : Search) where
   one_reply : (a b : Reply) → IsSearchReply p search a → IsSearchReply p search b → a ≡ b
   one_reply a b (inl (x, f, e)) (inl (y, g, h)) =
       let s = p.signature in
-      let same = one_answer (program_runner s) (live_rule s) (runner_closed s) (strict program s) search.budget (plan_course s search.plan (matrix_of p)) f.formed.0 g.formed.0 x y f.formed.1.formed f.formed.1.allowed f.formed.1.paid g.formed.1.formed g.formed.1.allowed g.formed.1.paid in
+      let same = one_answer (program_runner s) (live_rule s) (runner_closed s) (strict program s) search.budget (plan_course s search.plan (matrix_of p)) f.formed.0 g.formed.0 x y f.formed.1.formed f.formed.1.allowed f.formed.1.within_budget g.formed.1.formed g.formed.1.allowed g.formed.1.within_budget in
       e ∙ ap (λ z. record { status = Done; text = answer_text p search.brief search.plan z }) same.1 ∙ sym h
   one_reply a b (inl (x, f, e)) (inr (r, honest, h)) =
       let s = p.signature in
-      absurd (not_both (program_runner s) (live_rule s) (runner_closed s) (strict program s) search.budget (plan_course s search.plan (matrix_of p)) f.formed.0 x (course_report r) f.formed.1.formed f.formed.1.allowed f.formed.1.paid honest.honest honest.within)
+      absurd (not_both (program_runner s) (live_rule s) (runner_closed s) (strict program s) search.budget (plan_course s search.plan (matrix_of p)) f.formed.0 x (course_report r) f.formed.1.formed f.formed.1.allowed f.formed.1.within_budget honest.honest honest.within)
   one_reply a b (inr (r, honest, h)) (inl (x, f, e)) =
       let s = p.signature in
-      absurd (not_both (program_runner s) (live_rule s) (runner_closed s) (strict program s) search.budget (plan_course s search.plan (matrix_of p)) f.formed.0 x (course_report r) f.formed.1.formed f.formed.1.allowed f.formed.1.paid honest.honest honest.within)
+      absurd (not_both (program_runner s) (live_rule s) (runner_closed s) (strict program s) search.budget (plan_course s search.plan (matrix_of p)) f.formed.0 x (course_report r) f.formed.1.formed f.formed.1.allowed f.formed.1.within_budget honest.honest honest.within)
   one_reply a b (inr (r, honest, h)) (inr (q, other, k)) =
       let s = p.signature in
       let same = one_report (program_runner s) (live_rule s) (runner_closed s) (strict program s) search.budget (plan_course s search.plan (matrix_of p)) (course_report r) (course_report q) honest.honest honest.within other.honest other.within in

@@ -3,7 +3,7 @@
 --     found_answer, halted_answer     the answer where the search found something, and where it halted
 --     none_halted, some_halted        the same, by the halt of its result
 --     decides                  an answer that is that of the check is valid where the report is honest
---     IsFrom                   the answer is that of the lines of the report from a run on
+--     IsReplayedFrom           the answer is that of the lines of the report from a run on
 --     none_begun, fewer_passed, all_passed    a run that wasn't begun; of which fewer choices passed; of which all did
 --     more_begun, stop_fails, stop_passes     behind the last run
 --     passed_inside, passed_all, passed_but_one    how many choices of a run passed
@@ -16,9 +16,9 @@ use Rattle.std.specs.declared.option.Option.{Option}
 use Rattle.std.specs.declared.option.Option.TheVariants.{None, Some}
 use Rattle.std.proofs.lemmas.Option.{get_or_from_slice_get}
 use Rattle.ore_algebra.specs.Limits.{program}
-use Rattle.ore_rational.proofs.FractionLaws.{rationals, rational_inverses}
-use Rattle.ore_course.specs.Choices.{IsClosed, treats_in, without_last}
-use Rattle.ore_course.specs.Failing.{Place, OfRun, OfChoice, OfStop}
+use Rattle.ore_rational.specs.Field.{rationals, rational_inverses}
+use Rattle.ore_course.specs.Choices.{IsClosed, treatment_count_in, without_last}
+use Rattle.ore_course.specs.Failing.{ReportPlace, OfRun, OfChoice, OfStop}
 use Rattle.ore_course.specs.Following.{Memory, IsHaltedIn}
 use Rattle.ore_course.specs.Replaying.{End, kept_of, passed_of, stop_decided, replayed, AreFronts}
 use Rattle.ore_course.proofs.Replay.{fronts, replay_answered, replay_halted}
@@ -31,7 +31,7 @@ use Rattle.ore_pairs.specs.Runner.{treats_pair}
 use Rattle.ore_cert.specs.CourseReport.{reported_as, stop_as, course_report}
 use Rattle.ore_cert.specs.declared.report.Report.{Report}
 use Rattle.ore_blocks.specs.CheckBlock.{RowMatrix}
-use Rattle.ore_groebner.specs.Courses.{halt_of}
+use Rattle.ore_groebner.specs.Courses.{halt_in_course}
 use Rattle.ore_groebner.specs.declared.outcome.Halt.{Halt}
 use Rattle.ore_groebner.specs.declared.outcome.Halt.TheVariants as stopped
 use Rattle.ore_check.specs.declared.answer.Checked.{Checked as Answer}
@@ -43,7 +43,7 @@ use Rattle.ore_commands.specs.ReportAnswers.{end_of, answer_to}
 use Rattle.ore_commands.specs.Search.{IsFoundBy, IsHaltedBy}
 use Rattle.ore_commands.specs.declared.found.Found.{Found}
 use Rattle.ore_commands.proofs.ReportLines.{from, run_missing, choice_missing, choices_given, one_more, at_stop, passed-length, passed_before, passed_last}
-use Rattle.ore_commands.proofs.Verdicts.{answer_same}
+use Rattle.ore_commands.proofs.RepliesOfCheck.{answer_same}
 
 pub runner_closed : (s : Signature) → IsClosed (program_runner s)
 runner_closed s st c e = closed rationals rational_inverses s.order (within program s) st c e
@@ -58,7 +58,7 @@ module _ (s : Signature) (r : RowMatrix) (report : Report) (chooser : ReplayStat
       ap (answer_to report) (sym (replay_answered (program_runner s) (runner_closed s) (rule_of s replay_allows replay_allows_spent) (plan_course s report.plan r) (course_report report) (given_by chooser) h.0 h.1 given_fronts))
       ∙ sym (answer_same report (failing_place s r report))
 
-  some_memory : (halt : Halt) → halt ≢ stopped.Memory → halt_of halt ≢ Memory
+  some_memory : (halt : Halt) → halt ≢ stopped.Memory → halt_in_course halt ≢ Memory
   some_memory (stopped.Overflow place) h e = cc
   some_memory (stopped.Degree place) h e = cc
   some_memory stopped.Spent h e = cc
@@ -71,8 +71,8 @@ module _ (s : Signature) (r : RowMatrix) (report : Report) (chooser : ReplayStat
       let R = program_runner s in
       let rule = rule_of s replay_allows replay_allows_spent in
       let course = plan_course s report.plan r in
-      let halts = subst (λ kept. IsHaltedIn R rule course [] (given_by chooser) (replay_settings chooser).budget true kept (halt_of halt)) keeps h in
-      ap (answer_to report) (sym (replay_halted R (runner_closed s) rule course (course_report report) (given_by chooser) (replay_settings chooser).budget (halt_of halt) halts given_fronts (some_memory halt memory)))
+      let halts = subst (λ kept. IsHaltedIn R rule course [] (given_by chooser) (replay_settings chooser).budget true kept (halt_in_course halt)) keeps h in
+      ap (answer_to report) (sym (replay_halted R (runner_closed s) rule course (course_report report) (given_by chooser) (replay_settings chooser).budget (halt_in_course halt) halts given_fronts (some_memory halt memory)))
       ∙ sym (answer_same report (failing_place s r report))
 
   module _ (result : Result Found Halt) (before : List (List Choice)) (start : before ≡ []) where
@@ -103,43 +103,43 @@ decides s r report given is memory = let e = is memory in (λ valid. (report_tru
 -- ---- the lines of a report, from a run on
 
 module _ (report : Report) (given : List (List Choice)) (end : End Choice) where
-  abbrev pub IsFrom : ℕ → Type 0
-  IsFrom k = (s : Signature) → replayed (program_runner s) (course_report report) given end ≡ from s (course_report report) end (passed_of given end) report.runs k
+  abbrev pub IsReplayedFrom : ℕ → Type 0
+  IsReplayedFrom k = (s : Signature) → replayed (program_runner s) (course_report report) given end ≡ from s (course_report report) end (passed_of given end) report.runs k
 
-  abbrev pub IsAnswer : Answer → Type 0
-  IsAnswer result = (s : Signature) → result ≡ answer_to report (replayed (program_runner s) (course_report report) given end)
+  abbrev pub IsReplayAnswer : Answer → Type 0
+  IsReplayAnswer result = (s : Signature) → result ≡ answer_to report (replayed (program_runner s) (course_report report) given end)
 
   abbrev pub passed : List (List Choice)
   passed = passed_of given end
 
-  module _ (k : ℕ) (h : IsFrom k) where
-    decided_so : (result : Answer) (place : Option (Place Choice)) → ((s : Signature) → from s (course_report report) end passed report.runs k ≡ place) → result ≡ answer_to report place → IsAnswer result
+  module _ (k : ℕ) (h : IsReplayedFrom k) where
+    decided_so : (result : Answer) (place : Option (ReportPlace Choice)) → ((s : Signature) → from s (course_report report) end passed report.runs k ≡ place) → result ≡ answer_to report place → IsReplayAnswer result
     decided_so result place f e = λ s. e ∙ ap (answer_to report) (sym (h s ∙ f s))
 
-    pub none_begun : (result : Answer) → length given ≤ k → k < length report.runs → result ≡ answer_to report (Some (OfRun k)) → IsAnswer result
+    pub none_begun : (result : Answer) → length given ≤ k → k < length report.runs → result ≡ answer_to report (Some (OfRun k)) → IsReplayAnswer result
     none_begun result l m e = decided_so result _ (λ s. run_missing s (course_report report) end passed report.runs k (rw (passed-length given end) l) m) e
 
     pub fewer_passed : (result : Answer) (c : Choice) (n : ℕ) → n ≡ length (get_or passed k []) → k < length given → k < length report.runs → slice_get (get_or report.runs k []) n ≡ Some c
-        → result ≡ answer_to report (Some (OfChoice k n c)) → IsAnswer result
+        → result ≡ answer_to report (Some (OfChoice k n c)) → IsReplayAnswer result
     fewer_passed result c n same l m at e =
         let at_length = subst (λ n. slice_get (get_or report.runs k []) n ≡ Some c) same at in
         let e_length = subst (λ n. result ≡ answer_to report (Some (OfChoice k n c))) same e in
         decided_so result _ (λ s. choice_missing s (course_report report) end passed report.runs k c (rw (passed-length given end) l) m at_length) e_length
 
-    pub all_passed : k < length given → k < length report.runs → length (get_or report.runs k []) ≤ length (get_or passed k []) → IsFrom (suc k)
+    pub all_passed : k < length given → k < length report.runs → length (get_or report.runs k []) ≤ length (get_or passed k []) → IsReplayedFrom (suc k)
     all_passed l m n = λ s. h s ∙ choices_given s (course_report report) end passed report.runs k (rw (passed-length given end) l) m n
 
-    pub more_begun : (result : Answer) → length report.runs ≤ k → k < length given → result ≡ answer_to report (Some OfStop) → IsAnswer result
+    pub more_begun : (result : Answer) → length report.runs ≤ k → k < length given → result ≡ answer_to report (Some OfStop) → IsReplayAnswer result
     more_begun result m l e = decided_so result _ (λ s. one_more s (course_report report) end passed report.runs k m (rw (passed-length given end) l)) e
 
-    module _ (test : Bool) (is : test ≡ stop_decided (reported_as report.cause) (treats_in treats_pair report.runs) (stop_as report.stop) end) (m : length report.runs ≤ k) (l : length given ≤ k) where
+    module _ (test : Bool) (is : test ≡ stop_decided (reported_as report.cause) (treatment_count_in treats_pair report.runs) (stop_as report.stop) end) (m : length report.runs ≤ k) (l : length given ≤ k) where
       here : (s : Signature) → from s (course_report report) end passed report.runs k ≡ cond test None (Some OfStop)
       here s = at_stop s (course_report report) end passed report.runs k m (rw (passed-length given end) l) ∙ ap (λ b. cond b None (Some OfStop)) (sym is)
 
-      pub stop_passes : test ≡ true → IsAnswer answer.Valid
+      pub stop_passes : test ≡ true → IsReplayAnswer answer.Valid
       stop_passes t = decided_so answer.Valid None (λ s. here s ∙ ap (λ b. cond b None (Some OfStop)) t) refl
 
-      pub stop_fails : (result : Answer) → test ≡ false → result ≡ answer_to report (Some OfStop) → IsAnswer result
+      pub stop_fails : (result : Answer) → test ≡ false → result ≡ answer_to report (Some OfStop) → IsReplayAnswer result
       stop_fails result t e = decided_so result (Some OfStop) (λ s. here s ∙ ap (λ b. cond b None (Some OfStop)) t) e
 
 -- ---- how many choices of a run passed

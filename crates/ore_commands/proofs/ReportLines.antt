@@ -5,7 +5,7 @@
 --     passed-length            as many runs passed as were given
 --     passed_before, without_last-at, passed_last    the choices that passed in a run before the last, and in the last
 --     capped_sum, capped_more  a number that rises to 2^64 - 1 and stays there
---     treats_in-drop, treats-drop    how many treatments are left
+--     treatment_count_in-drop, treatment_count-drop    how many treatments are left
 --     lines-more               the lines of one more run
 --     .._step, .._end          one step of a loop that counts treatments or lines, and its end
 --     run_line, choice_line, stop_line     the answer at a run, at a choice, and at the stop line
@@ -18,8 +18,8 @@ use Rattle.std.proofs.lemmas.Bool.Decides.{nat_tests}
 use Rattle.std.proofs.lemmas.Option.{slice_get_past, slice_get_within, get_or_from_slice_get}
 use Rattle.std.proofs.lemmas.List.{drop_all}
 use Rattle.std.proofs.Math.Seq.{drop-cons}
-use Rattle.ore_course.specs.Choices.{but_last, without_last, treats, treats_in, cost}
-use Rattle.ore_course.specs.Failing.{Place, OfRun, OfChoice, OfStop, lines_before, line_of}
+use Rattle.ore_course.specs.Choices.{but_last, without_last, treatment_count, treatment_count_in, cost}
+use Rattle.ore_course.specs.Failing.{ReportPlace, OfRun, OfChoice, OfStop, run_lines_before, report_line}
 use Rattle.ore_course.specs.Following.{Passed, Spent, NoLawful, Memory, InForced, InChoice}
 use Rattle.ore_course.specs.Report.{Report}
 use Rattle.ore_course.specs.Replaying.{End, passed_of, stop_decided, decided}
@@ -37,7 +37,7 @@ use Rattle.ore_commands.specs.ReportAnswers.{answer_to, line_at}
 -- ---- the line that fails
 
 module _ (s : Signature) (report : Report Choice) (end : End Choice) (passed runs : List (List Choice)) where
-  abbrev pub from : ℕ → Option (Place Choice)
+  abbrev pub from : ℕ → Option (ReportPlace Choice)
   from k = decided (program_runner s) report end k (drop k passed) (drop k runs)
 
   pub run_missing : (k : ℕ) → length passed ≤ k → k < length runs → from k ≡ Some (OfRun k)
@@ -61,7 +61,7 @@ module _ (s : Signature) (report : Report Choice) (end : End Choice) (passed run
   unfolding decided
   one_more k h l = ap₂ (decided (program_runner s) report end k) (drop-cons passed k [] l) (drop_all k runs h)
 
-  pub at_stop : (k : ℕ) → length runs ≤ k → length passed ≤ k → from k ≡ cond (stop_decided report.cause (treats_in treats_pair report.runs) report.stop end) None (Some OfStop)
+  pub at_stop : (k : ℕ) → length runs ≤ k → length passed ≤ k → from k ≡ cond (stop_decided report.cause (treatment_count_in treats_pair report.runs) report.stop end) None (Some OfStop)
   unfolding decided
   at_stop k h l = ap₂ (decided (program_runner s) report end k) (drop_all k passed l) (drop_all k runs h)
 
@@ -135,24 +135,24 @@ capped_more a b rest =
 pub capped_small : (n : ℕ) → n ≤ 18446744073709551615 → capped n ≡ n
 capped_small n l = let e = capped_is n in omega (arith, e, l)
 
-pub treats_in-drop : (runs : List (List Choice)) (k : ℕ) → k < length runs → treats_in treats_pair (drop k runs) ≡ treats treats_pair (get_or runs k []) + treats_in treats_pair (drop (suc k) runs)
-unfolding treats_in
-treats_in-drop runs k h = ap (treats_in treats_pair) (drop-cons runs k [] h)
+pub treatment_count_in-drop : (runs : List (List Choice)) (k : ℕ) → k < length runs → treatment_count_in treats_pair (drop k runs) ≡ treatment_count treats_pair (get_or runs k []) + treatment_count_in treats_pair (drop (suc k) runs)
+unfolding treatment_count_in
+treatment_count_in-drop runs k h = ap (treatment_count_in treats_pair) (drop-cons runs k [] h)
 
-pub treats_in-end : (runs : List (List Choice)) (k : ℕ) → length runs ≤ k → treats_in treats_pair (drop k runs) ≡ 0
-unfolding treats_in
-treats_in-end runs k h = ap (treats_in treats_pair) (drop_all k runs h)
+pub treatment_count_in-end : (runs : List (List Choice)) (k : ℕ) → length runs ≤ k → treatment_count_in treats_pair (drop k runs) ≡ 0
+unfolding treatment_count_in
+treatment_count_in-end runs k h = ap (treatment_count_in treats_pair) (drop_all k runs h)
 
-pub treats-drop : (cs : List Choice) (k : ℕ) (c : Choice) → k < length cs → treats treats_pair (drop k cs) ≡ cost treats_pair (get_or cs k c) + treats treats_pair (drop (suc k) cs)
-unfolding treats
-treats-drop cs k c h = ap (treats treats_pair) (drop-cons cs k c h)
+pub treatment_count-drop : (cs : List Choice) (k : ℕ) (c : Choice) → k < length cs → treatment_count treats_pair (drop k cs) ≡ cost treats_pair (get_or cs k c) + treatment_count treats_pair (drop (suc k) cs)
+unfolding treatment_count
+treatment_count-drop cs k c h = ap (treatment_count treats_pair) (drop-cons cs k c h)
 
-pub treats-end : (cs : List Choice) (k : ℕ) → length cs ≤ k → treats treats_pair (drop k cs) ≡ 0
-unfolding treats
-treats-end cs k h = ap (treats treats_pair) (drop_all k cs h)
+pub treatment_count-end : (cs : List Choice) (k : ℕ) → length cs ≤ k → treatment_count treats_pair (drop k cs) ≡ 0
+unfolding treatment_count
+treatment_count-end cs k h = ap (treatment_count treats_pair) (drop_all k cs h)
 
-pub lines-more : (runs : List (List Choice)) (k : ℕ) → k < length runs → lines_before runs (suc k) ≡ lines_before runs k + suc (length (get_or runs k []))
-unfolding lines_before
+pub lines-more : (runs : List (List Choice)) (k : ℕ) → k < length runs → run_lines_before runs (suc k) ≡ run_lines_before runs k + suc (length (get_or runs k []))
+unfolding run_lines_before
 lines-more [] k h = absurd (omega (arith, h))
 lines-more (cs ∷ []) zero h = omega arith
 lines-more (cs ∷ ds ∷ runs) zero h = omega arith
@@ -170,66 +170,66 @@ module _ (runs : List (List Choice)) (k : ℕ) (run : List Choice) (e : slice_ge
   more_is : k + 1 ≡ suc k
   more_is = omega arith
 
-  pub treated_step : (t b total : ℕ) → b ≡ capped (treats treats_pair run) → capped (t + treats_in treats_pair (drop k runs)) ≡ total → capped (min (t + b) 18446744073709551615 + treats_in treats_pair (drop (k + 1) runs)) ≡ total
+  pub treated_step : (t b total : ℕ) → b ≡ capped (treatment_count treats_pair run) → capped (t + treatment_count_in treats_pair (drop k runs)) ≡ total → capped (min (t + b) 18446744073709551615 + treatment_count_in treats_pair (drop (k + 1) runs)) ≡ total
   treated_step t b total f inv =
-      ap₂ (λ x n. capped (min (t + x) 18446744073709551615 + treats_in treats_pair (drop n runs))) f more_is
-      ∙ capped_more t (treats treats_pair run) (treats_in treats_pair (drop (suc k) runs))
-      ∙ ap (λ n. capped (t + n)) (sym (treats_in-drop runs k within ∙ ap (λ cs. treats treats_pair cs + treats_in treats_pair (drop (suc k) runs)) read))
+      ap₂ (λ x n. capped (min (t + x) 18446744073709551615 + treatment_count_in treats_pair (drop n runs))) f more_is
+      ∙ capped_more t (treatment_count treats_pair run) (treatment_count_in treats_pair (drop (suc k) runs))
+      ∙ ap (λ n. capped (t + n)) (sym (treatment_count_in-drop runs k within ∙ ap (λ cs. treatment_count treats_pair cs + treatment_count_in treats_pair (drop (suc k) runs)) read))
       ∙ inv
 
-  pub line_step : (line : ℕ) → line ≡ capped (4 + lines_before runs k) → min (line + (length run + 1)) 18446744073709551615 ≡ capped (4 + lines_before runs (k + 1))
+  pub line_step : (line : ℕ) → line ≡ capped (4 + run_lines_before runs k) → min (line + (length run + 1)) 18446744073709551615 ≡ capped (4 + run_lines_before runs (k + 1))
   line_step line inv =
       ap (λ n. min (n + (length run + 1)) 18446744073709551615) inv
-      ∙ capped_sum (4 + lines_before runs k) (length run + 1)
+      ∙ capped_sum (4 + run_lines_before runs k) (length run + 1)
       ∙ ap capped same
     where
-      lines : lines_before runs (k + 1) ≡ lines_before runs k + suc (length run)
-      lines = ap (lines_before runs) more_is ∙ lines-more runs k within ∙ ap (λ cs. lines_before runs k + suc (length cs)) read
+      lines : run_lines_before runs (k + 1) ≡ run_lines_before runs k + suc (length run)
+      lines = ap (run_lines_before runs) more_is ∙ lines-more runs k within ∙ ap (λ cs. run_lines_before runs k + suc (length cs)) read
 
-      same : 4 + lines_before runs k + (length run + 1) ≡ 4 + lines_before runs (k + 1)
+      same : 4 + run_lines_before runs k + (length run + 1) ≡ 4 + run_lines_before runs (k + 1)
       same = omega (arith, lines)
 
 pub line_start : (runs : List (List Choice)) → 4 ≡ capped (line_at runs 0)
-unfolding lines_before
+unfolding run_lines_before
 line_start [] = refl
 line_start (cs ∷ runs) = refl
 
-pub treated_end : (runs : List (List Choice)) (k t total : ℕ) → length runs ≤ k → t ≤ 18446744073709551615 → capped (t + treats_in treats_pair (drop k runs)) ≡ total → t ≡ total
-treated_end runs k t total l small inv = sym (capped_small t small) ∙ ap capped (let none = treats_in-end runs k l in let h : t ≡ t + treats_in treats_pair (drop k runs) = omega (arith, none) in h) ∙ inv
+pub treated_end : (runs : List (List Choice)) (k t total : ℕ) → length runs ≤ k → t ≤ 18446744073709551615 → capped (t + treatment_count_in treats_pair (drop k runs)) ≡ total → t ≡ total
+treated_end runs k t total l small inv = sym (capped_small t small) ∙ ap capped (let none = treatment_count_in-end runs k l in let h : t ≡ t + treatment_count_in treats_pair (drop k runs) = omega (arith, none) in h) ∙ inv
 
-pub counted_step : (cs : List Choice) (k : ℕ) (c : Choice) (t b total : ℕ) → slice_get cs k ≡ Some c → b ≡ cost treats_pair c → capped (t + treats treats_pair (drop k cs)) ≡ total → capped (min (t + b) 18446744073709551615 + treats treats_pair (drop (k + 1) cs)) ≡ total
+pub counted_step : (cs : List Choice) (k : ℕ) (c : Choice) (t b total : ℕ) → slice_get cs k ≡ Some c → b ≡ cost treats_pair c → capped (t + treatment_count treats_pair (drop k cs)) ≡ total → capped (min (t + b) 18446744073709551615 + treatment_count treats_pair (drop (k + 1) cs)) ≡ total
 unfolding cost
 counted_step cs k c t b total e f inv =
     let small : cost treats_pair c ≤ 18446744073709551615 = cost_small (treats_pair c) in
     let more : k + 1 ≡ suc k = omega arith in
-    ap₂ (λ x n. capped (min (t + x) 18446744073709551615 + treats treats_pair (drop n cs))) (f ∙ sym (capped_small (cost treats_pair c) small)) more
-    ∙ capped_more t (cost treats_pair c) (treats treats_pair (drop (suc k) cs))
-    ∙ ap (λ n. capped (t + n)) (sym (treats-drop cs k c (slice_get_within cs k c e) ∙ ap (λ d. cost treats_pair d + treats treats_pair (drop (suc k) cs)) (get_or_from_slice_get cs k c c e)))
+    ap₂ (λ x n. capped (min (t + x) 18446744073709551615 + treatment_count treats_pair (drop n cs))) (f ∙ sym (capped_small (cost treats_pair c) small)) more
+    ∙ capped_more t (cost treats_pair c) (treatment_count treats_pair (drop (suc k) cs))
+    ∙ ap (λ n. capped (t + n)) (sym (treatment_count-drop cs k c (slice_get_within cs k c e) ∙ ap (λ d. cost treats_pair d + treatment_count treats_pair (drop (suc k) cs)) (get_or_from_slice_get cs k c c e)))
     ∙ inv
   where
     cost_small : (b : Bool) → cond b 1 0 ≤ 18446744073709551615
     cost_small true = omega arith
     cost_small false = omega arith
 
-pub counted_end : (cs : List Choice) (k t total : ℕ) → length cs ≤ k → t ≤ 18446744073709551615 → capped (t + treats treats_pair (drop k cs)) ≡ total → t ≡ total
-counted_end cs k t total l small inv = sym (capped_small t small) ∙ ap capped (let none = treats-end cs k l in let h : t ≡ t + treats treats_pair (drop k cs) = omega (arith, none) in h) ∙ inv
+pub counted_end : (cs : List Choice) (k t total : ℕ) → length cs ≤ k → t ≤ 18446744073709551615 → capped (t + treatment_count treats_pair (drop k cs)) ≡ total → t ≡ total
+counted_end cs k t total l small inv = sym (capped_small t small) ∙ ap capped (let none = treatment_count-end cs k l in let h : t ≡ t + treatment_count treats_pair (drop k cs) = omega (arith, none) in h) ∙ inv
 
 -- ---- the answer at a line
 
 module _ (report : Certified) where
   pub run_line : (k line : ℕ) → line ≡ capped (line_at report.runs k) → answer.Invalid line reason.Run ≡ answer_to report (Some (OfRun k))
-  unfolding line_of
+  unfolding report_line
   run_line k line e = ap (λ n. answer.Invalid n reason.Run) e
 
   pub choice_line : (k n line next : ℕ) (c : Choice) (why : Reason) → line ≡ capped (line_at report.runs k) → next ≡ min (line + (n + 1)) 18446744073709551615 → why ≡ reason_of (OfChoice k n c)
       → answer.Invalid next why ≡ answer_to report (Some (OfChoice k n c))
-  unfolding line_of
+  unfolding report_line
   choice_line k n line next c why e f g =
       let sum : line_at report.runs k + (n + 1) ≡ suc (line_at report.runs k + n) = omega arith in
       ap₂ answer.Invalid (f ∙ ap (λ m. min (m + (n + 1)) 18446744073709551615) e ∙ capped_sum (line_at report.runs k) (n + 1) ∙ ap capped sum) g
 
   pub stop_line : (line : ℕ) → line ≡ capped (line_at report.runs (length report.runs)) → answer.Invalid line reason.Stop ≡ answer_to report (Some OfStop)
-  unfolding line_of
+  unfolding report_line
   stop_line line e = ap (λ n. answer.Invalid n reason.Stop) e
 
 pub same_budget : (m n : ℕ) → m < 4294967296 → nat_eq m (capped n) ≡ nat_eq m n

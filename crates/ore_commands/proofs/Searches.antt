@@ -10,7 +10,7 @@
 --     answered         where no report is honest, the reply is an answer
 use Rattle.std.proofs.Common.{◌≡◌, ◌≢◌, inl, inr, ℕ, Bool, List, [], ap, sym, subst, ◌∙◌, arith}
 use Rattle.ore_algebra.specs.Limits.{program}
-use Rattle.ore_course.specs.Choices.{treats_in}
+use Rattle.ore_course.specs.Choices.{treatment_count_in}
 use Rattle.ore_course.specs.Following.{IsReportable, report_of}
 use Rattle.ore_course.specs.Leading.{IsFormedBy}
 use Rattle.ore_course.specs.Report.{IsHonestBy, IsWithin}
@@ -29,8 +29,8 @@ use Rattle.ore_cert.specs.declared.report.Plan.TheVariants as plan
 use Rattle.ore_cert.specs.declared.report.Report.{Report}
 use Rattle.ore_blocks.specs.CheckBlock.{RowMatrix}
 use Rattle.ore_blocks.specs.KernelCourse.{transposed_adjoint_within}
-use Rattle.ore_groebner.specs.Choosing.{AreAfforded}
-use Rattle.ore_groebner.specs.Courses.{halt_of}
+use Rattle.ore_groebner.specs.Choosing.{AreWithinBudget}
+use Rattle.ore_groebner.specs.Courses.{halt_in_course}
 use Rattle.ore_groebner.specs.declared.outcome.Halt.{Halt}
 use Rattle.ore_check.specs.Plans.{AnswerOf}
 use Rattle.ore_check.specs.Reports.{program_runner, plan_course, IsReportOf}
@@ -40,9 +40,9 @@ use Rattle.ore_reply.specs.Answered.{IsReplyToRead}
 use Rattle.ore_reply.specs.Replies.{Reply}
 use Rattle.ore_reply.specs.declared.status.Status.TheVariants.{Done}
 use Rattle.ore_commands.specs.AcceptedAnswers.{PassesCheck}
-use Rattle.ore_commands.specs.Finding.{live_rule, halt_status, answer_text, found_text, IsRightAnswer, IsStorableAnswer, IsFoundReply, IsSearchReply, IsSearchVerdict, HoldsAnswer, IsUnreported}
-use Rattle.ore_commands.specs.Search.{IsFoundOf, IsFoundBy, IsReportedBy, IsRightFound, IsStorableFound}
-use Rattle.ore_commands.specs.Verdict.{matrix_of}
+use Rattle.ore_commands.specs.Finding.{live_rule, halt_status, answer_text, found_text, IsCorrectAnswer, IsStorableAnswer, IsFoundReply, IsSearchReply, IsReplyOfSearch, HoldsAnswer, IsUnreported}
+use Rattle.ore_commands.specs.Search.{IsFoundOf, IsFoundBy, IsReportedBy, IsCorrectFound, IsStorableFound}
+use Rattle.ore_commands.specs.ReplyOfCheck.{matrix_of}
 use Rattle.ore_commands.specs.declared.found.Found.{Found}
 use Rattle.ore_commands.specs.declared.found.Found.TheVariants.{Certified, Transposed}
 use Rattle.ore_commands.specs.declared.search.Search.{Search}
@@ -51,15 +51,15 @@ use Rattle.ore_commands.proofs.AcceptedAnswers.{passes}
 -- ---- answers
 
 module _ (s : Signature) (r : RowMatrix) where
-  pub right_answer : (named : Plan) (x : AnswerOf named) (found : Found) → IsFoundOf named x found → IsRightFound s r named found
-      → (runs : List (List Choice)) → IsFormedBy (program_runner s) (plan_course s named r) runs x → IsRightAnswer s r named x
-  right_answer plan.Analyse x (Certified c) e right runs formed = subst (λ y. IsRightAnswer s r plan.Analyse y) (sym e) right
-  right_answer plan.KernelLeft x (Certified c) e right runs formed = subst (λ y. IsRightAnswer s r plan.KernelLeft y) (sym e) right
-  right_answer plan.KernelRight x (Certified c) e right runs formed = subst (λ y. IsRightAnswer s r plan.KernelRight y) (sym e) right
-  right_answer plan.InverseLeft x (Certified c) e right runs formed = subst (λ y. IsRightAnswer s r plan.InverseLeft y) (sym e) right
-  right_answer plan.InverseRight x (Certified c) e right runs formed = subst (λ y. IsRightAnswer s r plan.InverseRight y) (sym e) right
-  right_answer (plan.Resolve k) x (Certified c) e right runs formed = subst (λ y. IsRightAnswer s r (plan.Resolve k) y) (sym e) right
-  right_answer (plan.Ext k) x (Certified c) e right runs formed = subst (λ y. IsRightAnswer s r (plan.Ext k) y) (sym e) right
+  pub right_answer : (named : Plan) (x : AnswerOf named) (found : Found) → IsFoundOf named x found → IsCorrectFound s r named found
+      → (runs : List (List Choice)) → IsFormedBy (program_runner s) (plan_course s named r) runs x → IsCorrectAnswer s r named x
+  right_answer plan.Analyse x (Certified c) e right runs formed = subst (λ y. IsCorrectAnswer s r plan.Analyse y) (sym e) right
+  right_answer plan.KernelLeft x (Certified c) e right runs formed = subst (λ y. IsCorrectAnswer s r plan.KernelLeft y) (sym e) right
+  right_answer plan.KernelRight x (Certified c) e right runs formed = subst (λ y. IsCorrectAnswer s r plan.KernelRight y) (sym e) right
+  right_answer plan.InverseLeft x (Certified c) e right runs formed = subst (λ y. IsCorrectAnswer s r plan.InverseLeft y) (sym e) right
+  right_answer plan.InverseRight x (Certified c) e right runs formed = subst (λ y. IsCorrectAnswer s r plan.InverseRight y) (sym e) right
+  right_answer (plan.Resolve k) x (Certified c) e right runs formed = subst (λ y. IsCorrectAnswer s r (plan.Resolve k) y) (sym e) right
+  right_answer (plan.Ext k) x (Certified c) e right runs formed = subst (λ y. IsCorrectAnswer s r (plan.Ext k) y) (sym e) right
   right_answer plan.Adjoint x (Certified c) e right runs formed = absurd e
   right_answer plan.Analyse x (Transposed m) e right runs formed = absurd e
   right_answer plan.KernelLeft x (Transposed m) e right runs formed = absurd e
@@ -110,23 +110,23 @@ module _ (p : System) where
 -- ---- a search
 
 -- every budget allows no choices
-pub none_treated : (budget : ℕ) → AreAfforded [] budget
-unfolding treats_in
+pub none_treated : (budget : ℕ) → AreWithinBudget [] budget
+unfolding treatment_count_in
 none_treated budget = omega arith
 
-module _ (p : System) (search : Search) (given : List (List Choice)) (paid : AreAfforded given search.budget) where
-  pub found_replied : (found : Found) → IsFoundBy p.signature (matrix_of p) chain_allows chain_allows_spent search.plan [] given found → IsRightFound p.signature (matrix_of p) search.plan found → IsStorableFound found
+module _ (p : System) (search : Search) (given : List (List Choice)) (within_budget : AreWithinBudget given search.budget) where
+  pub found_replied : (found : Found) → IsFoundBy p.signature (matrix_of p) chain_allows chain_allows_spent search.plan [] given found → IsCorrectFound p.signature (matrix_of p) search.plan found → IsStorableFound found
       → (reply : Reply) → reply ≡ record { status = Done; text = found_text p search.brief found } → IsFoundReply p search reply
   found_replied found (x, follows, is_found) right storable reply e =
-      let formed = formed_within (program_runner p.signature) (live_rule p.signature) search.budget follows paid in (
+      let formed = formed_within (program_runner p.signature) (live_rule p.signature) search.budget follows within_budget in (
         x,
-        record { formed = (given, formed); right = right_answer p.signature (matrix_of p) search.plan x found is_found right given formed.formed; storable = storable_answer search.plan x found is_found storable },
+        record { formed = (given, formed); correct = right_answer p.signature (matrix_of p) search.plan x found is_found right given formed.formed; storable = storable_answer search.plan x found is_found storable },
         e ∙ ap (λ t. record { status = Done; text = t }) (same_text p search.brief search.plan x found is_found),
       )
 
 module _ (p : System) (search : Search) (given : List (List Choice)) where
-  pub is_report : (halt : Halt) → IsReportedBy p.signature (matrix_of p) chain_allows chain_allows_spent search.plan given search.budget halt → IsReportable (halt_of halt)
-      → (report : Report) → report.plan ≡ search.plan → course_report report ≡ report_of given search.budget (halt_of halt) → IsReportOf p.signature (live_rule p.signature) search.budget search.plan (matrix_of p) report
+  pub is_report : (halt : Halt) → IsReportedBy p.signature (matrix_of p) chain_allows chain_allows_spent search.plan given search.budget halt → IsReportable (halt_in_course halt)
+      → (report : Report) → report.plan ≡ search.plan → course_report report ≡ report_of given search.budget (halt_in_course halt) → IsReportOf p.signature (live_rule p.signature) search.budget search.plan (matrix_of p) report
   is_report halt reported reportable report plan_is same =
       let (honest, within) = reported reportable in
       record {
@@ -149,7 +149,7 @@ module _ (search : Search) where
       (p, accepted, (x, found, text), subst (PassesCheck search.brief search.plan bytes) (sym text) (passes bytes p accepted search x found))
   said bytes p reply accepted (inr (report, honest, e)) done = absurd (stopped_not_done report.cause (sym (ap (λ (r : Reply). r.status) e) ∙ done))
 
-  pub answered : (bytes : List ℕ) (reply : Reply) → IsUnreported search bytes → IsSearchVerdict search bytes reply → reply.status ≡ Done
+  pub answered : (bytes : List ℕ) (reply : Reply) → IsUnreported search bytes → IsReplyOfSearch search bytes reply → reply.status ≡ Done
   answered bytes reply (p, accepted, none) h = by reply (subst (λ r. IsReplyToRead (λ q. IsSearchReply q search) r reply) ((reads_exactly bytes p).1 accepted) h)
     where
       by : (reply : Reply) → IsSearchReply p search reply → reply.status ≡ Done

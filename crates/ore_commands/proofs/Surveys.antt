@@ -21,7 +21,7 @@ use Rattle.ore_commands.specs.AcceptedAnswers.{closed}
 use Rattle.ore_commands.specs.Finding.{search_by, text_of, IsFound, SaysFound}
 use Rattle.ore_commands.specs.Generating.{generated_text}
 use Rattle.ore_commands.specs.Surveying.{survey_text, SaysSurveyed}
-use Rattle.ore_commands.specs.Verdict.{IsVerdict, HasOneVerdict}
+use Rattle.ore_commands.specs.ReplyOfCheck.{IsReplyOfCheck, HasOneReplyOfCheck}
 use Rattle.ore_commands.proofs.AcceptedAnswers.{verdict_is_valid}
 
 -- ---- line ends
@@ -48,18 +48,18 @@ problem_is_closed p =
 -- ---- what is found
 
 module _ (read : GeneratedIsRead) (n : ℕ) where
-  found_is_valid : (c : Certificate) → IsFound (generated n) (search_by Analyse) c → IsVerdict (generated_text n ++ text_of (generated n) c) (valid (kind_word c))
+  found_is_valid : (c : Certificate) → IsFound (generated n) (search_by Analyse) c → IsReplyOfCheck (generated_text n ++ text_of (generated n) c) (valid (kind_word c))
   found_is_valid c found =
-      subst (λ t. IsVerdict (t ++ text_of (generated n) c) (valid (kind_word c))) (problem_is_closed (generated n))
+      subst (λ t. IsReplyOfCheck (t ++ text_of (generated n) c) (valid (kind_word c))) (problem_is_closed (generated n))
       (verdict_is_valid (generated_text n) (generated n) ((reads_exactly (generated_text n) (generated n)).0 (read n)) c found)
 
   -- the text of what `check` replies, and what the lines say that have its end
-  pub survey_due : HasOneVerdict → (certificate : List ℕ) (checked : Reply) → SaysFound (generated n) (search_by Analyse) certificate → IsVerdict (generated_text n ++ certificate) checked
+  pub survey_due : HasOneReplyOfCheck → (certificate : List ℕ) (checked : Reply) → SaysFound (generated n) (search_by Analyse) certificate → IsReplyOfCheck (generated_text n ++ certificate) checked
       → (verdict : List ℕ) × (checked.text ≡ codes "valid " ++ verdict) × ((text : List ℕ) → text ≡ survey_text verdict (length certificate) → SaysSurveyed n text)
   survey_due one certificate checked (c, found, said) verdict =
-      let due = subst (λ t. IsVerdict (generated_text n ++ t) (valid (kind_word c))) (sym said) (found_is_valid c found) in
+      let due = subst (λ t. IsReplyOfCheck (generated_text n ++ t) (valid (kind_word c))) (sym said) (found_is_valid c found) in
       let word = kind_word c ++ codes "\n" in (
         word,
         ap (λ (r : Reply). r.text) (one (generated_text n ++ certificate) checked (valid (kind_word c)) verdict due),
-        λ text e. (c, found, e ∙ ap (λ t. survey_text word (length t)) said),
+        λ text e. record { certificate = c; found = found; text = e ∙ ap (λ t. survey_text word (length t)) said },
       )

@@ -10,9 +10,9 @@ use Rattle.ore_cert.specs.declared.report.Plan.{Plan}
 use Rattle.ore_cert.specs.declared.report.Plan.TheVariants as plan
 use Rattle.ore_cert.specs.KindWords.{kind_word}
 use Rattle.ore_cert.specs.WholeText.{certificate_text, IsWrittenCertificate}
-use Rattle.ore_check.specs.PlanLaws.{IsRight}
+use Rattle.ore_check.specs.PlanLaws.{IsCorrect}
 use Rattle.ore_reply.specs.Replies.{valid}
-use Rattle.ore_commands.specs.Verdict.{matrix_of, IsVerdict}
+use Rattle.ore_commands.specs.ReplyOfCheck.{matrix_of, IsReplyOfCheck}
 
 -- with a line end behind, where the last line lacks it; no bytes stay none
 unfoldable pub closed : List ℕ → List ℕ
@@ -25,10 +25,10 @@ closed (b ∷ c ∷ bs) = b ∷ closed (c ∷ bs)
 abbrev pub PassesCheck : Bool → Plan → List ℕ → List ℕ → Type 0
 PassesCheck true named bytes said = Unit {0}
 PassesCheck false plan.Adjoint bytes said = Unit {0}
-PassesCheck false named bytes said = (c : Certificate) × IsVerdict (closed bytes ++ said) (valid (kind_word c))
+PassesCheck false named bytes said = (c : Certificate) × IsReplyOfCheck (closed bytes ++ said) (valid (kind_word c))
 
 -- Some bytes are accepted as the text of a problem. A certificate that is right of its matrix, and may be written with its
 -- names, is written behind them: `check` replies that it is valid.
 abbrev pub RightCertificateIsValid : Type 0
-RightCertificateIsValid = (bytes : List ℕ) (p : System) (c : Certificate) → Accepted bytes p → IsWrittenCertificate p.signature p.names c → IsRight p.signature (matrix_of p) c
-    → IsVerdict (closed bytes ++ certificate_text p.names p.signature.order c) (valid (kind_word c))
+RightCertificateIsValid = (bytes : List ℕ) (p : System) (c : Certificate) → Accepted bytes p → IsWrittenCertificate p.signature p.names c → IsCorrect p.signature (matrix_of p) c
+    → IsReplyOfCheck (closed bytes ++ certificate_text p.names p.signature.order c) (valid (kind_word c))

@@ -12,9 +12,9 @@ use Rattle.ore_reply.specs.Replies.{Reply, unknown_words}
 use Rattle.ore_reply.specs.Answered.{IsDueFrom, given_input}
 use Rattle.ore_commands.specs.declared.command.Command.{Command}
 use Rattle.ore_commands.specs.declared.command.Command.TheVariants.{Check, Search, AnalyseInBrief, AnalyseWithin, Generate, Survey}
-use Rattle.ore_commands.specs.Commands.{Calls, IsKnown, input_limit}
-use Rattle.ore_commands.specs.Verdict.{IsVerdict, HoldsCertificate}
-use Rattle.ore_commands.specs.Finding.{search_by, search_in_brief, search_within, IsSearchVerdict, HoldsAnswer, IsUnreported}
+use Rattle.ore_commands.specs.Commands.{AreWordsOfCommand, IsKnown, input_limit}
+use Rattle.ore_commands.specs.ReplyOfCheck.{IsReplyOfCheck, HoldsCertificate}
+use Rattle.ore_commands.specs.Finding.{search_by, search_in_brief, search_within, IsReplyOfSearch, HoldsAnswer, IsUnreported}
 use Rattle.ore_commands.specs.Generating.{generated_text, generated_reply}
 use Rattle.ore_commands.specs.Surveying.{SaysSurveyed, IsSurveyReply, HasUnreportedNumber}
 use Rattle.ore_commands.specs.declared.search.Search.{Search as SearchOf}
@@ -22,10 +22,10 @@ use Rattle.ore_commands.specs.declared.search.Search.{Search as SearchOf}
 -- Of `check`, the verdict; of a search, the answer that its plan forms, or an honest report; of `generate`, the problem; of
 -- `survey`, the verdict on this problem, or an honest report.
 abbrev pub IsReplyOf : Command → List ℕ → Reply → Type 0
-IsReplyOf Check bytes reply = IsVerdict bytes reply
-IsReplyOf (Search plan) bytes reply = IsSearchVerdict (search_by plan) bytes reply
-IsReplyOf AnalyseInBrief bytes reply = IsSearchVerdict search_in_brief bytes reply
-IsReplyOf (AnalyseWithin budget) bytes reply = IsSearchVerdict (search_within budget) bytes reply
+IsReplyOf Check bytes reply = IsReplyOfCheck bytes reply
+IsReplyOf (Search plan) bytes reply = IsReplyOfSearch (search_by plan) bytes reply
+IsReplyOf AnalyseInBrief bytes reply = IsReplyOfSearch search_in_brief bytes reply
+IsReplyOf (AnalyseWithin budget) bytes reply = IsReplyOfSearch (search_within budget) bytes reply
 IsReplyOf (Generate n) bytes reply = reply ≡ generated_reply n
 IsReplyOf (Survey n) bytes reply = IsSurveyReply n reply
 
@@ -49,21 +49,21 @@ IsDueTo c before after reply = IsDueFrom (IsReplyOf c) (input_limit c) before af
 -- words that are no command are answered whatever the input
 abbrev pub IsDue : List (List ℕ) → Option (List ℕ) → Option (List ℕ) → Reply → Type 0
 IsDue words before after reply =
-    ((¬ IsKnown words) × (reply ≡ unknown_words)) ⊎ ((c : Command) × Calls words c × IsDueTo c before after reply)
+    ((¬ IsKnown words) × (reply ≡ unknown_words)) ⊎ ((c : Command) × AreWordsOfCommand words c × IsDueTo c before after reply)
 
 -- of the bytes that the command is given
 abbrev pub TellsTruth : Command → List ℕ → Option (List ℕ) → Type 0
 TellsTruth c said before = IfSome (given_input (input_limit c) before) (IsTrueOf c said)
 
--- the source tells it, it is within the limit, and accepted
-abbrev pub IsUnhaltedSearch : SearchOf → Option (List ℕ) → Type 0
-IsUnhaltedSearch search before = (bytes : List ℕ) × (before ≡ Some bytes) × (length bytes ≤ 1048576) × IsUnreported search bytes
+-- the source tells it, it is within the limit of the command, and accepted
+abbrev pub IsUnhaltedSearch : Option ℕ → SearchOf → Option (List ℕ) → Type 0
+IsUnhaltedSearch limit search before = (bytes : List ℕ) × (before ≡ Some bytes) × IfSome limit (λ most. length bytes ≤ most) × IsUnreported search bytes
 
 -- the command is a search of such an input, `generate`, which always has an answer, or `survey` of such a problem
 abbrev pub IsUnhalted : Command → Option (List ℕ) → Type 0
 IsUnhalted Check before = ⊥
-IsUnhalted (Search plan) before = IsUnhaltedSearch (search_by plan) before
-IsUnhalted AnalyseInBrief before = IsUnhaltedSearch search_in_brief before
-IsUnhalted (AnalyseWithin budget) before = IsUnhaltedSearch (search_within budget) before
+IsUnhalted (Search plan) before = IsUnhaltedSearch (input_limit (Search plan)) (search_by plan) before
+IsUnhalted AnalyseInBrief before = IsUnhaltedSearch (input_limit AnalyseInBrief) search_in_brief before
+IsUnhalted (AnalyseWithin budget) before = IsUnhaltedSearch (input_limit (AnalyseWithin budget)) (search_within budget) before
 IsUnhalted (Generate n) before = Unit {0}
 IsUnhalted (Survey n) before = HasUnreportedNumber n

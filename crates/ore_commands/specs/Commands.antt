@@ -3,8 +3,8 @@
 --     budget_words     the words that call `analyse` with a budget
 --     number_words     a word and a number
 --     words_of         the words that call a command
---     IsInRange        the number of a command is in its range
---     Calls            words call a command
+--     IsCommandInRange  the number of a command is in its range
+--     AreWordsOfCommand  words call a command
 --     IsKnown          the words of a command
 --     Names            the value whose words these are, or none where there is no such value
 --     input_limit      the greatest number of bytes that a command reads, where it reads at all
@@ -18,7 +18,7 @@ use Rattle.ore_cert.specs.declared.report.Plan.TheVariants as plan
 use Rattle.ore_commands.specs.declared.command.Command.{Command}
 use Rattle.ore_commands.specs.declared.command.Command.TheVariants.{Check, Search, AnalyseInBrief, AnalyseWithin, Generate, Survey}
 use Rattle.ore_commands.specs.Finding.{greatest_budget}
-use Rattle.ore_commands.specs.Generating.{greatest_number}
+use Rattle.ore_commands.specs.Generating.{greatest_problem_number}
 
 -- a right kernel parametrises what the matrix describes
 abbrev pub search_words : Plan → List (List ℕ)
@@ -49,21 +49,21 @@ words_of (Generate n) = number_words (codes "generate") n
 words_of (Survey n) = number_words (codes "survey") n
 
 -- so many links as there may be, a budget and a number that aren't too great
-abbrev pub IsInRange : Command → Type 0
-IsInRange Check = Unit {0}
-IsInRange (Search plan) = IsWrittenPlan plan
-IsInRange AnalyseInBrief = Unit {0}
-IsInRange (AnalyseWithin budget) = budget ≤ greatest_budget
-IsInRange (Generate n) = n ≤ greatest_number
-IsInRange (Survey n) = n ≤ greatest_number
+abbrev pub IsCommandInRange : Command → Type 0
+IsCommandInRange Check = Unit {0}
+IsCommandInRange (Search plan) = IsWrittenPlan plan
+IsCommandInRange AnalyseInBrief = Unit {0}
+IsCommandInRange (AnalyseWithin budget) = budget ≤ greatest_budget
+IsCommandInRange (Generate n) = n ≤ greatest_problem_number
+IsCommandInRange (Survey n) = n ≤ greatest_problem_number
 
 -- they are the words of the command, whose number is in its range
-abbrev pub Calls : List (List ℕ) → Command → Type 0
-Calls words c = IsInRange c × (words ≡ words_of c)
+abbrev pub AreWordsOfCommand : List (List ℕ) → Command → Type 0
+AreWordsOfCommand words c = IsCommandInRange c × (words ≡ words_of c)
 
 -- they call some command
 abbrev pub IsKnown : List (List ℕ) → Type 0
-IsKnown words = (c : Command) × Calls words c
+IsKnown words = (c : Command) × AreWordsOfCommand words c
 
 -- one that may be named so
 abbrev pub Names : {X : Type 0} → (X → List (List ℕ)) → (X → Type 0) → List (List ℕ) → Option X → Type 0
@@ -80,4 +80,4 @@ input_limit (Survey n) = None
 
 -- they call one that has a limit
 abbrev pub IsReader : List (List ℕ) → Type 0
-IsReader words = (c : Command) × Calls words c × IsSome (input_limit c)
+IsReader words = (c : Command) × AreWordsOfCommand words c × IsSome (input_limit c)

@@ -5,10 +5,10 @@
 --     search_by, search_in_brief, search_within     the searches that words call
 --     live_rule              the rule by which choices are made
 --     text_of, shown_text    the text of a certificate of a problem, and what of it is written
---     matrix_text            the text of the problem with another matrix
+--     text_with_matrix       the text of the problem with another matrix
 --     answer_text            the text of the answer of a plan
 --     found_text             the text of what a search finds
---     IsRightAnswer          what the answer of a plan says of a matrix is true
+--     IsCorrectAnswer        what the answer of a plan says of a matrix is true
 --     IsStorableAnswer       the answer of a plan is in the program's ranges
 --     IsFound                a plan forms an answer, and it is right
 --     IsFoundReply           the reply with the text of an answer that is found
@@ -16,16 +16,16 @@
 --     IsStoppedReply         the reply with the text of an honest report
 --     IsSearchReply          the one or the other
 --     SaysFound              a text is that of an answer that is found
---     IsSearchVerdict        the reply to the bytes of an input
+--     IsReplyOfSearch        the reply to the bytes of an input
 --     HoldsAnswer            the bytes are a problem, a text is that of an answer that is found for it, and `check` accepts it
 --     IsUnreported           the bytes are a problem of which no report is honest
 use Rattle.std.specs.Prelude.{◌≡◌, ◌⊎◌, ℕ, Bool, true, false, List}
 use Rattle.ore_course.specs.Leading.{Rule}
-use Rattle.ore_rational.proofs.FractionLaws.{rationals}
+use Rattle.ore_rational.specs.Field.{rationals}
 use Rattle.ore_monomial.specs.Signature.{Signature}
 use Rattle.ore_rows.specs.declared.choices.Choice.{Choice}
 use Rattle.ore_pairs.specs.Reached.{rule_of}
-use Rattle.ore_pairs.specs.Run.{State}
+use Rattle.ore_pairs.specs.Run.{RunState}
 use Rattle.ore_problem.specs.Accepted.{Accepted}
 use Rattle.ore_problem.specs.Problems.{System, problem_of}
 use Rattle.ore_problem.specs.ProblemText.{problem_text}
@@ -40,7 +40,7 @@ use Rattle.ore_cert.specs.declared.report.Plan.TheVariants as plan
 use Rattle.ore_cert.specs.declared.report.Report.{Report}
 use Rattle.ore_blocks.specs.CheckBlock.{RowMatrix, plain}
 use Rattle.ore_check.specs.Meaning.{transposed_adjoint}
-use Rattle.ore_check.specs.PlanLaws.{IsRight}
+use Rattle.ore_check.specs.PlanLaws.{IsCorrect}
 use Rattle.ore_check.specs.Plans.{AnswerOf}
 use Rattle.ore_check.specs.Reports.{IsReportOf, HasNoReportOf, IsFormedOf}
 use Rattle.ore_report.specs.ChainRule.{chain_allows, chain_allows_spent}
@@ -50,7 +50,7 @@ use Rattle.ore_reply.specs.Replies.{Reply}
 use Rattle.ore_reply.specs.Answered.{IsReplyToRead}
 use Rattle.ore_commands.specs.AcceptedAnswers.{PassesCheck}
 use Rattle.ore_commands.specs.Search.{IsOfPlan}
-use Rattle.ore_commands.specs.Verdict.{matrix_of}
+use Rattle.ore_commands.specs.ReplyOfCheck.{matrix_of}
 use Rattle.ore_commands.specs.declared.found.Found.{Found}
 use Rattle.ore_commands.specs.declared.found.Found.TheVariants.{Certified, Transposed}
 use Rattle.ore_commands.specs.declared.search.Search.{Search}
@@ -76,7 +76,7 @@ abbrev pub search_within : ℕ → Search
 search_within budget = record { plan = plan.Analyse; budget = budget; brief = false }
 
 -- the pair with the least common multiple comes next, and is skipped where the chain rule lets it be
-abbrev pub live_rule : Signature → Rule (State rationals) Choice
+abbrev pub live_rule : Signature → Rule (RunState rationals) Choice
 live_rule s = rule_of s chain_allows chain_allows_spent
 
 -- of an operation that stopped, or of a budget that is spent
@@ -87,15 +87,15 @@ halt_status (cause.Budget n) = Budget
 
 -- a certificate is true, the check accepts it, and it is of the plan; a transposed adjoint is that of the matrix, over
 -- numbers of any size
-abbrev pub IsRightAnswer : Signature → RowMatrix → (plan : Plan) → AnswerOf plan → Type 0
-IsRightAnswer s r plan.Analyse c = IsRight s r c × IsOfPlan plan.Analyse c
-IsRightAnswer s r plan.KernelLeft c = IsRight s r c × IsOfPlan plan.KernelLeft c
-IsRightAnswer s r plan.KernelRight c = IsRight s r c × IsOfPlan plan.KernelRight c
-IsRightAnswer s r plan.InverseLeft c = IsRight s r c × IsOfPlan plan.InverseLeft c
-IsRightAnswer s r plan.InverseRight c = IsRight s r c × IsOfPlan plan.InverseRight c
-IsRightAnswer s r (plan.Resolve k) c = IsRight s r c × IsOfPlan (plan.Resolve k) c
-IsRightAnswer s r (plan.Ext k) c = IsRight s r c × IsOfPlan (plan.Ext k) c
-IsRightAnswer s r plan.Adjoint m = m ≡ transposed_adjoint s r
+abbrev pub IsCorrectAnswer : Signature → RowMatrix → (plan : Plan) → AnswerOf plan → Type 0
+IsCorrectAnswer s r plan.Analyse c = IsCorrect s r c × IsOfPlan plan.Analyse c
+IsCorrectAnswer s r plan.KernelLeft c = IsCorrect s r c × IsOfPlan plan.KernelLeft c
+IsCorrectAnswer s r plan.KernelRight c = IsCorrect s r c × IsOfPlan plan.KernelRight c
+IsCorrectAnswer s r plan.InverseLeft c = IsCorrect s r c × IsOfPlan plan.InverseLeft c
+IsCorrectAnswer s r plan.InverseRight c = IsCorrect s r c × IsOfPlan plan.InverseRight c
+IsCorrectAnswer s r (plan.Resolve k) c = IsCorrect s r c × IsOfPlan (plan.Resolve k) c
+IsCorrectAnswer s r (plan.Ext k) c = IsCorrect s r c × IsOfPlan (plan.Ext k) c
+IsCorrectAnswer s r plan.Adjoint m = m ≡ transposed_adjoint s r
 
 -- what a certificate stores; of a transposed adjoint nothing is said
 abbrev pub IsStorableAnswer : (plan : Plan) → AnswerOf plan → Type 0
@@ -121,8 +121,8 @@ module _ (p : System) where
   shown_text true c = brief_text p.names p.signature.order c
 
   -- with the names and the signature of the problem
-  abbrev pub matrix_text : RowMatrix → List ℕ
-  matrix_text m = problem_text (record { names = p.names; signature = p.signature; cols = m.cols; rows = m.rows })
+  abbrev pub text_with_matrix : RowMatrix → List ℕ
+  text_with_matrix m = problem_text (record { names = p.names; signature = p.signature; cols = m.cols; rows = m.rows })
 
   -- of a certificate, or of the problem with the transposed adjoint of its matrix
   abbrev pub answer_text : Bool → (plan : Plan) → AnswerOf plan → List ℕ
@@ -133,12 +133,12 @@ module _ (p : System) where
   answer_text brief plan.InverseRight c = shown_text brief c
   answer_text brief (plan.Resolve k) c = shown_text brief c
   answer_text brief (plan.Ext k) c = shown_text brief c
-  answer_text brief plan.Adjoint m = matrix_text m
+  answer_text brief plan.Adjoint m = text_with_matrix m
 
   -- of a certificate, or of the problem with another matrix
   abbrev pub found_text : Bool → Found → List ℕ
   found_text brief (Certified c) = shown_text brief c
-  found_text brief (Transposed m) = matrix_text (plain m)
+  found_text brief (Transposed m) = text_with_matrix (plain m)
 
   -- ---- replies
 
@@ -146,7 +146,7 @@ module _ (p : System) where
     -- the plan forms it by the rule and within the budget, what it says of the matrix is true, and it is in range
     pub record IsFound (x : AnswerOf search.plan) : Type 0 where
       pub formed : IsFormedOf p.signature (live_rule p.signature) search.budget search.plan (matrix_of p) x
-      pub right : IsRightAnswer p.signature (matrix_of p) search.plan x
+      pub correct : IsCorrectAnswer p.signature (matrix_of p) search.plan x
       pub storable : IsStorableAnswer search.plan x
 
     -- its text is written
@@ -167,8 +167,8 @@ module _ (p : System) where
     SaysFound said = (x : AnswerOf search.plan) × IsFound x × (said ≡ answer_text search.brief search.plan x)
 
 -- to a problem, or to its first faulty line
-abbrev pub IsSearchVerdict : Search → List ℕ → Reply → Type 0
-IsSearchVerdict search bytes reply = IsReplyToRead (λ p. IsSearchReply p search) (problem_of bytes) reply
+abbrev pub IsReplyOfSearch : Search → List ℕ → Reply → Type 0
+IsReplyOfSearch search bytes reply = IsReplyToRead (λ p. IsSearchReply p search) (problem_of bytes) reply
 
 -- it is found, and so true; `check` finds a whole certificate valid
 abbrev pub HoldsAnswer : Search → List ℕ → List ℕ → Type 0

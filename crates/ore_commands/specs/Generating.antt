@@ -1,5 +1,5 @@
 -- The reply of `generate`.
---     greatest_number     the greatest number of a generated problem
+--     greatest_problem_number  the greatest number of a generated problem
 --     generated_text      the text of a generated problem
 --     generated_reply     the reply with this text
 use Rattle.std.specs.Prelude.{ℕ, List}
@@ -8,8 +8,8 @@ use Rattle.ore_generate.specs.Chain.{generated}
 use Rattle.ore_reply.specs.declared.status.Status.TheVariants.{Done}
 use Rattle.ore_reply.specs.Replies.{Reply}
 
-abbrev pub greatest_number : ℕ
-greatest_number = 65535
+abbrev pub greatest_problem_number : ℕ
+greatest_problem_number = 65535
 
 -- in its one printed form
 abbrev pub generated_text : ℕ → List ℕ

@@ -1,5 +1,5 @@
 pub mod Commands
-pub mod Verdict
+pub mod ReplyOfCheck
 pub mod AcceptedAnswers
 pub mod Search
 pub mod Finding
@@ -9,4 +9,3 @@ pub mod SearchLaws
 pub mod CheckedReply
 pub mod ReportAnswers
 pub mod Answer
-pub mod Written

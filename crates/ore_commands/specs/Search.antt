@@ -6,7 +6,7 @@
 --     IsReportedBy                      the report of a halt is honest
 --     IsOfPlan                          a certificate is of a kind that a plan answers
 --     IsStorableFound                   what is found is in the program's ranges
---     IsRightFound                      a certificate that is found is right; a matrix is of the signature
+--     IsCorrectFound                    a certificate that is found is right; a matrix is of the signature
 use Rattle.std.specs.Prelude.{◌≡◌, ℕ, Bool, List}
 use Rattle.std.specs.List.{All}
 use Rattle.std.specs.declared.result.Result.{Result}
@@ -15,7 +15,7 @@ use Rattle.ore_course.specs.Following.{IsReported}
 use Rattle.ore_monomial.specs.Signature.{Signature}
 use Rattle.ore_monomial.specs.declared.stop.RingStop.{RingStop}
 use Rattle.ore_ring.specs.Belongs.{AllBelong}
-use Rattle.ore_rows.specs.Shown.{Shown}
+use Rattle.ore_rows.specs.BasisLeads.{BasisLeads}
 use Rattle.ore_rows.specs.Stored.{OperatorMatrix}
 use Rattle.ore_rows.specs.declared.choices.Choice.{Choice}
 use Rattle.ore_pairs.specs.Reached.{rule_of}
@@ -26,11 +26,11 @@ use Rattle.ore_cert.specs.declared.report.Plan.TheVariants as plan
 use Rattle.ore_blocks.specs.CheckBlock.{RowMatrix, plain}
 use Rattle.ore_groebner.specs.Choosing.{Settings}
 use Rattle.ore_groebner.specs.Courses.{FollowsTo, HaltsIn}
-use Rattle.ore_groebner.specs.Courses.{halt_of as course_halt}
+use Rattle.ore_groebner.specs.Courses.{halt_in_course as course_halt}
 use Rattle.ore_groebner.specs.Halting.{halt_of}
 use Rattle.ore_groebner.specs.declared.outcome.Halt.{Halt}
 use Rattle.ore_groebner.specs.declared.outcome.StopAt.TheVariants.{Forced}
-use Rattle.ore_check.specs.PlanLaws.{IsRight}
+use Rattle.ore_check.specs.PlanLaws.{IsCorrect}
 use Rattle.ore_check.specs.Plans.{AnswerOf}
 use Rattle.ore_check.specs.Reports.{program_runner, plan_course}
 use Rattle.ore_inverse.specs.Inverses.{IsOfLeftInverse, IsOfRightInverse}
@@ -85,18 +85,18 @@ IsStorableFound (Transposed m) = Unit {0}
 
 module _ (s : Signature) (r : RowMatrix) where
   -- within the limits of the program; the rule allows each choice
-  abbrev pub IsFoundBy : (Shown → List (ℕ × ℕ) → Choice → Bool) → (Shown → List (ℕ × ℕ) → Bool) → Plan → (before given : List (List Choice)) → Found → Type 0
+  abbrev pub IsFoundBy : (BasisLeads → List (ℕ × ℕ) → Choice → Bool) → (BasisLeads → List (ℕ × ℕ) → Bool) → Plan → (before given : List (List Choice)) → Found → Type 0
   IsFoundBy allows allows_spent plan before given found = (x : AnswerOf plan) × FollowsTo s allows allows_spent (plan_course s plan r) before given x × IsFoundOf plan x found
 
   -- within these limits too
-  abbrev pub IsHaltedBy : (Shown → List (ℕ × ℕ) → Choice → Bool) → (Shown → List (ℕ × ℕ) → Bool) → Plan → (before given : List (List Choice)) → Settings → Halt → Type 0
+  abbrev pub IsHaltedBy : (BasisLeads → List (ℕ × ℕ) → Choice → Bool) → (BasisLeads → List (ℕ × ℕ) → Bool) → Plan → (before given : List (List Choice)) → Settings → Halt → Type 0
   IsHaltedBy allows allows_spent plan before given settings halt = HaltsIn s allows allows_spent (plan_course s plan r) before given settings halt
 
   -- by the rule and within the budget, where an operation stopped or the budget is spent
-  abbrev pub IsReportedBy : (Shown → List (ℕ × ℕ) → Choice → Bool) → (Shown → List (ℕ × ℕ) → Bool) → Plan → List (List Choice) → ℕ → Halt → Type 0
+  abbrev pub IsReportedBy : (BasisLeads → List (ℕ × ℕ) → Choice → Bool) → (BasisLeads → List (ℕ × ℕ) → Bool) → Plan → List (List Choice) → ℕ → Halt → Type 0
   IsReportedBy allows allows_spent plan given budget halt = IsReported (program_runner s) (rule_of s allows allows_spent) (plan_course s plan r) given budget (course_halt halt)
 
   -- the certificate is true, the check accepts it, and it is of the plan
-  abbrev pub IsRightFound : Plan → Found → Type 0
-  IsRightFound plan (Certified c) = IsRight s r c × IsOfPlan plan c
-  IsRightFound plan (Transposed m) = All (AllBelong s) m.rows
+  abbrev pub IsCorrectFound : Plan → Found → Type 0
+  IsCorrectFound plan (Certified c) = IsCorrect s r c × IsOfPlan plan c
+  IsCorrectFound plan (Transposed m) = All (AllBelong s) m.rows

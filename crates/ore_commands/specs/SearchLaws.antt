@@ -18,22 +18,22 @@ use Rattle.ore_check.specs.PlanLaws.{cause_word}
 use Rattle.ore_reply.specs.declared.status.Status.TheVariants.{Done}
 use Rattle.ore_reply.specs.Replies.{Reply}
 use Rattle.ore_commands.specs.declared.command.Command.{Command}
-use Rattle.ore_commands.specs.Commands.{Calls}
-use Rattle.ore_commands.specs.Finding.{halt_status, text_of, matrix_text, IsSearchReply, IsSearchVerdict, IsUnreported}
-use Rattle.ore_commands.specs.Verdict.{matrix_of}
+use Rattle.ore_commands.specs.Commands.{AreWordsOfCommand}
+use Rattle.ore_commands.specs.Finding.{halt_status, text_of, text_with_matrix, IsSearchReply, IsReplyOfSearch, IsUnreported}
+use Rattle.ore_commands.specs.ReplyOfCheck.{matrix_of}
 use Rattle.ore_commands.specs.declared.search.Search.{Search}
 
 -- two commands that the same words call are one
 abbrev pub CallOneCommand : Type 0
-CallOneCommand = (words : List (List ℕ)) (c d : Command) → Calls words c → Calls words d → c ≡ d
+CallOneCommand = (words : List (List ℕ)) (c d : Command) → AreWordsOfCommand words c → AreWordsOfCommand words d → c ≡ d
 
 -- so there is one certificate, or one report
 abbrev pub HasOneSearchReply : Type 0
-HasOneSearchReply = (search : Search) (bytes : List ℕ) (a b : Reply) → IsSearchVerdict search bytes a → IsSearchVerdict search bytes b → a ≡ b
+HasOneSearchReply = (search : Search) (bytes : List ℕ) (a b : Reply) → IsReplyOfSearch search bytes a → IsReplyOfSearch search bytes b → a ≡ b
 
 -- the only reply to such bytes has status `Done`
 abbrev pub AnswersUnreported : Type 0
-AnswersUnreported = (search : Search) (bytes : List ℕ) (reply : Reply) → IsUnreported search bytes → IsSearchVerdict search bytes reply → reply.status ≡ Done
+AnswersUnreported = (search : Search) (bytes : List ℕ) (reply : Reply) → IsUnreported search bytes → IsReplyOfSearch search bytes reply → reply.status ≡ Done
 
 -- the work is forced, and nothing is chosen
 abbrev pub stopped_adjoint : Cause → Report
@@ -42,7 +42,7 @@ stopped_adjoint why = record { cause = cause_word why; plan = Adjoint; runs = []
 -- the text of the problem with the transposed adjoint; where forming that stops, the text of its report
 abbrev pub adjoint_reply : System → Reply
 adjoint_reply p = elim (transposed_adjoint_within program p.signature (matrix_of p)) [
-  | Ok m ↦ record { status = Done; text = matrix_text p m }
+  | Ok m ↦ record { status = Done; text = text_with_matrix p m }
   | Err why ↦ record { status = halt_status (cause_word why); text = text_of p (Halted (stopped_adjoint why)) }
 ]
 

@@ -13,7 +13,7 @@ use Rattle.ore_check.specs.Reports.{HasNoReportOf}
 use Rattle.ore_reply.specs.declared.status.Status.TheVariants.{Done}
 use Rattle.ore_reply.specs.Replies.{Reply}
 use Rattle.ore_commands.specs.Finding.{default_budget, search_by, live_rule, text_of, IsFound, IsStoppedReply}
-use Rattle.ore_commands.specs.Verdict.{matrix_of}
+use Rattle.ore_commands.specs.ReplyOfCheck.{matrix_of}
 
 -- the sizes of the matrix, the word of a verdict, which has its line end, and a number of bytes
 abbrev pub survey_text : List ℕ → ℕ → List ℕ
@@ -24,8 +24,10 @@ abbrev pub surveyed_text : ℕ → Certificate → List ℕ
 surveyed_text n c = survey_text (kind_word c ++ codes "\n") (length (text_of (generated n) c))
 
 -- the certificate is one of the two verdicts, and true; `analyse` may find it for the generated problem
-abbrev pub SaysSurveyed : ℕ → List ℕ → Type 0
-SaysSurveyed n said = (c : Certificate) × IsFound (generated n) (search_by Analyse) c × (said ≡ surveyed_text n c)
+pub record SaysSurveyed (n : ℕ) (said : List ℕ) : Type 0 where
+  pub certificate : Certificate
+  pub found : IsFound (generated n) (search_by Analyse) certificate
+  pub text : said ≡ surveyed_text n certificate
 
 -- the report is one that `analyse` may write for the generated problem
 abbrev pub IsSurveyReply : ℕ → Reply → Type 0

@@ -3,7 +3,7 @@
 ghost use Rattle.std.specs.Prelude.{◌≡◌, IfOk};
 ghost use Rattle.ore_problem.specs.Stored.{system_of, IsProblem};
 ghost use Rattle.ore_reply.specs.MadeReply.{reply_of};
-ghost use Rattle.ore_commands.specs.Verdict.{IsCertificateReply, IsVerdict, SaysValid, HoldsCertificate};
+ghost use Rattle.ore_commands.specs.ReplyOfCheck.{IsCertificateReply, IsReplyOfCheck, SaysValid, HoldsCertificate};
 
 use crate::verify::certificate_reply;
 use ore_cert::{CertFault, read_certificate};
@@ -18,7 +18,7 @@ use std::alloc::Global;
 /// # Errors
 /// Want of memory.
 pub fn check_reply(alloc: Global, bytes: &[u8]) -> Result<Reply, NoMemory>
-    ensures verdict { IfOk result (λ r. IsVerdict bytes.now (reply_of r)) }
+    ensures verdict { IfOk result (λ r. IsReplyOfCheck bytes.now (reply_of r)) }
     ensures valid { IfOk result (λ r. r.status ≡ Status.Done → HoldsCertificate r.text.items bytes.now) }
 {
     match read_prefix(alloc, bytes) {

@@ -5,10 +5,10 @@ ghost use Rattle.ore_cert.specs.EachKind.{IsLength};
 ghost use Rattle.ore_cert.specs.WholeText.{IsWrittenPlan};
 ghost use Rattle.ore_cert.specs.declared.report.Plan as plan_of;
 ghost use Rattle.ore_reply.specs.MadeReply.{reply_of, IsOfBytes};
-ghost use Rattle.ore_commands.specs.Commands.{search_words, budget_words, number_words, Calls, IsKnown, IsInRange, Names, input_limit};
+ghost use Rattle.ore_commands.specs.Commands.{search_words, budget_words, number_words, AreWordsOfCommand, IsKnown, IsCommandInRange, Names, input_limit};
 ghost use Rattle.ore_commands.specs.Answer.{IsReplyOf, IsTrueOf};
 ghost use Rattle.ore_commands.specs.Finding.{greatest_budget};
-ghost use Rattle.ore_commands.specs.Generating.{greatest_number};
+ghost use Rattle.ore_commands.specs.Generating.{greatest_problem_number};
 
 use crate::check::check_reply;
 use crate::generated::generate_reply;
@@ -42,7 +42,7 @@ pub enum Command {
 impl Command {
     /// The command that these words call.
     pub fn named(words: &ArgList) -> Option<Command>
-        ensures { MatchOption result (¬ IsKnown words.now) (Calls words.now) }
+        ensures { MatchOption result (¬ IsKnown words.now) (AreWordsOfCommand words.now) }
     {
         if is_alone(words, b"check") {
             return Some(Command::Check);
@@ -84,7 +84,7 @@ impl Command {
     /// # Errors
     /// Want of memory.
     pub fn reply(self, alloc: Global, bytes: &[u8]) -> Result<Reply, NoMemory>
-        requires range { IsInRange self }
+        requires range { IsCommandInRange self }
         ensures reply { IfOk result (λ r. IsReplyOf self bytes.now (reply_of r)) }
         ensures truth { IfOk result (λ r. r.status ≡ Status.Done → IsTrueOf self r.text.items bytes.now) }
         ensures of_bytes { IfOk result (λ r. IsOfBytes r.status) }
@@ -179,7 +179,7 @@ fn budget_of(number: usize) -> Option<u32>
 
 // The number of a generated problem behind this word, if the words are that.
 fn generated_named(words: &ArgList, word: &[u8]) -> Option<u16>
-    ensures { Names (number_words word.now) (λ n. n ≤ greatest_number) words.now result }
+    ensures { Names (number_words word.now) (λ n. n ≤ greatest_problem_number) words.now result }
 {
     let Some(digits) = second_behind(words, word) else {
         return None
@@ -192,7 +192,7 @@ fn generated_named(words: &ArgList, word: &[u8]) -> Option<u16>
 
 // The number as that of a generated problem, if it isn't too great.
 fn generated_of(number: usize) -> Option<u16>
-    ensures { MatchOption result (¬ (number ≤ greatest_number)) (λ n. (n ≤ greatest_number) × (n ≡ number)) }
+    ensures { MatchOption result (¬ (number ≤ greatest_problem_number)) (λ n. (n ≤ greatest_problem_number) × (n ≡ number)) }
 {
     match number {
         0..=65535 => Some(number as u16),

@@ -4,15 +4,13 @@
 
 ghost use Rattle.ore_commands.specs.AcceptedAnswers.{RightCertificateIsValid};
 ghost use Rattle.ore_commands.specs.SearchLaws.{AnswersUnreported, HasOneSearchReply, CallOneCommand, HasOneAdjointReply};
-ghost use Rattle.ore_commands.specs.Written.{RightMayBeWritten};
-ghost use Rattle.ore_commands.specs.Verdict.{HasOneVerdict, LacksNoVerdict};
+ghost use Rattle.ore_commands.specs.ReplyOfCheck.{HasOneReplyOfCheck, LacksNoReplyOfCheck};
 
 use ore_cert::laws::{law_faulty_line_is_one, law_text_is_of_one};
-use ore_monomial::Signature;
 
 /// Bytes have one reply of `check` alone.
 pub fn law_reply_is_one()
-    ensures { HasOneVerdict }
+    ensures { HasOneReplyOfCheck }
 {
     law_text_is_of_one();
     law_faulty_line_is_one();
@@ -20,7 +18,7 @@ pub fn law_reply_is_one()
 
 /// No bytes are without a reply.
 pub fn law_no_bytes_lack_a_reply()
-    ensures { LacksNoVerdict }
+    ensures { LacksNoReplyOfCheck }
 {}
 
 /// Bytes have one reply of a search alone: there is one certificate, or one report.
@@ -47,9 +45,4 @@ pub fn law_adjoint_reply()
 /// What is printed of a right certificate, behind the text of its problem, is valid to `check`.
 pub fn law_right_certificate_is_valid()
     ensures { RightCertificateIsValid }
-{}
-
-/// A right certificate, of which no step multiplies by zero and whose stored parts are in range, may be written.
-pub fn law_right_may_be_written(sig: &Signature)
-    ensures { RightMayBeWritten sig.now }
 {}

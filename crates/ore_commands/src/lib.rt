@@ -2,7 +2,7 @@
 //!
 //! [`bench`] takes the words of the command line, a source of bytes and a sink, and answers a status. Its contract says
 //! which status and which text come for which words and bytes, over every source and every sink: `specs/Answer.antt`
-//! for all commands, on `ore_reply/specs/Answered.antt`, `specs/Verdict.antt` for `check`, and `specs/Finding.antt` for
+//! for all commands, on `ore_reply/specs/Answered.antt`, `specs/ReplyOfCheck.antt` for `check`, and `specs/Finding.antt` for
 //! the searches.
 //!
 //! A [`Command`] has its words, the limit of what it reads, and its own reply to the bytes of an input. `check` reads a

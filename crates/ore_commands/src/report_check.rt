@@ -120,7 +120,7 @@ fn is_in_choice(end: Option<Halt>) -> bool
 
 // Whether the stop line passes, where all choices did.
 fn stop_passes(report: &Report, end: Option<Halt>) -> bool
-    ensures { result ≡ stop_decided (reported_as report.now.cause) (course.treats_in treats_pair report.now.runs) (stop_as report.now.stop) (end_of end) }
+    ensures { result ≡ stop_decided (reported_as report.now.cause) (course.treatment_count_in treats_pair report.now.runs) (stop_as report.now.stop) (end_of end) }
 {
     let Some(halt) = end else {
         return false;
@@ -188,7 +188,7 @@ fn is_degree(cause: Cause) -> bool
 
 // Whether a pair is left and no choice, and the budget is the number of all treatments.
 fn budget_passes(report: &Report, halt: Halt) -> bool
-    ensures { result ≡ stop_decided (reported_as report.now.cause) (course.treats_in treats_pair report.now.runs) AtBudget (end_of (Some halt)) }
+    ensures { result ≡ stop_decided (reported_as report.now.cause) (course.treatment_count_in treats_pair report.now.runs) AtBudget (end_of (Some halt)) }
 {
     match halt {
         Halt::Overflow(_) => false,
@@ -219,7 +219,7 @@ fn is_number(budget: u32, treated: u64) -> bool
 
 // How many choices treat a pair.
 fn treated_in(runs: &Runs) -> u64
-    ensures { result ≡ capped (course.treats_in treats_pair runs.now) }
+    ensures { result ≡ capped (course.treatment_count_in treats_pair runs.now) }
 {
     let mut treated = 0u64;
     for k in 0..runs.len() {
@@ -230,7 +230,7 @@ fn treated_in(runs: &Runs) -> u64
 
 // How many choices of a run do.
 fn treated_by(run: &Choices) -> u64
-    ensures { result ≡ capped (course.treats treats_pair run.now) }
+    ensures { result ≡ capped (course.treatment_count treats_pair run.now) }
 {
     let mut treated = 0u64;
     for k in 0..run.len() {

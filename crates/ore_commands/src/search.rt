@@ -7,12 +7,12 @@ ghost use Rattle.ore_ring.specs.Belongs.{AllBelong};
 ghost use Rattle.ore_blocks.specs.CheckBlock.{plain};
 ghost use Rattle.ore_cert.specs.CertificateOf.{IsCertificateOf};
 ghost use Rattle.ore_course.specs.Following.{IsReportable};
-ghost use Rattle.ore_groebner.specs.Courses.{halt_of};
+ghost use Rattle.ore_groebner.specs.Courses.{halt_in_course};
 ghost use Rattle.ore_problem.specs.Stored.{system_of, IsProblem};
 ghost use Rattle.ore_reply.specs.MadeReply.{reply_of, IsOfBytes};
 ghost use Rattle.ore_report.specs.ChainRule.{chain_allows, chain_allows_spent};
-ghost use Rattle.ore_commands.specs.Finding.{greatest_budget, search_by, search_in_brief, search_within, halt_status, text_of, shown_text, matrix_text, found_text, IsSearchReply, IsStoppedReply, IsSearchVerdict, HoldsAnswer};
-ghost use Rattle.ore_commands.specs.Search.{IsReportedBy, IsRightFound, IsStorableFound};
+ghost use Rattle.ore_commands.specs.Finding.{greatest_budget, search_by, search_in_brief, search_within, halt_status, text_of, shown_text, text_with_matrix, found_text, IsSearchReply, IsStoppedReply, IsReplyOfSearch, HoldsAnswer};
+ghost use Rattle.ore_commands.specs.Search.{IsReportedBy, IsCorrectFound, IsStorableFound};
 
 use crate::find::find;
 use crate::found::Found;
@@ -88,7 +88,7 @@ impl Search {
 pub fn search_reply(alloc: Global, search: Search, bytes: &[u8]) -> Result<Reply, NoMemory>
     requires plan { IsWrittenPlan search.plan }
     requires budget { search.budget ≤ greatest_budget }
-    ensures reply { IfOk result (λ r. IsSearchVerdict search bytes.now (reply_of r)) }
+    ensures reply { IfOk result (λ r. IsReplyOfSearch search bytes.now (reply_of r)) }
     ensures truth { IfOk result (λ r. r.status ≡ Status.Done → HoldsAnswer search r.text.items bytes.now) }
     ensures of_bytes { IfOk result (λ r. IsOfBytes r.status) }
 {
@@ -156,7 +156,7 @@ fn found_reply(
     found: Found,
 ) -> Result<Reply, NoMemory>
     requires problem { IsProblem problem }
-    requires right { IsRightFound problem.signature (plain problem.matrix) search.plan found }
+    requires right { IsCorrectFound problem.signature (plain problem.matrix) search.plan found }
     ensures { IfOk result (λ r. reply_of r ≡ record { status = Status.Done; text = found_text (system_of problem) search.brief found }) }
 {
     let text = match found {
@@ -173,7 +173,7 @@ fn found_reply(
 fn text_with(alloc: Global, problem: Problem, matrix: Matrix) -> Result<Vec<u8>, NoMemory>
     requires problem { IsProblem problem }
     requires of { All (AllBelong problem.signature) matrix.rows }
-    ensures { IfOk result (λ text. text.items ≡ matrix_text (system_of problem) (plain matrix)) }
+    ensures { IfOk result (λ text. text.items ≡ text_with_matrix (system_of problem) (plain matrix)) }
 {
     let turned = Problem {
         names: problem.names,
@@ -207,7 +207,7 @@ fn halted_reply(
 
 // Whether a halt has a report: an operation stopped, or the budget is spent.
 fn is_reportable(halt: &Halt) -> bool
-    ensures { IsTrue result ↔ IsReportable (halt_of halt.now) }
+    ensures { IsTrue result ↔ IsReportable (halt_in_course halt.now) }
 {
     match halt {
         Halt::Overflow(_) => true,

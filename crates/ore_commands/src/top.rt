@@ -4,11 +4,11 @@ ghost use Rattle.std.specs.Prelude.{◌≡◌, ◌⊎◌, ◌<◌, ℕ, List, If
 ghost use Rattle.std.specs.Io.KnownBytes.{append_known};
 ghost use Rattle.ore_io.specs.Faults.{Rose};
 ghost use Rattle.ore_reply.specs.Replies.{Reply as ReplyOf};
-ghost use Rattle.ore_reply.specs.Answered.{IsAnswered};
+ghost use Rattle.ore_reply.specs.Answered.{IsDelivered};
 ghost use Rattle.ore_reply.specs.InputEnd.{CountsFault};
 ghost use Rattle.ore_reply.specs.MadeReply.{given_reply, IsOfBytes};
 ghost use Rattle.ore_commands.specs.declared.command.Command as command_of;
-ghost use Rattle.ore_commands.specs.Commands.{Calls, IsInRange, IsReader, input_limit};
+ghost use Rattle.ore_commands.specs.Commands.{AreWordsOfCommand, IsCommandInRange, IsReader, input_limit};
 ghost use Rattle.ore_commands.specs.Answer.{IsDue, IsDueTo, TellsTruth, IsUnhalted};
 
 use crate::command::Command;
@@ -28,15 +28,15 @@ pub fn bench<S: Source, K: Sink>(
 ) -> Status
     // What is due is answered, by its status and its whole text, or the sink failed after a front of it.
     ensures answer { (due : ReplyOf) × IsDue words.now (S.left source.old) (S.left source.new) due
-        × IsAnswered due result (K.written sink.old) (K.written sink.new) }
+        × IsDelivered due result (K.written sink.old) (K.written sink.new) }
     ensures unread { ¬ IsReader words.now → source.new ≡ source.old }
 
     // What a command says with status `Done` is true of what it was given, and was written.
-    ensures valid { result ≡ Status.Done → (c : command_of.Command) × Calls words.now c × (said : List ℕ)
+    ensures valid { result ≡ Status.Done → (c : command_of.Command) × AreWordsOfCommand words.now c × (said : List ℕ)
         × (K.written sink.new ≡ append_known (K.written sink.old) said) × TellsTruth c said (S.left source.old) }
 
     // A search of a problem of which no report is honest comes to its answer, unless memory gives out or a count of faults rises.
-    ensures complete { (c : command_of.Command) → Calls words.now c → IsUnhalted c (S.left source.old)
+    ensures complete { (c : command_of.Command) → AreWordsOfCommand words.now c → IsUnhalted c (S.left source.old)
         → ¬ Rose (S.faults source.old) (S.faults source.new) → ¬ Rose (K.faults sink.old) (K.faults sink.new)
         → (result ≡ Status.Done) ⊎ (result ≡ Status.Memory) }
 
@@ -60,7 +60,7 @@ fn input_reply<S: Source>(
     alloc: Global,
     source: &mut S,
 ) -> Result<Reply, InputEnd>
-    requires { IsInRange command }
+    requires { IsCommandInRange command }
     ensures due { IsDueTo command (S.left source.old) (S.left source.new) (given_reply result) }
     ensures truth { IfOk result (λ r. r.status ≡ Status.Done → TellsTruth command r.text.items (S.left source.old)) }
     ensures of_bytes { IfOk result (λ r. IsOfBytes r.status) }

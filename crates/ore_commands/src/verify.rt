@@ -10,7 +10,7 @@ ghost use Rattle.ore_check.specs.Meaning.{Means};
 ghost use Rattle.ore_problem.specs.Stored.{system_of, IsProblem};
 ghost use Rattle.ore_reply.specs.Replies as replies;
 ghost use Rattle.ore_reply.specs.MadeReply.{reply_of};
-ghost use Rattle.ore_commands.specs.Verdict as verdict;
+ghost use Rattle.ore_commands.specs.ReplyOfCheck as verdict;
 
 use crate::condition::answer_reply;
 use crate::report_check::check_report;

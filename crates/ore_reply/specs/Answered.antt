@@ -5,7 +5,7 @@
 --     IsDueOnInput     the reply of a command that reads
 --     IsDueFrom        the reply of a command
 --     IsReplyToRead    the reply to what a reader gives
---     IsAnswered       what a call answers and writes where a reply is due
+--     IsDelivered      what a call answers and writes where a reply is due
 use Rattle.std.specs.Prelude.{◌≡◌, ◌≢◌, ◌⊎◌, ℕ, ◌+◌, ◌≤◌, List, [], length, IfSome}
 use Rattle.std.specs.declared.option.Option.{Option}
 use Rattle.std.specs.declared.option.Option.TheVariants.{None, Some}
@@ -46,7 +46,7 @@ IsReplyToRead own (Ok x) reply = own x reply
 IsReplyToRead own (Err f) reply = reply ≡ fault_reply f.line f.reason
 
 -- The reply that is due was answered and its text written, or the sink failed after a front of a text that isn't empty.
-abbrev pub IsAnswered : Reply → Status → Option (List ℕ) → Option (List ℕ) → Type 0
-IsAnswered due status old new =
+abbrev pub IsDelivered : Reply → Status → Option (List ℕ) → Option (List ℕ) → Type 0
+IsDelivered due status old new =
     ((status ≡ due.status) × (new ≡ append_known old due.text))
     ⊎ ((status ≡ WriteFault) × (due.text ≢ []) × AppendsPrefix old new due.text)

@@ -2,9 +2,9 @@ use Rattle.std.proofs.Common.{◌≡◌, ◌-◌, length, take, drop, subst}
 use Rattle.std.proofs.lemmas.List.{take_rest}
 use Rattle.ore_problem.specs.Stored.{system_of}
 use Rattle.ore_reply.specs.declared.status.Status.TheVariants.{Done}
-use Rattle.ore_commands.specs.Verdict.{SaysValid, HoldsCertificate}
+use Rattle.ore_commands.specs.ReplyOfCheck.{SaysValid, HoldsCertificate}
 use Rattle.ore_commands.proofs.Fronts.{front_holds}
-use Rattle.ore_commands.proofs.Verdicts.{if_ok}
+use Rattle.ore_commands.proofs.RepliesOfCheck.{if_ok}
 use Rattle.ore_commands.proofs.check.check_reply.Goals as goal
 
 pub returns-in-Ok-clause-valid : goal.returns-in-Ok-clause-valid

@@ -9,8 +9,8 @@ use Rattle.ore_problem.specs.Stored.{system_of}
 use Rattle.ore_reply.specs.Replies.{valid, malformed_at}
 use Rattle.ore_reply.specs.MadeReply.{reply_of}
 use Rattle.ore_reply.specs.declared.status.Status.TheVariants.{Done}
-use Rattle.ore_commands.specs.Verdict.{IsCertificateReply, IsCheckedReply, SaysValid}
-use Rattle.ore_commands.proofs.Verdicts.{if_ok, plan_written}
+use Rattle.ore_commands.specs.ReplyOfCheck.{IsCertificateReply, IsCheckedReply, SaysValid}
+use Rattle.ore_commands.proofs.RepliesOfCheck.{if_ok, plan_written}
 use Rattle.ore_commands.proofs.check.text_reply.Goals as goal
 
 pub returns-in-Ok-clause-reply : goal.returns-in-Ok-clause-reply

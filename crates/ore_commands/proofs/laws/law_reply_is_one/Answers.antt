@@ -1,4 +1,4 @@
-use Rattle.ore_commands.proofs.OneVerdict.{one_verdict}
+use Rattle.ore_commands.proofs.OneReply.{one_verdict}
 use Rattle.ore_commands.proofs.laws.law_reply_is_one.Goals as goal
 
 pub returns : goal.returns

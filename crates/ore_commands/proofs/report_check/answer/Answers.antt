@@ -2,7 +2,7 @@ use Rattle.std.proofs.Common.{◌≡◌, ◌+◌, ◌<◌, ◌≤◌, suc, [], l
 use Rattle.std.proofs.lemmas.Option.{get_or_from_slice_get}
 use Rattle.ore_course.specs.Replaying.{passed_of}
 use Rattle.ore_commands.specs.ReportAnswers.{end_of}
-use Rattle.ore_commands.proofs.Replays.{IsFrom, none_begun, fewer_passed, all_passed, more_begun, stop_passes, stop_fails}
+use Rattle.ore_commands.proofs.Replays.{IsReplayedFrom, none_begun, fewer_passed, all_passed, more_begun, stop_passes, stop_fails}
 use Rattle.ore_commands.proofs.report_check.answer.Goals as goal
 
 pub returns-then-k-len : goal.returns-then-k-len
@@ -39,7 +39,7 @@ loop-k-preserved c =
     let read = get_or_from_slice_get report.runs c.loop-k.k c.get.result.now [] c.get.ensures in
     let all : length c.get.result.now ≤ length (get_or (passed_of given end) c.loop-k.k []) = omega (arith, c.if-count-len.false, c.len-in-loop-k.ensures.count, c.passed-count.ensures) in
     let more : suc c.loop-k.k ≡ c.loop-k.k + 1 = omega arith in
-    subst (λ n. IsFrom report given end n) more
+    subst (λ n. IsReplayedFrom report given end n) more
     (all_passed report given end c.loop-k.k c.loop-k.invariant begun inside (subst (λ cs. length cs ≤ length (get_or (passed_of given end) c.loop-k.k [])) (sym read) all))
 
 pub returns-then-len : goal.returns-then-len

@@ -1,5 +1,5 @@
 use Rattle.std.proofs.Common.{◌≡◌, ◌+◌, ◌≤◌, length, ap, arith}
-use Rattle.ore_course.specs.Choices.{treats}
+use Rattle.ore_course.specs.Choices.{treatment_count}
 use Rattle.ore_pairs.specs.Runner.{treats_pair}
 use Rattle.ore_check.specs.Check.{capped}
 use Rattle.ore_commands.proofs.ReportLines.{counted_step, counted_end}
@@ -7,7 +7,7 @@ use Rattle.ore_commands.proofs.report_check.treated_by.Goals as goal
 
 pub loop-k-init : goal.loop-k-init
 loop-k-init c =
-    let none : 0 + treats treats_pair c.args.run.now ≡ treats treats_pair c.args.run.now = omega arith in (omega arith, ap capped none)
+    let none : 0 + treatment_count treats_pair c.args.run.now ≡ treatment_count treats_pair c.args.run.now = omega arith in (omega arith, ap capped none)
 
 pub loop-k-preserved : goal.loop-k-preserved
 loop-k-preserved c =

@@ -1,5 +1,5 @@
 use Rattle.std.proofs.Common.{◌≡◌, ◌+◌, ◌≤◌, length, ap, arith}
-use Rattle.ore_course.specs.Choices.{treats_in}
+use Rattle.ore_course.specs.Choices.{treatment_count_in}
 use Rattle.ore_pairs.specs.Runner.{treats_pair}
 use Rattle.ore_check.specs.Check.{capped}
 use Rattle.ore_commands.proofs.ReportLines.{treated_step, treated_end}
@@ -7,7 +7,7 @@ use Rattle.ore_commands.proofs.report_check.treated_in.Goals as goal
 
 pub loop-k-init : goal.loop-k-init
 loop-k-init c =
-    let none : 0 + treats_in treats_pair c.args.runs.now ≡ treats_in treats_pair c.args.runs.now = omega arith in (omega arith, ap capped none)
+    let none : 0 + treatment_count_in treats_pair c.args.runs.now ≡ treatment_count_in treats_pair c.args.runs.now = omega arith in (omega arith, ap capped none)
 
 pub loop-k-preserved : goal.loop-k-preserved
 loop-k-preserved c =

@@ -5,7 +5,7 @@ use Rattle.ore_reply.specs.MadeReply.{reply_of}
 use Rattle.ore_reply.specs.declared.status.Status.TheVariants.{Done}
 use Rattle.ore_commands.specs.Finding.{IsSearchReply, HoldsAnswer}
 use Rattle.ore_commands.proofs.Searches.{said}
-use Rattle.ore_commands.proofs.Verdicts.{if_ok}
+use Rattle.ore_commands.proofs.RepliesOfCheck.{if_ok}
 use Rattle.ore_commands.proofs.search.search_reply.Goals as goal
 
 pub returns-in-Ok-clause-truth : goal.returns-in-Ok-clause-truth

@@ -7,8 +7,8 @@ use Rattle.ore_reply.specs.Replies.{valid}
 use Rattle.ore_reply.specs.MadeReply.{reply_of}
 use Rattle.ore_reply.specs.declared.status.Status.TheVariants.{Done}
 use Rattle.ore_commands.specs.CheckedReply.{IsAnswerReply}
-use Rattle.ore_commands.specs.Verdict.{IsCheckedReply}
-use Rattle.ore_commands.proofs.Verdicts.{if_ok, checked_reply_of, done_valid}
+use Rattle.ore_commands.specs.ReplyOfCheck.{IsCheckedReply}
+use Rattle.ore_commands.proofs.RepliesOfCheck.{if_ok, checked_reply_of, done_valid}
 use Rattle.ore_commands.proofs.verify.certificate_reply.Goals as goal
 
 pub returns-clause-reply : goal.returns-clause-reply

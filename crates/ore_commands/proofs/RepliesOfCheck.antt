@@ -34,7 +34,7 @@ use Rattle.ore_reply.specs.Replies.{Reply, valid}
 use Rattle.ore_reply.specs.declared.status.Status.TheVariants.{Done}
 use Rattle.ore_commands.specs.CheckedReply.{IsAnswerReply}
 use Rattle.ore_commands.specs.ReportAnswers.{answer_to}
-use Rattle.ore_commands.specs.Verdict.{trouble_reply, checked_reply, report_reply, matrix_of, HasWrittenPlan, IsCheckAnswer, IsCheckedReply}
+use Rattle.ore_commands.specs.ReplyOfCheck.{trouble_reply, checked_reply, report_reply, matrix_of, HasWrittenPlan, IsCheckAnswer, IsCheckedReply}
 
 abbrev pub ReportOrNone : Certificate → Type 0
 ReportOrNone c = IsNoReport c ⊎ ((report : Report) × (c ≡ Halted report))
@@ -66,7 +66,7 @@ module _ (lines : ℕ) (word : List ℕ) (reply : Reply) where
   checked_by line (Ok x) h = h
   checked_by line (Err failing) h = trouble_by (line failing.place) failing.trouble h
 
-  report_by : (report : Report) (place : Option (course.Place Choice)) → IsAnswerReply lines word (answer_to report place) reply → reply ≡ report_reply lines word report place
+  report_by : (report : Report) (place : Option (course.ReportPlace Choice)) → IsAnswerReply lines word (answer_to report place) reply → reply ≡ report_reply lines word report place
   report_by report None h = h
   report_by report (Some place) h = h
 
@@ -87,7 +87,7 @@ module _ (lines : ℕ) (word : List ℕ) (reply : Reply) where
   done_valid (answer.Degree n) h d = absurd (let e = sym (ap (λ r. r.status) h) ∙ d in let z : ⊥ = cc in z)
   done_valid answer.Memory h d = absurd h
 
-pub answer_same : (report : Report) (place : Option (course.Place Choice)) → (elim place [ None ↦ answer.Valid | Some place ↦ answer.Invalid (capped (line_of_place report place)) (reason_of place) ]) ≡ answer_to report place
+pub answer_same : (report : Report) (place : Option (course.ReportPlace Choice)) → (elim place [ None ↦ answer.Valid | Some place ↦ answer.Invalid (capped (line_of_place report place)) (reason_of place) ]) ≡ answer_to report place
 answer_same report None = refl
 answer_same report (Some place) = refl
 

@@ -4,7 +4,6 @@
 --     read_sizes           what is answered of a problem and the cursor behind it
 --     front_of             the problem of such an answer
 --     AreRead, read_names  the names of a problem that was read
---     claims_same          that a certificate is no report, twice
 --     reports_same, no_report     the report of a certificate is one; one that is no report has none
 --     checked_same, certificate_same, reply_same     two replies to a certificate, to the text behind a problem, to what was read
 --     one_verdict          two verdicts on the same bytes are the same, where no text is that of two certificates
@@ -21,7 +20,7 @@ use Rattle.ore_problem.specs.Problems.{System, Read, prefix_of, prefix_sizes}
 use Rattle.ore_algebra.specs.Results.{◌>>=◌}
 use Rattle.ore_problem.proofs.AcceptedReads.{prefix_stands}
 use Rattle.ore_cert.specs.declared.certificate.Certificate.{Certificate}
-use Rattle.ore_cert.specs.declared.certificate.Certificate.TheVariants.{Controllable, AutonomousElement, LeftInverse, RightInverse, NoLeftInverse, NoRightInverse, Kernel, Resolution, ExtZero, ExtNonzero, Halted}
+use Rattle.ore_cert.specs.declared.certificate.Certificate.TheVariants.{Halted}
 use Rattle.ore_cert.specs.declared.report.Report.{Report}
 use Rattle.ore_cert.specs.KindWords.{kind_word}
 use Rattle.ore_cert.specs.WholeText.{certificate_text, IsWrittenCertificate, IsCertificate}
@@ -29,9 +28,10 @@ use Rattle.ore_parts.specs.FaultyLine.{HasOneFaultyLine}
 use Rattle.ore_check.specs.Check.{check, IsNoReport}
 use Rattle.ore_check.specs.Layout.{line_in}
 use Rattle.ore_check.specs.Reports.{failing_place}
+use Rattle.ore_check.proofs.CertificateKinds.{claims_same}
 use Rattle.ore_reply.specs.Replies.{Reply, malformed_at}
 use Rattle.ore_reply.specs.Answered.{IsReplyToRead}
-use Rattle.ore_commands.specs.Verdict.{checked_reply, report_reply, matrix_of, IsCertificateReply, IsCheckedReply, HasOneVerdict}
+use Rattle.ore_commands.specs.ReplyOfCheck.{checked_reply, report_reply, matrix_of, IsCertificateReply, IsCheckedReply, HasOneReplyOfCheck}
 
 abbrev pub OneCertificate : Type 0
 OneCertificate = (s : Signature) (names : List (List ℕ)) → AreNames names → length names ≡ length s.kinds → (a b : Certificate) → IsWrittenCertificate s names a → IsWrittenCertificate s names b
@@ -75,19 +75,6 @@ read_names bytes x e = by (prefix_of bytes) refl e
 
 -- ---- replies
 
-claims_same : (c : Certificate) (a b : IsNoReport c) → a ≡ b
-claims_same (Controllable q block) a b = refl
-claims_same (AutonomousElement element operator cofactor block) a b = refl
-claims_same (LeftInverse m) a b = refl
-claims_same (RightInverse m) a b = refl
-claims_same (NoLeftInverse unit block) a b = refl
-claims_same (NoRightInverse unit block) a b = refl
-claims_same (Kernel side generators block) a b = refl
-claims_same (Resolution links) a b = refl
-claims_same (ExtZero links block) a b = refl
-claims_same (ExtNonzero links element block) a b = refl
-claims_same (Halted report) a b = absurd a
-
 -- the report of a certificate
 reports_same : (c : Certificate) (r q : Report) → c ≡ Halted r → c ≡ Halted q → r ≡ q
 reports_same c r q e f = by (sym e ∙ f)
@@ -122,5 +109,5 @@ module _ (unique : OneCertificate) (lines_one : OneFaultyLine) where
   reply_same bytes (Ok x) a b e h k = certificate_same x.0 x.1.1 (drop x.1.0 bytes) a b (read_names bytes x e) h k
   reply_same bytes (Err f) a b e h k = h ∙ sym k
 
-  pub one_verdict : HasOneVerdict
+  pub one_verdict : HasOneReplyOfCheck
   one_verdict bytes a b h k = reply_same bytes (prefix_sizes bytes) a b refl h k

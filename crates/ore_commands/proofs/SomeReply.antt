@@ -22,8 +22,8 @@ use Rattle.ore_check.specs.Reports.{failing_place}
 use Rattle.ore_reply.specs.Replies.{Reply, malformed_at}
 use Rattle.ore_reply.specs.Answered.{IsReplyToRead}
 use Rattle.ore_reply.specs.FaultReply.{fault_reply}
-use Rattle.ore_commands.specs.Verdict.{checked_reply, report_reply, matrix_of, IsCheckedReply, IsCertificateReply, LacksNoVerdict}
-use Rattle.ore_commands.proofs.Verdicts.{ReportOrNone, report_or_none}
+use Rattle.ore_commands.specs.ReplyOfCheck.{checked_reply, report_reply, matrix_of, IsCheckedReply, IsCertificateReply, LacksNoReplyOfCheck}
+use Rattle.ore_commands.proofs.RepliesOfCheck.{ReportOrNone, report_or_none}
 use Rattle.ore_commands.proofs.Faultless.{not_outside}
 
 abbrev report : Certificate
@@ -49,5 +49,5 @@ read_lacks_no_reply : (bytes : List ℕ) (r : Read (System × (ℕ × ℕ))) →
 read_lacks_no_reply bytes (Ok x) without = text_lacks_no_reply x.0 x.1.1 (drop x.1.0 bytes) without
 read_lacks_no_reply bytes (Err f) without = without (fault_reply f.line f.reason) refl
 
-pub lacks_no_reply : LacksNoVerdict
+pub lacks_no_reply : LacksNoReplyOfCheck
 lacks_no_reply bytes without = read_lacks_no_reply bytes (prefix_sizes bytes) without

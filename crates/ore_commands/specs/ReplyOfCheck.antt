@@ -6,8 +6,8 @@
 --     IsCheckAnswer                  what a check answers
 --     IsCheckedReply                 the reply to a certificate
 --     IsCertificateReply             the reply to the text behind a problem
---     IsVerdict                      the reply to the bytes of an input
---     HasOneVerdict, LacksNoVerdict  each input has one reply alone; none lacks one
+--     IsReplyOfCheck                 the reply to the bytes of an input
+--     HasOneReplyOfCheck, LacksNoReplyOfCheck  each input has one reply alone; none lacks one
 --     IsValidCertificate             a text is that of a certificate, and what it says of the matrix is true
 --     SaysValid, HoldsCertificate    there is such a certificate, and a text names its kind
 use Rattle.std.specs.Prelude.{◌≡◌, ◌≢◌, ◌⊎◌, ℕ, ◌+◌, List, drop, codes}
@@ -50,7 +50,7 @@ checked_reply line lines word (Ok x) = valid word
 checked_reply line lines word (Err failing) = trouble_reply (lines + capped (line failing.place)) failing.trouble
 
 -- so do those of a report, of which no line stops
-abbrev pub report_reply : ℕ → List ℕ → Report → Option (course.Place Choice) → Reply
+abbrev pub report_reply : ℕ → List ℕ → Report → Option (course.ReportPlace Choice) → Reply
 report_reply lines word report None = valid word
 report_reply lines word report (Some place) = invalid_at (lines + capped (line_of_place report place)) (reason_word (reason_of place))
 
@@ -82,16 +82,16 @@ IsCertificateReply p lines bytes reply =
     ⊎ ((line : ℕ) × IsFaultyLine (IsCertificate p.signature p.names) bytes line × (reply ≡ malformed_at (lines + line) (codes "certificate")))
 
 -- to a problem and what stands behind it, or to the first faulty line of the problem
-abbrev pub IsVerdict : List ℕ → Reply → Type 0
-IsVerdict bytes reply = IsReplyToRead (λ x. IsCertificateReply x.0 x.1.1 (drop x.1.0 bytes)) (prefix_sizes bytes) reply
+abbrev pub IsReplyOfCheck : List ℕ → Reply → Type 0
+IsReplyOfCheck bytes reply = IsReplyToRead (λ x. IsCertificateReply x.0 x.1.1 (drop x.1.0 bytes)) (prefix_sizes bytes) reply
 
 -- the reply is a function of the bytes
-abbrev pub HasOneVerdict : Type 0
-HasOneVerdict = (bytes : List ℕ) (a b : Reply) → IsVerdict bytes a → IsVerdict bytes b → a ≡ b
+abbrev pub HasOneReplyOfCheck : Type 0
+HasOneReplyOfCheck = (bytes : List ℕ) (a b : Reply) → IsReplyOfCheck bytes a → IsReplyOfCheck bytes b → a ≡ b
 
 -- no bytes are without a reply; this is said twice negated, since no definition finds out whether a text is that of a certificate
-abbrev pub LacksNoVerdict : Type 0
-LacksNoVerdict = (bytes : List ℕ) → ¬ ((reply : Reply) → ¬ IsVerdict bytes reply)
+abbrev pub LacksNoReplyOfCheck : Type 0
+LacksNoReplyOfCheck = (bytes : List ℕ) → ¬ ((reply : Reply) → ¬ IsReplyOfCheck bytes reply)
 
 -- The text is that of the certificate. What this says of the matrix is true, over numbers of any size.
 pub record IsValidCertificate (p : System) (bytes : List ℕ) (c : Certificate) : Type 0 where

@@ -1,5 +1,0 @@
-use Rattle.ore_commands.proofs.WrittenRight.{right_may_be_written}
-use Rattle.ore_commands.proofs.laws.law_right_may_be_written.Goals as goal
-
-pub returns : goal.returns
-returns c = right_may_be_written c.args.sig.now
