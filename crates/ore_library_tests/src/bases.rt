@@ -1,9 +1,8 @@
 //! Rows that are put into a basis.
 
 ghost use Rattle.std.specs.Prelude.{◌≡◌, IfOk, length};
-ghost use Rattle.std.specs.List.{All};
-ghost use Rattle.ore_ring.specs.Belongs.{Belongs};
-ghost use Rattle.ore_rows.specs.StoredBasis.{AllBelong};
+ghost use Rattle.ore_ring.specs.Belongs.{AllBelong};
+ghost use Rattle.ore_rows.specs.StoredBasis.{BasisBelongs};
 
 use ore_monomial::Signature;
 use ore_rational::Rational;
@@ -19,10 +18,10 @@ pub(crate) fn add(
 ) -> Result<(), Fail>
     requires row_width { length row ≡ basis.old.cols }
     requires cofactor_width { length cofactor ≡ basis.old.width }
-    requires row_of { All (Belongs signature.now) row }
-    requires cofactor_of { All (Belongs signature.now) cofactor }
-    requires of { AllBelong signature.now basis.old.items }
-    ensures of { IfOk result (λ _. AllBelong signature.now basis.new.items) }
+    requires row_of { AllBelong signature.now row }
+    requires cofactor_of { AllBelong signature.now cofactor }
+    requires of { BasisBelongs signature.now basis.old.items }
+    ensures of { IfOk result (λ _. BasisBelongs signature.now basis.new.items) }
     ensures cols { IfOk result (λ _. basis.new.cols ≡ basis.old.cols) }
     ensures width { IfOk result (λ _. basis.new.width ≡ basis.old.width) }
 {

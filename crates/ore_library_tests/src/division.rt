@@ -1,7 +1,7 @@
 //! Lead reduction over a ring that has all kinds of letters.
 
 ghost use Rattle.std.specs.Prelude.{◌≡◌, ◌<◌, IfOk, length};
-ghost use Rattle.ore_rows.specs.StoredBasis.{AllBelong};
+ghost use Rattle.ore_rows.specs.StoredBasis.{BasisBelongs};
 
 use crate::bases::add;
 use crate::rows::{D, ONE, T, T_D, is_row, row_of};
@@ -22,7 +22,7 @@ const MINUS_D: Term = (-1, [0, 0, 0, 0, 0, 0, 1, 0, 0, 0, 0, 0]);
 // The basis of (t, 0) and (d, 1), each with a cofactor row of its own.
 fn basis_of_two(signature: &Signature, alloc: Global) -> Result<Basis, Fail>
     requires { length signature.now.kinds ≡ 12 }
-    ensures of { IfOk result (λ b. AllBelong signature.now b.items) }
+    ensures of { IfOk result (λ b. BasisBelongs signature.now b.items) }
     ensures cols { IfOk result (λ b. b.cols ≡ 2) }
     ensures width { IfOk result (λ b. b.width ≡ 2) }
 {

@@ -2,7 +2,7 @@
 
 ghost use Rattle.std.specs.Prelude.{◌≡◌, ◌<◌, IfOk, length};
 ghost use Rattle.ore_rows.specs.Reduction.{basis_lead};
-ghost use Rattle.ore_rows.specs.StoredBasis.{AllBelong};
+ghost use Rattle.ore_rows.specs.StoredBasis.{BasisBelongs};
 
 use crate::names::letters;
 use crate::texts::{basis_from, row_is};
@@ -46,7 +46,7 @@ fn has_common(basis: &Basis) -> Result<bool, Fail>
 // Whether t d - d t = -1.
 fn combines<R: OreRing>(ring: &R, alloc: Global, names: &Names, basis: &Basis) -> Result<bool, Fail>
     requires names { length names.now ≡ length (R.sig ring.now).kinds }
-    requires of { AllBelong (R.sig ring.now) basis.now.items }
+    requires of { BasisBelongs (R.sig ring.now) basis.now.items }
     requires rows { 1 < length basis.now.items }
     requires columns { (basis_lead basis.now.items 0).column ≡ (basis_lead basis.now.items 1).column }
 {

@@ -2,7 +2,7 @@
 
 ghost use Rattle.std.specs.Prelude.{◌≡◌, IfOk, length};
 ghost use Rattle.std.specs.List.{All};
-ghost use Rattle.ore_ring.specs.Belongs.{Belongs};
+ghost use Rattle.ore_ring.specs.Belongs.{AllBelong};
 
 use ore_agree::operators::{Term, mixed, operator};
 use ore_mixed::MixedRing;
@@ -34,7 +34,7 @@ pub(crate) fn row_of(
     second: &[Term],
 ) -> Result<Row, Fail>
     requires { length signature.now.kinds ≡ 12 }
-    ensures of { IfOk result (All (Belongs signature.now)) }
+    ensures of { IfOk result (AllBelong signature.now) }
     ensures two { IfOk result (λ r. length r ≡ 2) }
 {
     let mut entries = Vec::new(alloc);
@@ -51,7 +51,7 @@ fn matrix_of(
     second: [Term; 2],
 ) -> Result<Matrix, Fail>
     requires { length signature.now.kinds ≡ 12 }
-    ensures of { IfOk result (λ m. All (All (Belongs signature.now)) m.rows) }
+    ensures of { IfOk result (λ m. All (AllBelong signature.now) m.rows) }
     ensures cols { IfOk result (λ m. m.cols ≡ 2) }
     ensures two { IfOk result (λ m. length m.rows ≡ 2) }
 {
@@ -85,7 +85,7 @@ pub(crate) fn is_row(
 // Whether (d, t) by the rows (t, 1) and (d, t) is (d t + t d, d + t^2).
 fn combines(ring: &MixedRing, alloc: Global, m: &Matrix) -> Result<bool, Fail>
     requires twelve { length ring.now.kinds ≡ 12 }
-    requires of { All (All (Belongs ring.now)) m.now.rows }
+    requires of { All (AllBelong ring.now) m.now.rows }
     requires two { length m.now.rows ≡ 2 }
 {
     let signature = OreRing::signature(ring);
@@ -103,8 +103,8 @@ fn combines(ring: &MixedRing, alloc: Global, m: &Matrix) -> Result<bool, Fail>
 // Whether that is the first row of a product, and the second is (t, d) by these rows, (t^2 + d^2, t + d t).
 fn multiplies(ring: &MixedRing, alloc: Global, n: &Matrix, m: &Matrix) -> Result<bool, Fail>
     requires twelve { length ring.now.kinds ≡ 12 }
-    requires n_of { All (All (Belongs ring.now)) n.now.rows }
-    requires m_of { All (All (Belongs ring.now)) m.now.rows }
+    requires n_of { All (AllBelong ring.now) n.now.rows }
+    requires m_of { All (AllBelong ring.now) m.now.rows }
     requires fits { n.now.cols ≡ length m.now.rows }
 {
     let signature = OreRing::signature(ring);

@@ -1,9 +1,8 @@
 //! Rows and bases of texts.
 
 ghost use Rattle.std.specs.Prelude.{◌≡◌, IfOk, length};
-ghost use Rattle.std.specs.List.{All};
-ghost use Rattle.ore_ring.specs.Belongs.{Belongs};
-ghost use Rattle.ore_rows.specs.StoredBasis.{AllBelong};
+ghost use Rattle.ore_ring.specs.Belongs.{AllBelong};
+ghost use Rattle.ore_rows.specs.StoredBasis.{BasisBelongs};
 
 use crate::bases::add;
 use ore_expr::read_operator;
@@ -22,7 +21,7 @@ pub(crate) fn row_from<R: OreRing>(
     text: &str,
 ) -> Result<Row, Fail>
     requires { length names.now ≡ length (R.sig ring.now).kinds }
-    ensures of { IfOk result (All (Belongs (R.sig ring.now))) }
+    ensures of { IfOk result (AllBelong (R.sig ring.now)) }
     ensures wide { IfOk result (λ r. length r ≡ cols) }
 {
     let mut entries = Vec::new(alloc);
@@ -72,7 +71,7 @@ pub(crate) fn basis_from<R: OreRing>(
     cofactors: &str,
 ) -> Result<Basis, Fail>
     requires { length names.now ≡ length (R.sig ring.now).kinds }
-    ensures of { IfOk result (λ b. AllBelong (R.sig ring.now) b.items) }
+    ensures of { IfOk result (λ b. BasisBelongs (R.sig ring.now) b.items) }
 {
     let signature = ring.signature();
     let mut basis = Basis::new(alloc, 1, width);

@@ -1,7 +1,7 @@
 //! The numbers of a run.
 
 ghost use Rattle.std.specs.List.{All};
-ghost use Rattle.ore_ring.specs.Belongs.{Belongs};
+ghost use Rattle.ore_ring.specs.Belongs.{AllBelong};
 
 use crate::fault::Fault;
 use ore_groebner::run::run;
@@ -20,7 +20,7 @@ const BUDGET: u32 = 100_000;
 /// # Errors
 /// The line can't be printed. That the run stops is none: the line says so.
 pub fn print_run(rt: &HostRuntime, ring: &MixedRing, name: &str, a: &Matrix) -> Result<(), Fault>
-    requires { All (All (Belongs ring.now)) a.now.rows }
+    requires { All (AllBelong ring.now) a.now.rows }
 {
     let mut chooser = LiveChooser::new(rt.alloc(), BUDGET);
     match run(ring, rt.alloc(), a, &mut chooser) {
