@@ -1,5 +1,7 @@
 -- Going on with a value, or keeping a refusal.
 --     bind_assoc        two steps in turn are one step that goes on by itself
+--     bind_like         steps that go on alike
+--     bind_ok           going on with the value itself changes nothing
 --     bound             where a value comes behind a step, the step gave a value
 --     same_ok, same_err, no_ok    what is in equal results is equal; a refusal is no value
 --     front_more        what stands before the items to come: one item more
@@ -15,6 +17,14 @@ use Rattle.ore_algebra.specs.Results.{◌>>=◌, fronted, IsRefusal}
 pub bind_assoc : {E A B D : Type 0} (r : Result A E) (f : A → Result B E) (g : B → Result D E) → ((r >>= f) >>= g) ≡ (r >>= λ x. f x >>= g)
 bind_assoc (Ok x) f g = refl
 bind_assoc (Err e) f g = refl
+
+pub bind_like : {E A B : Type 0} (r : Result A E) (f g : A → Result B E) → ((x : A) → f x ≡ g x) → (r >>= f) ≡ (r >>= g)
+bind_like (Ok x) f g h = h x
+bind_like (Err e) f g h = refl
+
+pub bind_ok : {E A : Type 0} (r : Result A E) → (r >>= λ x. Ok x) ≡ r
+bind_ok (Ok x) = refl
+bind_ok (Err e) = refl
 
 pub bound : {E A B : Type 0} (r : Result A E) (f : A → Result B E) (y : B) → (r >>= f) ≡ Ok y → (x : A) × (r ≡ Ok x) × (f x ≡ Ok y)
 bound (Ok x) f y e = (x, refl, e)

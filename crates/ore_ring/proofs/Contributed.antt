@@ -7,7 +7,7 @@ use Rattle.std.proofs.Common.{◌≡◌, Bool, true, false, cond, List, [], ◌�
 use Rattle.std.specs.declared.result.Result.{Result}
 use Rattle.std.specs.declared.result.Result.TheVariants.{Ok, Err}
 use Rattle.ore_algebra.specs.Free.{empty_sum}
-use Rattle.ore_algebra.proofs.ResultLaws.{bind_assoc}
+use Rattle.ore_algebra.proofs.ResultLaws.{bind_assoc, bind_like, bind_ok}
 use Rattle.ore_algebra.specs.Limits.{Limits, Cause, Overflow, Degree, ◌>>=◌, guard, fold_within}
 use Rattle.ore_rational.specs.Fraction.{Fraction, whole, mul}
 use Rattle.ore_rational.specs.Within.{sum_fits, sum_within, fits, product_within}
@@ -24,10 +24,6 @@ use Rattle.ore_ring.specs.Contributions.{add_terms_within, push_number, push_pro
 -- it stops with Overflow alone
 abbrev pub Overflows : {A : Type 0} → Result A Cause → Type 0
 Overflows r = (e : Cause) → r ≡ Err e → e ≡ Overflow
-
-bind_like : {A B : Type 0} (r : Result A Cause) (f g : A → Result B Cause) → ((x : A) → f x ≡ g x) → (r >>= f) ≡ (r >>= g)
-bind_like (Ok x) f g h = h x
-bind_like (Err e) f g h = refl
 
 -- two operations that stop with Overflow alone may change places
 swap : {A B D : Type 0} (r : Result A Cause) (s : Result B Cause) (f : A → B → Result D Cause) → Overflows r → Overflows s → (r >>= λ x. s >>= λ y. f x y) ≡ (s >>= λ y. r >>= λ x. f x y)
@@ -50,11 +46,7 @@ fold_overflows step h s (x ∷ xs) e g = bind_overflows (step s x) (λ t. fold_w
 
 -- a fold of steps, of which each may be followed by going over to another state
 fold_through : {A S U : Type 0} (f : S → A → Result S Cause) (g : U → A → Result U Cause) (over : S → Result U Cause) → ((s : S) (x : A) → (f s x >>= over) ≡ (over s >>= λ u. g u x)) → (s : S) (xs : List A) → (fold_within f s xs >>= over) ≡ (over s >>= λ u. fold_within g u xs)
-fold_through f g over h s [] = by (over s)
-  where
-    by : {U : Type 0} (r : Result U Cause) → r ≡ (r >>= λ u. Ok u)
-    by (Ok u) = refl
-    by (Err e) = refl
+fold_through f g over h s [] = sym (bind_ok (over s))
 fold_through f g over h s (x ∷ xs) =
     bind_assoc (f s x) (λ t. fold_within f t xs) over
     ∙ bind_like (f s x) _ _ (λ t. fold_through f g over h t xs)
@@ -91,11 +83,7 @@ module _ (l : Limits) where
   made_overflows ts = fold_overflows step step_overflows (empty_sum rationals plain_cmp) ts
 
   fold_snoc : (f : Operator rationals) (ts : Terms) (t : Term) → fold_within step f (ts ++ t ∷ []) ≡ (fold_within step f ts >>= λ g. step g t)
-  fold_snoc f [] t = by (step f t)
-    where
-      by : (r : Result (Operator rationals) Cause) → (r >>= λ u. Ok u) ≡ r
-      by (Ok u) = refl
-      by (Err e) = refl
+  fold_snoc f [] t = bind_ok (step f t)
   fold_snoc f (u ∷ ts) t = bind_like (step f u) _ _ (λ g. fold_snoc g ts t) ∙ sym (bind_assoc (step f u) (λ g. fold_within step g ts) (λ g. step g t))
 
   made_snoc : (ts : Terms) (t : Term) → made (ts ++ t ∷ []) ≡ (made ts >>= λ g. step g t)

@@ -12,7 +12,7 @@ use Rattle.std.specs.declared.result.Result.{Result}
 use Rattle.std.specs.declared.result.Result.TheVariants.{Ok, Err}
 use Rattle.ore_algebra.specs.Free.{empty_sum}
 use Rattle.ore_algebra.specs.Limits.{Limits, Cause, ◌>>=◌, fold_within}
-use Rattle.ore_algebra.proofs.ResultLaws.{bind_assoc}
+use Rattle.ore_algebra.proofs.ResultLaws.{bind_assoc, bind_like, bind_ok}
 use Rattle.ore_rational.specs.Field.{rationals}
 use Rattle.ore_monomial.specs.Monomial.{plain_cmp}
 use Rattle.ore_monomial.specs.Signature.{Signature}
@@ -23,14 +23,6 @@ use Rattle.ore_rows.specs.RowsWithin.{product_added, dot_within, added_at, AreEn
 use Rattle.ore_rows.specs.Stored.{sums_of, places}
 use Rattle.ore_rows.proofs.Dots.{entry_place}
 use Rattle.ore_rows.proofs.ZeroOperands.{added_none}
-
-bind_like : {A B : Type 0} (r : Result A Cause) (f g : A → Result B Cause) → ((x : A) → f x ≡ g x) → (r >>= f) ≡ (r >>= g)
-bind_like (Ok x) f g h = h x
-bind_like (Err e) f g h = refl
-
-bind_ok : {A : Type 0} (r : Result A Cause) → (r >>= λ x. Ok x) ≡ r
-bind_ok (Ok x) = refl
-bind_ok (Err e) = refl
 
 -- a fold by the places ks of what stands there, and then by a list
 module _ {A S : Type 0} (step : S → A → Result S Cause) (at : ℕ → A) where
