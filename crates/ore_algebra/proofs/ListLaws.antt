@@ -1,8 +1,9 @@
--- Lists of any kind, read at a place.
+-- Lists of any kind, read at a place or item by item.
 --     drop_item, drop_read   the rest from a place on is the item there, and the rest behind it
 --     take_read              the front of one item more is the front, and the item at its end
 --     AllByRecursion-at      what holds of each item holds of the item at a place
 --     list_all-weaker        where each item passes a test, each passes a weaker one
+--     same_cons              equal lists have the same first item, and the same items behind it
 use Rattle.std.proofs.Common.{◌≡◌, ℕ, zero, suc, ◌+◌, ◌<◌, List, [], ◌∷◌, ◌++◌, length, get_or, drop, take, Bool, true, refl, sym, ap, subst, ◌∙◌, add-one}
 use Rattle.std.specs.declared.option.Option.TheVariants.{Some}
 use Rattle.std.specs.List.{AllByRecursion, list_all, slice_get}
@@ -28,3 +29,6 @@ AllByRecursion-at P (y ∷ xs) (suc i) x h e = AllByRecursion-at P xs i x h.1 e
 pub list_all-weaker : {A : Type 0} (p q : A → Bool) → ((x : A) → p x ≡ true → q x ≡ true) → (xs : List A) → list_all p xs ≡ true → list_all q xs ≡ true
 list_all-weaker p q w [] h = refl
 list_all-weaker p q w (x ∷ xs) h = let b = and_parts (p x) (list_all p xs) h in and_from (q x) (list_all q xs) (w x b.0) (list_all-weaker p q w xs b.1)
+
+pub same_cons : {A : Type 0} (x y : A) (xs ys : List A) → x ∷ xs ≡ y ∷ ys → (x ≡ y) × (xs ≡ ys)
+same_cons x y xs ys e = (cc, cc)

@@ -23,7 +23,8 @@ use Rattle.ore_course.specs.Report.{Reported, StopLine, Report, AtForced, AtChoi
 use Rattle.ore_course.specs.Failing.{ReportPlace, is_cause, follow, is_over, stops_so, is_stopped, stop_passes, failing, first_failing, OfRun, OfChoice, OfStop}
 use Rattle.ore_course.specs.Following.{Halt, Follows, IsHaltedIn, InForced, InChoice, Passed, Spent, NoLawful, Memory}
 use Rattle.ore_course.specs.Replaying.{End, kept_with, kept_of, stop_decided, AreFronts, decided, replayed}
-use Rattle.ore_course.proofs.Basics.{no_nil, same_cons, true_false}
+use Rattle.ore_course.proofs.Basics.{no_nil, true_false}
+use Rattle.ore_algebra.proofs.ListLaws.{same_cons}
 use Rattle.ore_algebra.proofs.ResultLaws.{same_ok, no_ok}
 use Rattle.ore_course.proofs.Honesty.{failing_on, failing_at, failing_run}
 use Rattle.ore_course.proofs.Calls.{in_some}

@@ -14,6 +14,7 @@ use Rattle.std.specs.declared.option.Option.TheVariants.{None, Some}
 use Rattle.std.proofs.lemmas.List.{map-append}
 use Rattle.std.proofs.lemmas.List.Elements.{All-nil, All-cons, All-push}
 use Rattle.ore_algebra.specs.Free.{empty_sum}
+use Rattle.ore_algebra.proofs.ListLaws.{same_cons}
 use Rattle.ore_algebra.specs.Limits.{Cause, program, ◌>>=◌}
 use Rattle.ore_rational.specs.Fraction.{Fraction}
 use Rattle.ore_rational.specs.Field.{rationals, rational_inverses}
@@ -54,18 +55,12 @@ no_lead o r z = by (row_lead rationals o (sums_of r)) refl
 
 pub unless_zero-zero : (o : Order) (r : List Ordered) → IsZeroRow r → unless_zero rationals o (sums_of r) ≡ []
 unfolding unless_zero
-unless_zero-zero o r z = ap (λ (x : Option Term). elim x [ None ↦ [] | Some t ↦ sums_of r ∷ [] ]) (no_lead o r z)
-
-heads : {A : Type 0} (x y : A) (xs ys : List A) → x ∷ xs ≡ y ∷ ys → x ≡ y
-heads x y xs ys e = cc
-
-tails : {A : Type 0} (x y : A) (xs ys : List A) → x ∷ xs ≡ y ∷ ys → xs ≡ ys
-tails x y xs ys e = cc
+unless_zero-zero o r z = ap (λ (x : Option Term). elim x [ None ↦ [] | Some t ↦ sums_of r ∷ [] ]) (zeros_lead o r z)
 
 zeros : (q : List Ordered) → sums_of q ≡ zero_row rationals (length (sums_of q)) → IsZeroRow q
 unfolding zero_row
 zeros [] e = All-nil (λ (f : Ordered). f.sum ≡ empty_sum rationals plain_cmp)
-zeros (f ∷ q) e = All-cons (λ (f : Ordered). f.sum ≡ empty_sum rationals plain_cmp) f q (heads _ _ _ _ e) (zeros q (tails _ _ _ _ e))
+zeros (f ∷ q) e = All-cons (λ (f : Ordered). f.sum ≡ empty_sum rationals plain_cmp) f q (same_cons _ _ _ _ e).0 (zeros q (same_cons _ _ _ _ e).1)
 
 pub unless_zero-row : (o : Order) (r : List Ordered) → ¬ IsZeroRow r → unless_zero rationals o (sums_of r) ≡ sums_of r ∷ []
 unfolding unless_zero

@@ -18,7 +18,7 @@ use Rattle.std.proofs.lemmas.List.{length-map, get_or-map}
 use Rattle.ore_algebra.specs.Domain.{Domain}
 use Rattle.ore_algebra.specs.Free.{empty_sum, single, plus, scale}
 use Rattle.ore_algebra.specs.Limits.{Cause, ◌>>=◌}
-use Rattle.ore_course.proofs.Basics.{same_cons}
+use Rattle.ore_algebra.proofs.ListLaws.{same_cons}
 use Rattle.ore_monomial.specs.Monomial.{unit, plain_cmp}
 use Rattle.ore_monomial.specs.LetterRule.{Operator}
 use Rattle.ore_monomial.specs.Signature.{Signature, MonomialOf, IsLawful}

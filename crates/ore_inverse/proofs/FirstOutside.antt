@@ -10,7 +10,7 @@ use Rattle.std.specs.declared.result.Result.{Result}
 use Rattle.std.specs.declared.result.Result.TheVariants.{Ok, Err}
 use Rattle.ore_algebra.specs.Limits.{Cause, program}
 use Rattle.ore_algebra.proofs.ResultLaws.{same_ok, no_ok}
-use Rattle.ore_course.proofs.Basics.{same_cons}
+use Rattle.ore_algebra.proofs.ListLaws.{same_cons}
 use Rattle.ore_rational.specs.Field.{rationals}
 use Rattle.ore_monomial.specs.Signature.{Signature}
 use Rattle.ore_monomial.specs.Term.{Term}

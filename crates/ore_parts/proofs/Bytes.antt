@@ -1,7 +1,6 @@
 -- Texts without a byte, and texts cut at it.
 --     LacksByte-append, LacksByte-cons, LacksByte-decimal       texts that lack a byte
 --     cut_none, cut_here       where the first byte of a value stands
---     heads                    the first bytes of equal texts
 --     byte_cancel              what stands before a byte, and behind it, where the front lacks it
 --     lacks_none, no_line      a text without the byte, or without a line end, begins with nothing that has it
 --     to_end                   a range that goes to the end
@@ -18,6 +17,7 @@ use Rattle.std.proofs.lemmas.Bool.{eqb-true, eq-eqb}
 use Rattle.std.proofs.lemmas.Bool.Decides.{nat_tests}
 use Rattle.std.proofs.lemmas.List.{length-drop, take_all, take-append-drop}
 use Rattle.std.proofs.lemmas.List.Folds.{list_all-append}
+use Rattle.ore_algebra.proofs.ListLaws.{same_cons}
 use Rattle.ore_parts.specs.Lines.{LacksByte, IsLine}
 
 module _ (byte : ℕ) where
@@ -96,9 +96,6 @@ module _ (byte : ℕ) where
 
   -- ---- equal texts
 
-  pub heads : (x y : ℕ) (xs ys : List ℕ) → x ∷ xs ≡ y ∷ ys → x ≡ y
-  heads x y xs ys e = cc
-
   not_first : (x : ℕ) (xs : List ℕ) → LacksByte byte (x ∷ xs) → x ≡ byte → ⊥
   not_first x xs h e = true≢false (sym h ∙ (λ i. not (eq-eqb x byte e i) && list_all is_other xs))
 
@@ -111,11 +108,11 @@ module _ (byte : ℕ) where
 
   pub byte_cancel : (a b u v : List ℕ) → LacksByte byte a → LacksByte byte b → a ++ byte ∷ u ≡ b ++ byte ∷ v → (a ≡ b) × (u ≡ v)
   byte_cancel [] [] u v h k e = (refl, ap (drop 1) e)
-  byte_cancel [] (y ∷ b) u v h k e = absurd (not_first y b k (sym (heads byte y u (b ++ byte ∷ v) e)))
-  byte_cancel (x ∷ a) [] u v h k e = absurd (not_first x a h (heads x byte (a ++ byte ∷ u) v e))
+  byte_cancel [] (y ∷ b) u v h k e = absurd (not_first y b k (sym (same_cons byte y u (b ++ byte ∷ v) e).0))
+  byte_cancel (x ∷ a) [] u v h k e = absurd (not_first x a h (same_cons x byte (a ++ byte ∷ u) v e).0)
   byte_cancel (x ∷ a) (y ∷ b) u v h k e =
       let r = byte_cancel a b u v (rest_lacks x a h) (rest_lacks y b k) (ap (drop 1) e) in
-      (λ i. heads x y (a ++ byte ∷ u) (b ++ byte ∷ v) e i ∷ r.0 i, r.1)
+      (λ i. (same_cons x y (a ++ byte ∷ u) (b ++ byte ∷ v) e).0 i ∷ r.0 i, r.1)
 
   -- no byte of the front is this one, so a text that lacks it is no such text
   pub lacks_none : (a u text : List ℕ) → LacksByte byte text → text ≡ a ++ byte ∷ u → ⊥

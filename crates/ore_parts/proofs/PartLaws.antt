@@ -18,6 +18,7 @@ use Rattle.std.specs.List.{All, flat_map, AllByRecursion}
 use Rattle.std.proofs.lemmas.List.{append_cancel_left}
 use Rattle.std.proofs.lemmas.List.Elements.{All-nil}
 use Rattle.ore_algebra.specs.Free.{single}
+use Rattle.ore_algebra.proofs.ListLaws.{same_cons}
 use Rattle.ore_rational.specs.Fraction.{Fraction}
 use Rattle.ore_rational.specs.Field.{rationals}
 use Rattle.ore_monomial.specs.Monomial.{Monomial, unit, degree, plain_cmp}
@@ -40,7 +41,7 @@ use Rattle.ore_parts.specs.CertificateText.{number_bound, matrix_words}
 use Rattle.ore_parts.specs.Formats.{Format, sequence, items}
 use Rattle.ore_parts.specs.Lines.{LacksByte}
 use Rattle.ore_parts.specs.PartFormats.{count_format, step_words, step_format, quotients_format, entry_words, IsWrittenLine, entry_line_format, entry_format, pairs_format}
-use Rattle.ore_parts.proofs.Bytes.{heads, LacksByte-append, LacksByte-cons, LacksByte-decimal}
+use Rattle.ore_parts.proofs.Bytes.{LacksByte-append, LacksByte-cons, LacksByte-decimal}
 use Rattle.ore_parts.proofs.FormatLaws.{IsFormat, AreWords, Makes, line_is, items_is, none_left}
 use Rattle.ore_parts.proofs.Places.{spaced_lacks, three_lack, same_place, place_rest, zero_is_place}
 use Rattle.ore_parts.proofs.TwoParts.{TwoParts, two_are}
@@ -65,7 +66,7 @@ entry_lacks (PairLine i j count) = LacksByte-append 10 (codes "pair ") (place i 
 entry_lacks (SkipLine i j via) = LacksByte-append 10 (codes "skip ") (place i ++ 32 ∷ (place j ++ 32 ∷ place via)) refl (three_lack (suc i) (suc j) (suc via))
 
 pub apart_words : (u v : List ℕ) → codes "pair " ++ u ≡ codes "skip " ++ v → ⊥
-apart_words u v e = let h = heads 10 112 115 (codes "air " ++ u) (codes "kip " ++ v) e in let z : ⊥ = omega (arith, h) in z
+apart_words u v e = let h = (same_cons 112 115 (codes "air " ++ u) (codes "kip " ++ v) e).0 in let z : ⊥ = omega (arith, h) in z
 
 entry_same : (e f : EntryLine) → IsWrittenLine e → IsWrittenLine f → entry_words e ≡ entry_words f → e ≡ f
 entry_same (PairLine i j n) (PairLine k l m) h g e =

@@ -3,7 +3,6 @@
 --     row_same             rows of the same width with the same line
 --     stored_same          stored rows of a signature with the same operators
 --     no_stop, is_no_stop, rest_lacks     a byte that is no comma and no line end; texts of such bytes
---     tails                what follows the first bytes of equal texts
 --     text_of, lacks       the canonical text of an operator, without commas and line ends
 --     listed_line, listed_more, listed_same     operators with commas between, and a line end
 --     ArePrintable         each operator may be written
@@ -13,6 +12,7 @@ use Rattle.std.specs.Prelude.{codes}
 use Rattle.std.specs.List.{list_all, All, AllByRecursion}
 use Rattle.std.proofs.lemmas.List.{append_cancel_left}
 use Rattle.std.proofs.lemmas.List.Elements.{All-head, All-tail}
+use Rattle.ore_algebra.proofs.ListLaws.{same_cons}
 use Rattle.ore_rational.specs.Field.{rationals}
 use Rattle.ore_monomial.specs.Signature.{Signature}
 use Rattle.ore_monomial.specs.LetterRule.{Operator}
@@ -28,7 +28,6 @@ use Rattle.ore_text.specs.RowText.{listed, row_text}
 use Rattle.ore_text.proofs.CanonicalUnique.{canonical_is_unique}
 use Rattle.ore_text.proofs.RowBytes.{LacksStops-operator}
 use Rattle.ore_parts.specs.CertificateText.{IsRowOf}
-use Rattle.ore_parts.proofs.Bytes.{heads}
 
 abbrev no_stop : ℕ → Bool
 no_stop b = not (is_stop b)
@@ -43,16 +42,14 @@ rest_lacks x xs h = by (no_stop x) h
     by true h = h
     by false h = absurd (true≢false (sym h))
 
-tails : (x y : ℕ) (xs ys : List ℕ) → x ∷ xs ≡ y ∷ ys → xs ≡ ys
-tails x y xs ys e = cc
-
 pub stop_cancel : (a b : List ℕ) (x y : ℕ) (u v : List ℕ) → LacksStops a → LacksStops b → is_stop x ≡ true → is_stop y ≡ true → a ++ x ∷ u ≡ b ++ y ∷ v → (a ≡ b) × (u ≡ v)
-stop_cancel [] [] x y u v h k s t e = (refl, tails x y u v e)
-stop_cancel [] (c ∷ b) x y u v h k s t e = absurd (is_no_stop c b k (ap is_stop (sym (heads 10 x c u (b ++ y ∷ v) e)) ∙ s))
-stop_cancel (c ∷ a) [] x y u v h k s t e = absurd (is_no_stop c a h (ap is_stop (heads 10 c y (a ++ x ∷ u) v e) ∙ t))
+stop_cancel [] [] x y u v h k s t e = (refl, (same_cons x y u v e).1)
+stop_cancel [] (c ∷ b) x y u v h k s t e = absurd (is_no_stop c b k (ap is_stop (sym (same_cons x c u (b ++ y ∷ v) e).0) ∙ s))
+stop_cancel (c ∷ a) [] x y u v h k s t e = absurd (is_no_stop c a h (ap is_stop (same_cons c y (a ++ x ∷ u) v e).0 ∙ t))
 stop_cancel (c ∷ a) (d ∷ b) x y u v h k s t e =
-    let r = stop_cancel a b x y u v (rest_lacks c a h) (rest_lacks d b k) s t (tails c d (a ++ x ∷ u) (b ++ y ∷ v) e) in
-    (λ i. heads 10 c d (a ++ x ∷ u) (b ++ y ∷ v) e i ∷ r.0 i, r.1)
+    let parts = same_cons c d (a ++ x ∷ u) (b ++ y ∷ v) e in
+    let r = stop_cancel a b x y u v (rest_lacks c a h) (rest_lacks d b k) s t parts.1 in
+    (λ i. parts.0 i ∷ r.0 i, r.1)
 
 module _ (s : Signature) (names : List (List ℕ)) (are : AreNames names) where
   abbrev text_of : Operator rationals → List ℕ
@@ -83,7 +80,7 @@ module _ (s : Signature) (names : List (List ℕ)) (are : AreNames names) where
       let r = stop_cancel (text_of f) (text_of g) 44 44 (32 ∷ listed_line (x ∷ fs)) (32 ∷ listed_line (y ∷ gs)) (lacks f) (lacks g) refl refl (sym (listed_more f x fs) ∙ e ∙ listed_more g y gs) in
       let first = canonical_is_unique s names f g h.0 k.0 r.0 in
       let m : length (x ∷ fs) ≡ length (y ∷ gs) = omega (arith, l) in
-      let rest = listed_same (x ∷ fs) (y ∷ gs) m h.1 k.1 (tails 32 32 (listed_line (x ∷ fs)) (listed_line (y ∷ gs)) r.1) in
+      let rest = listed_same (x ∷ fs) (y ∷ gs) m h.1 k.1 (same_cons 32 32 (listed_line (x ∷ fs)) (listed_line (y ∷ gs)) r.1).1 in
       λ i. first i ∷ rest i
 
   pub row_same : (cols : ℕ) (fs gs : Row rationals) → IsRowOf s names cols fs → IsRowOf s names cols gs → row_text names s.order fs ≡ row_text names s.order gs → fs ≡ gs

@@ -29,6 +29,7 @@ use Rattle.std.proofs.lemmas.Bool.Decides.{nat_tests}
 use Rattle.std.proofs.lemmas.List.Sums.{sum_by-cons}
 use Rattle.std.proofs.lemmas.Fmt.{decimal_is_IsNumeral_wide}
 use Rattle.ore_algebra.specs.Free.{collect}
+use Rattle.ore_algebra.proofs.ListLaws.{same_cons}
 use Rattle.ore_rational.specs.Fraction.{Fraction, reduce, whole}
 use Rattle.ore_rational.specs.Reduced.{reduce-self}
 use Rattle.ore_rational.specs.Field.{rationals}
@@ -68,9 +69,6 @@ same_number m n a b h k ha hb e =
     let w = same_front (decimal m) (decimal n) a b (decimal_in_name m h) (decimal_in_name n k) ha hb e in
     (same_decimal m n h k w.0, w.1)
 
-same_rest : (x y : ℕ) (a b : List ℕ) → x ∷ a ≡ y ∷ b → a ≡ b
-same_rest x y a b e = cc
-
 -- a factor doesn't end where the byte x stands
 no_factor_end : (x : ℕ) (a b : List ℕ) → x ≢ 42 → x ≢ 32 → IsFactorEnd a → a ≡ x ∷ b → ⊥
 no_factor_end x a b n m h e = by (subst IsFactorEnd e h)
@@ -92,7 +90,7 @@ same_exponent (suc zero) (suc zero) a b he hf pe pf ha hb q = (refl, q)
 same_exponent (suc zero) (suc (suc f)) a b he hf pe pf ha hb q = absurd (caret_ends_none a (decimal (suc (suc f)) ++ b) ha q)
 same_exponent (suc (suc e)) (suc zero) a b he hf pe pf ha hb q = absurd (caret_ends_none b (decimal (suc (suc e)) ++ a) hb (sym q))
 same_exponent (suc (suc e)) (suc (suc f)) a b he hf pe pf ha hb q =
-    same_number (suc (suc e)) (suc (suc f)) a b (omega arith) (omega arith) (FactorEnd-WordEnd a ha) (FactorEnd-WordEnd b hb) (same_rest 94 94 (decimal (suc (suc e)) ++ a) (decimal (suc (suc f)) ++ b) q)
+    same_number (suc (suc e)) (suc (suc f)) a b (omega arith) (omega arith) (FactorEnd-WordEnd a ha) (FactorEnd-WordEnd b hb) (same_cons 94 94 (decimal (suc (suc e)) ++ a) (decimal (suc (suc f)) ++ b) q).1
 
 same_denominator : (d e : ℕ) (a b : List ℕ) → d < 2 ^ 127 → e < 2 ^ 127 → IsFactorEnd a → IsFactorEnd b → denominator_text d ++ a ≡ denominator_text e ++ b → (d ≡ e) × (a ≡ b)
 same_denominator d e a b hd he ha hb q = by (nat_eq d 1) (nat_eq e 1) refl refl q
@@ -104,7 +102,7 @@ same_denominator d e a b hd he ha hb q = by (nat_eq d 1) (nat_eq e 1) refl refl 
     by true true h k q = (one d h ∙ sym (one e k), q)
     by true false h k q = absurd (slash_ends_none a (decimal e ++ b) ha q)
     by false true h k q = absurd (slash_ends_none b (decimal d ++ a) hb (sym q))
-    by false false h k q = same_number d e a b hd he (FactorEnd-WordEnd a ha) (FactorEnd-WordEnd b hb) (same_rest 47 47 (decimal d ++ a) (decimal e ++ b) q)
+    by false false h k q = same_number d e a b hd he (FactorEnd-WordEnd a ha) (FactorEnd-WordEnd b hb) (same_cons 47 47 (decimal d ++ a) (decimal e ++ b) q).1
 
 -- ---- factors
 
@@ -246,7 +244,7 @@ same_first_sign : (y z : ℤ) (a b : List ℕ) → BeginsWithName a → BeginsWi
 same_first_sign (pos m) (pos n) a b h k e = (refl, e)
 same_first_sign (pos m) (negsuc n) a b h k e = absurd (no_minus a b h e)
 same_first_sign (negsuc m) (pos n) a b h k e = absurd (no_minus b a k (sym e))
-same_first_sign (negsuc m) (negsuc n) a b h k e = (refl, same_rest 45 45 a b e)
+same_first_sign (negsuc m) (negsuc n) a b h k e = (refl, (same_cons 45 45 a b e).1)
 
 same_later_sign : (y z : ℤ) (a b : List ℕ) → sign_text y (codes " + ") (codes " - ") ++ a ≡ sign_text z (codes " + ") (codes " - ") ++ b → (is_negative y ≡ is_negative z) × (a ≡ b)
 same_later_sign (pos m) (pos n) a b e = (refl, ap (drop 3) e)
