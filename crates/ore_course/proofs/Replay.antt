@@ -1,6 +1,7 @@
 -- Following a course with the choices of a report decides its first failing line.
 --     snoc, at_length, past      of lists with one item more
---     fronts, next_of            what is kept, run by run; of that the choice whose turn it is
+--     fronts                     what is kept, run by run
+--     next_first, next_later     of that the choice whose turn it is, in the first run and behind it
 --     kept_cons, front_cases     the first run that is kept, and the choices given of it
 --     run_split, follow_at       one choice more; the choice that is refused
 --     stops_not, choice_stops, only_forced    what the stop line says
@@ -27,7 +28,6 @@ use Rattle.ore_course.proofs.Basics.{no_nil, true_false}
 use Rattle.ore_algebra.proofs.ListLaws.{same_cons}
 use Rattle.ore_algebra.proofs.ResultLaws.{same_ok, no_ok}
 use Rattle.ore_course.proofs.Honesty.{failing_on, failing_at, failing_run}
-use Rattle.ore_course.proofs.Calls.{in_some}
 use Rattle.ore_course.proofs.GivenRuns.{without_last-with_choice}
 
 -- ---- lists
@@ -82,29 +82,13 @@ module _ {C : Type 0} where
       nothing (g ∷ gs) (tail, e) = absurd (no_nil (sym e))
   fronts (ks ∷ kept) (gs ∷ given) h = (h 0, fronts kept given (λ k. h (suc k)))
 
-  -- of the kept choices of the present run the next, run by run
-  unfoldable pub next_of : List (List C) → List (List C) → Option C
-  next_of kept [] = None
-  next_of [] (gs ∷ given) = None
-  next_of (ks ∷ kept) (gs ∷ []) = slice_get ks (length gs)
-  next_of (ks ∷ kept) (gs ∷ hs ∷ given) = next_of kept (hs ∷ given)
-
-  next_first : (ks : List C) (kept : List (List C)) (gs : List C) → next_of (ks ∷ kept) (gs ∷ []) ≡ slice_get ks (length gs)
-  unfolding next_of
+  next_first : (ks : List C) (kept : List (List C)) (gs : List C) → next_kept (ks ∷ kept) (gs ∷ []) ≡ slice_get ks (length gs)
+  unfolding present
   next_first ks kept gs = refl
 
-  next_later : (ks : List C) (kept : List (List C)) (gs hs : List C) (given : List (List C)) → next_of (ks ∷ kept) (gs ∷ hs ∷ given) ≡ next_of kept (hs ∷ given)
-  unfolding next_of
-  next_later ks kept gs hs given = refl
-
-  none_kept : (n k : ℕ) → slice_get (get_or {A = List C} [] n []) k ≡ None
-  none_kept n k = slice_get_past (get_or {A = List C} [] n []) k (omega arith)
-
-  next_same : (kept : List (List C)) (gs : List C) (given : List (List C)) → next_kept kept (gs ∷ given) ≡ next_of kept (gs ∷ given)
-  unfolding next_of present
-  next_same [] gs given = none_kept (length (gs ∷ given) - 1) (length (present (gs ∷ given)))
-  next_same (ks ∷ kept) gs [] = refl
-  next_same (ks ∷ kept) gs (hs ∷ given) = ap (λ m. slice_get (get_or (ks ∷ kept) m []) (length (present (hs ∷ given)))) (shift (length given)) ∙ next_same kept hs given
+  next_later : (ks : List C) (kept : List (List C)) (gs hs : List C) (given : List (List C)) → next_kept (ks ∷ kept) (gs ∷ hs ∷ given) ≡ next_kept kept (hs ∷ given)
+  unfolding present
+  next_later ks kept gs hs given = ap (λ m. slice_get (get_or (ks ∷ kept) m []) (length (present (hs ∷ given)))) (shift (length given))
     where
       shift : (n : ℕ) → suc (suc n) - 1 ≡ suc (suc n - 1)
       shift n = omega arith
@@ -378,14 +362,14 @@ module _ {S C : Type 0} (R : Runner S C) where
 
     -- the choices of the last run were all given, something is left, and the choice of the stop line isn't lawful
     left_stop : (cause : Reported) (treated : ℕ) (gs : List C) (st : S) (rest : Course S X) (stop : StopLine C) → R.is_complete st ≡ false
-        → IfSome (next_of (kept_with (gs ∷ []) stop) (gs ∷ [])) (λ c. R.step st c ≡ Err Unlawful) → stop_passes R cause treated (Some st) rest stop ≡ stop_decided cause treated stop (Some NoLawful)
-    unfolding stop_passes next_of with_choice
+        → IfSome (next_kept (kept_with (gs ∷ []) stop) (gs ∷ [])) (λ c. R.step st c ≡ Err Unlawful) → stop_passes R cause treated (Some st) rest stop ≡ stop_decided cause treated stop (Some NoLawful)
+    unfolding stop_passes present with_choice
     left_stop cause treated gs st rest AtForced left h = rw left refl
     left_stop cause treated gs st rest (AtChoice choice) left h = stops_not cause (R.step st choice) (subst (λ o. IfSome o (λ c. R.step st c ≡ Err Unlawful)) (at_length gs choice []) h)
     left_stop cause treated gs st rest AtBudget left h = rw left refl
 
     left_end : (k : ℕ) (gs : List C) (st : S) (rest : Course S X) (more : List (List C)) → R.is_complete st ≡ false
-        → IfSome (next_of (kept_with (gs ∷ more) report.stop) (gs ∷ [])) (λ c. R.step st c ≡ Err Unlawful)
+        → IfSome (next_kept (kept_with (gs ∷ more) report.stop) (gs ∷ [])) (λ c. R.step st c ≡ Err Unlawful)
         → failing R report k (Some st) rest more ≡ decided R report (Some NoLawful) k [] more
     unfolding decided
     left_end k gs st rest [] left h =
@@ -393,7 +377,7 @@ module _ {S C : Type 0} (R : Runner S C) where
     left_end k gs st rest (cs ∷ more) left h = failing_run R report k (Some st) rest cs more left
 
     replay_left : (st : S) → R.is_complete st ≡ false → (k : ℕ) (last : Option S) (course : Course S X) (given runs : List (List C)) → is_over R last ≡ true → IsIn R course given st
-        → AreFronts (kept_with runs report.stop) given → IfSome (next_of (kept_with runs report.stop) given) (λ c. R.step st c ≡ Err Unlawful)
+        → AreFronts (kept_with runs report.stop) given → IfSome (next_kept (kept_with runs report.stop) given) (λ c. R.step st c ≡ Err Unlawful)
         → failing R report k last course runs ≡ decided R report (Some NoLawful) k given runs
     unfolding IsIn
     replay_left st left k last (Done x) given runs over h kept unlawful = absurd h
@@ -406,16 +390,16 @@ module _ {S C : Type 0} (R : Runner S C) where
             → IsFront gs cs more report.stop × AreFronts (kept_with more report.stop) []
             → failing R report k last (Runs first next) (cs ∷ more) ≡ decided R report (Some NoLawful) k (gs ∷ []) (cs ∷ more)
         by (ks, same, of) (inl (c, tail, e), fr) = refused_here closed report (Some NoLawful) k last first next gs [] cs more c tail st Unlawful over e h
-            (subst (λ o. IfSome o (λ d. R.step st d ≡ Err Unlawful)) (ap (λ kept. next_of kept (gs ∷ [])) same ∙ next_first ks (kept_with more report.stop) gs ∙ next_there gs cs ks more report.stop c tail e of) unlawful)
+            (subst (λ o. IfSome o (λ d. R.step st d ≡ Err Unlawful)) (ap (λ kept. next_kept kept (gs ∷ [])) same ∙ next_first ks (kept_with more report.stop) gs ∙ next_there gs cs ks more report.stop c tail e of) unlawful)
         by kept_is (inr (inl e), fr) = all_given closed report (Some NoLawful) k last first next gs [] cs more st over h e
-            (left_end (suc k) gs st (next st) more left (subst (λ ds. IfSome (next_of (kept_with (ds ∷ more) report.stop) (gs ∷ [])) (λ c. R.step st c ≡ Err Unlawful)) e unlawful))
+            (left_end (suc k) gs st (next st) more left (subst (λ ds. IfSome (next_kept (kept_with (ds ∷ more) report.stop) (gs ∷ [])) (λ c. R.step st c ≡ Err Unlawful)) e unlawful))
         by kept_is (inr (inr (m, choice, s, g)), fr) = treated_too closed report (Some NoLawful) k last first next gs [] cs more st choice over h m s g
             (λ p. ap (λ stop. stop_decided report.cause (treatment_count_in R.is_treatment report.runs) stop (Some NoLawful)) s)
     replay_left st left k last (Runs first next) (gs ∷ hs ∷ given) [] over (mid, led, complete, more_in) kept unlawful = none_over closed report (Some NoLawful) k last first next gs (hs ∷ given) over
     replay_left st left k last (Runs first next) (gs ∷ hs ∷ given) (cs ∷ more) over (mid, led, complete, more_in) kept unlawful =
         let keeps = kept_cons cs more report.stop in
-        let later : IfSome (next_of (kept_with more report.stop) (hs ∷ given)) (λ c. R.step st c ≡ Err Unlawful) =
-        subst (λ o. IfSome o (λ c. R.step st c ≡ Err Unlawful)) (ap (λ kept. next_of kept (gs ∷ hs ∷ given)) keeps.1 ∙ next_later keeps.0 (kept_with more report.stop) gs hs given) unlawful in
+        let later : IfSome (next_kept (kept_with more report.stop) (hs ∷ given)) (λ c. R.step st c ≡ Err Unlawful) =
+        subst (λ o. IfSome o (λ c. R.step st c ≡ Err Unlawful)) (ap (λ kept. next_kept kept (gs ∷ hs ∷ given)) keeps.1 ∙ next_later keeps.0 (kept_with more report.stop) gs hs given) unlawful in
         one_over closed report (Some NoLawful) k last first next gs (hs ∷ given) (hs ∷ given) cs more mid over led complete kept
         (λ n fr. replay_left st left n (Some mid) (next mid) (hs ∷ given) more complete more_in fr later) (λ e. absurd (no_nil e))
 
@@ -440,13 +424,6 @@ module _ {S C : Type 0} (R : Runner S C) where
     unfolding is_stopped
     replay_forced c h kept = replay_over closed report (Some (Passed c InForced)) (Stops c) (stops_no_run c) refl (λ choice. refl) refl 0 None course given report.runs refl h kept
 
-    next_given : (st : S) → IsIn R course given st → next_kept (kept_of report) given ≡ next_of (kept_of report) given
-    next_given st h = by given (in_some R course given st h)
-      where
-        by : (rs : List (List C)) → rs ≢ [] → next_kept (kept_of report) rs ≡ next_of (kept_of report) rs
-        by [] h = absurd (h refl)
-        by (gs ∷ rs) h = next_same (kept_of report) gs rs
-
     -- it halts, and memory is at hand: then the first failing place is this, or none
     pub replay_halted : (budget : ℕ) (halt : Halt C) → IsHaltedIn R rule course [] given budget true (kept_of report) halt → AreFronts (kept_of report) given → halt ≢ Memory
         → first_failing R course report ≡ replayed R report given (Some halt)
@@ -458,6 +435,5 @@ module _ {S C : Type 0} (R : Runner S C) where
     replay_halted budget Spent (added, e, left, spent, live) kept memory = absurd (true_false true refl live)
     replay_halted budget NoLawful (added, e, left, replaying) kept memory =
         let is_in : IsIn R course given left.state = subst (λ rs. IsIn R course rs left.state) (sym e) left.is_in in
-        replay_left closed report left.state left.here.0 0 None course given report.runs refl is_in kept
-        (subst (λ o. IfSome o (λ c. R.step left.state c ≡ Err Unlawful)) (next_given left.state is_in) left.here.1)
+        replay_left closed report left.state left.here.0 0 None course given report.runs refl is_in kept left.here.1
     replay_halted budget Memory h kept memory = absurd (memory refl)
