@@ -16,11 +16,11 @@ use Rattle.std.specs.declared.result.Result.{Result}
 use Rattle.std.specs.declared.result.Result.TheVariants.{Ok, Err}
 use Rattle.ore_algebra.specs.Limits.{Limits, Cause, program, unlimited}
 use Rattle.ore_course.specs.Choices.{Runner}
-use Rattle.ore_course.specs.Course.{Course, Done, Stops, ◌>>=◌, forced}
+use Rattle.ore_course.specs.Course.{Course, Done, ◌>>=◌, forced}
 use Rattle.ore_course.specs.Leading.{run, LeadsTo}
 use Rattle.ore_algebra.proofs.LimitLaws.{value_from}
 use Rattle.ore_algebra.proofs.ResultLaws.{same_ok, no_ok}
-use Rattle.ore_course.proofs.Leads.{leads_split, worked_split, ran_split}
+use Rattle.ore_course.proofs.Leads.{no_done, leads_split, worked_split, ran_split}
 use Rattle.ore_rational.specs.Field.{rationals, rational_inverses}
 use Rattle.ore_monomial.specs.Signature.{Signature}
 use Rattle.ore_monomial.proofs.Signatures.{lawful}
@@ -70,9 +70,6 @@ use Rattle.ore_check.proofs.ValidMeans.{valid_means}
 
 done_same : {S X : Type 0} (x y : X) → ◌≡◌ {A = Course S X} (Done x) (Done y) → x ≡ y
 done_same x y e = cc
-
-no_done : {S X : Type 0} {c : Cause} {y : X} → ◌≡◌ {A = Course S X} (Stops c) (Done y) → ⊥
-no_done e = cc
 
 pub formed_last : {S C X : Type 0} (R : Runner S C) (r : Result X Cause) (runs : List (List C)) (x : X) → LeadsTo R (forced {X = X} r) runs (Done x) → r ≡ Ok x
 unfolding LeadsTo forced

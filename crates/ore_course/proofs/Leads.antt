@@ -1,5 +1,6 @@
 -- Where runs lead, of courses that go on, and of runs and further runs.
 --     bind_done, bind_assoc     a course that goes on with its own answer; going on twice
+--     no_done                   a course that stops isn't done
 --     run_step                  one choice before others
 --     leads_trans, leads_bind    runs and further runs; a course that goes on
 --     in_none                   where no run was begun, none is in a state
@@ -27,7 +28,7 @@ bind_assoc (Done x) f g = refl
 bind_assoc (Stops c) f g = refl
 bind_assoc (Runs first next) f g = ap (Runs first) (λ i last. bind_assoc (next last) f g i)
 
-no_done : {S X : Type 0} {c : Cause} {x : X} → ◌≡◌ {A = Course S X} (Stops c) (Done x) → ⊥
+pub no_done : {S X : Type 0} {c : Cause} {x : X} → ◌≡◌ {A = Course S X} (Stops c) (Done x) → ⊥
 no_done e = cc
 
 no_run : {S X : Type 0} {first : S} {next : S → Course S X} {x : X} → ◌≡◌ {A = Course S X} (Runs first next) (Done x) → ⊥
