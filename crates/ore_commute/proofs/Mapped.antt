@@ -10,7 +10,7 @@ use Rattle.ore_algebra.specs.Free.{collect, coefficient, sum_at}
 use Rattle.std.specs.Prelude.{ℤ}
 use Rattle.std.specs.Ordering.{eq_by_cmp}
 use Rattle.ore_algebra.proofs.Integers.{integers}
-use Rattle.ore_algebra.proofs.RingMaps.{IsRingMap, sent-of_nat, sent-power, sent-cond, sum_at-sent}
+use Rattle.ore_algebra.proofs.RingMaps.{IsRingMap, sent-of_nat, sent-power, sent-cond, sent_terms, sum_at-sent}
 use Rattle.ore_monomial.proofs.Operators
 use Rattle.ore_monomial.specs.Numbers.{numbers, falling_over}
 use Rattle.ore_monomial.proofs.FallingTerms.{sum_at-falling}
@@ -54,11 +54,8 @@ module _ (K L : Domain) (f : K.Number → L.Number) (r : IsRingMap K L f) where
   unfolding number
   map-number h h' e c a k j = r.times _ _ ∙ (λ i. L.times (sent-of_nat K L f r (choose c k * falling_factorial a k) i) ((r.times _ _ ∙ (λ l. L.times (sent-of_nat K L f r (choose (a - k) j) l) ((sent-power K L f r h h' e j) l))) i))
 
-  mapped : List (Monomial × K.Number) → List (Monomial × L.Number)
-  mapped us = map (λ u. (u.0, f u.1)) us
-
-  map_flat : (s : Signature) (ts : List (ℕ × ℕ)) (m n : Monomial) → mapped (flat K s ts m n) ≡ flat L s ts m n
-  unfolding mapped flat total_step times_term
+  map_flat : (s : Signature) (ts : List (ℕ × ℕ)) (m n : Monomial) → sent_terms K L f (flat K s ts m n) ≡ flat L s ts m n
+  unfolding flat total_step times_term
   map_flat s [] m n = λ i. (product m n, r.one i) ∷ []
   map_flat s (p ∷ ts) m n =
       map-flat send (λ k. flat_map (λ j. map (times_term K (N k j)) (flat K s ts (left k) (right k j))) (numbers_to (exponent n p.0 - k)))
@@ -88,13 +85,12 @@ module _ (K L : Domain) (f : K.Number → L.Number) (r : IsRingMap K L f) where
 
 -- the product of monomials over L, by numbers over K, as whole numbers
 pub pass_mapped : (K L : Domain) (f : K.Number → L.Number) → IsRingMap K L f → (s : Signature) (m n : Monomial)
-    → monomial_times L s m (one_term L n) ≡ collect L plain_cmp (map (λ u. (u.0, f u.1)) (flat K s (axes s) m n))
-unfolding mapped
+    → monomial_times L s m (one_term L n) ≡ collect L plain_cmp (sent_terms K L f (flat K s (axes s) m n))
 pass_mapped K L f r s m n = pass_form L s m n ∙ ap (collect L plain_cmp) (sym (map_flat K L f r s (axes s) m n))
 
 -- the falling terms of the product over the whole numbers, mapped, make the product over L
 module _ (L : Domain) (f : ℤ → L.Number) (r : IsRingMap integers L f) where
-  pub numbers_mapped : (s : Signature) (m n : Monomial) → collect L plain_cmp (map (λ u. (u.0, f u.1)) (numbers s m n)) ≡ monomial_times L s m (one_term L n)
+  pub numbers_mapped : (s : Signature) (m n : Monomial) → collect L plain_cmp (sent_terms integers L f (numbers s m n)) ≡ monomial_times L s m (one_term L n)
   unfolding numbers falling_over
   numbers_mapped s m n =
       Operators.same_sum L _ _ (λ q.

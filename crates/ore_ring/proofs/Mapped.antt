@@ -8,7 +8,7 @@ use Rattle.ore_algebra.specs.Ring.{of_nat, power}
 use Rattle.ore_algebra.specs.Domain.{Domain}
 use Rattle.ore_algebra.specs.Free.{empty_sum, single, plus, scale, linear_extension, collect, terms, coefficient, sum_at}
 use Rattle.ore_algebra.proofs.Integers.{integers}
-use Rattle.ore_algebra.proofs.RingMaps.{IsRingMap, sent-of_nat, sent-power, sum_at-sent}
+use Rattle.ore_algebra.proofs.RingMaps.{IsRingMap, sent-of_nat, sent-power, sent_terms, sum_at-sent}
 use Rattle.ore_rational.specs.Fraction.{whole}
 use Rattle.ore_rational.specs.Field.{rationals}
 use Rattle.ore_rational.specs.FractionRing.{whole-add, whole-mul, whole-neg}
@@ -23,20 +23,17 @@ use Rattle.ore_monomial.specs.Numbers.{numbers}
 use Rattle.ore_monomial.proofs.FallingTerms.{collect-falling_over}
 
 module _ (K L : Domain) (f : K.Number → L.Number) (r : IsRingMap K L f) where
-  abbrev pub sent_terms : List (Monomial × K.Number) → List (Monomial × L.Number)
-  sent_terms ts = map (λ t. (t.0, f t.1)) ts
-
   unfoldable pub sent : Operator K → Operator L
-  sent g = collect L plain_cmp (sent_terms (terms K plain_cmp g))
+  sent g = collect L plain_cmp (sent_terms K L f (terms K plain_cmp g))
 
-  pub collect-sent : (ts : List (Monomial × K.Number)) → sent (collect K plain_cmp ts) ≡ collect L plain_cmp (sent_terms ts)
+  pub collect-sent : (ts : List (Monomial × K.Number)) → sent (collect K plain_cmp ts) ≡ collect L plain_cmp (sent_terms K L f ts)
   unfolding sent
   collect-sent ts = Operators.same_sum L _ _ (λ q.
       Operators.coefficient-collect L _ q
       ∙ sum_at-sent K L f r plain_cmp q (terms K plain_cmp (collect K plain_cmp ts))
       ∙ ap f (sym (Operators.coefficient-collect K (terms K plain_cmp (collect K plain_cmp ts)) q) ∙ ap (λ g. coefficient K plain_cmp g q) (Operators.collect-terms K (collect K plain_cmp ts)) ∙ Operators.coefficient-collect K ts q)
       ∙ sym (sum_at-sent K L f r plain_cmp q ts)
-      ∙ sym (Operators.coefficient-collect L (sent_terms ts) q))
+      ∙ sym (Operators.coefficient-collect L (sent_terms K L f ts) q))
 
   pub coefficient-sent : (g : Operator K) (q : Monomial) → coefficient L plain_cmp (sent g) q ≡ f (coefficient K plain_cmp g q)
   unfolding sent
@@ -93,7 +90,7 @@ module _ (K L : Domain) (f : K.Number → L.Number) (r : IsRingMap K L f) where
     sent-letter x m =
         collect-sent _ ∙ ap (collect L plain_cmp) (over (passings K (kind_at s x) (exponent m (coordinate_of (kind_at s x)))) ∙ ap (map (λ p. (cond p.stays (raise x (lower (coordinate_of (kind_at s x)) p.falls m)) (lower (coordinate_of (kind_at s x)) p.falls m), p.number))) (sent-passings (kind_at s x) (exponent m (coordinate_of (kind_at s x)))))
       where
-        over : (ps : List (Passing K)) → sent_terms (map (λ p. (cond p.stays (raise x (lower (coordinate_of (kind_at s x)) p.falls m)) (lower (coordinate_of (kind_at s x)) p.falls m), p.number)) ps)
+        over : (ps : List (Passing K)) → sent_terms K L f (map (λ p. (cond p.stays (raise x (lower (coordinate_of (kind_at s x)) p.falls m)) (lower (coordinate_of (kind_at s x)) p.falls m), p.number)) ps)
             ≡ map (λ p. (cond p.stays (raise x (lower (coordinate_of (kind_at s x)) p.falls m)) (lower (coordinate_of (kind_at s x)) p.falls m), p.number)) (map sent_passing ps)
         over [] = refl
         over (p ∷ ps) = ap (λ us. (cond p.stays (raise x (lower (coordinate_of (kind_at s x)) p.falls m)) (lower (coordinate_of (kind_at s x)) p.falls m), f p.number) ∷ us) (over ps)
