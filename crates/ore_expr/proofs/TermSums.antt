@@ -8,7 +8,7 @@
 --     next_told, stop_told       the first of these is added, or it stops
 --     gathered_is, gathered_stops      all terms of an operator are added to zero
 --     added_belongs              so the sum is of the signature
---     no_term, to_none           no term is left to be added; all are added to zero
+--     no_term                    no term is left to be added
 use Rattle.std.proofs.Common.{zero, suc, length, drop, zero-mul, one-mul, ◌≡◌, ◌≢◌, true≢false, ℕ, ◌+◌, ◌*◌, ◌/◌, ◌<◌, ◌^◌, Bool, true, false, ◌&&◌, [], ◌∷◌, nat_le, pos, refl, sym, ap, ◌∙◌, subst, arith}
 use Rattle.std.specs.declared.option.Option.TheVariants.{None, Some}
 use Rattle.std.specs.Prelude.{slice_get, ℤ, nat_abs, ◌+ℤ◌, ◌*ℤ◌}
@@ -43,6 +43,7 @@ use Rattle.ore_monomial.proofs.FallingTerms.{back_order, back_apart}
 use Rattle.ore_ring.proofs.OpSums.{plus_belongs}
 use Rattle.ore_ring.proofs.MergeIs.{shared_none, shared_some}
 use Rattle.ore_ring.proofs.TermLaws.{C}
+use Rattle.ore_ring.proofs.ZeroSums.{plus_zero, zero_plus}
 
 -- ---- the sum with 0
 
@@ -197,16 +198,8 @@ module _ (l : Limits) where
         by false fit = stops_here f t ts d n alone fit ∙ sym (first_step false fit) ∙ e
 
   pub no_term : (f : Operator rationals) → plus_within l f (C []) ≡ Ok f
-  unfolding plus_within PassesWith empty_sum sum_at
-  no_term f =
-      ap (λ b. guard b (plus rationals plain_cmp f (C [])) Overflow) (passes_all f (C []) (λ q n. shared_none l DegLex _ _ (Operators.coefficient-collect rationals [] q)))
-      ∙ ap Ok (Operators.plus_zero rationals f)
-
-  pub to_none : (g : Operator rationals) → plus_within l (empty_sum rationals plain_cmp) g ≡ Ok g
-  unfolding plus_within PassesWith empty_sum sum_at
-  to_none g =
-      ap (λ b. guard b (plus rationals plain_cmp (C []) g) Overflow) (passes_all (C []) g (λ q n. absurd (n (Operators.coefficient-collect rationals [] q))))
-      ∙ ap Ok (Operators.zero-plus rationals g)
+  unfolding empty_sum
+  no_term f = plus_zero l f
 
 -- ---- the terms of a stored operator, from a place on
 
@@ -254,7 +247,7 @@ module _ (v : Ordered) (k : ℕ) (t : Term) (e : Some t ≡ slice_get (falling v
 
 module _ (op start : Ordered) (o : Order) (s : start ≡ record { by = o; sum = empty_sum rationals plain_cmp }) (oe : o ≡ op.by) where
   whole_sum : plus_within program start.sum op.sum ≡ Ok op.sum
-  whole_sum = ap (λ (v : Ordered). plus_within program v.sum op.sum) s ∙ to_none program op.sum
+  whole_sum = ap (λ (v : Ordered). plus_within program v.sum op.sum) s ∙ zero_plus program op.sum
 
   pub gathered_is : (new : Ordered) → new.by ≡ start.by → plus_within program start.sum op.sum ≡ Ok new.sum → ◌≡◌ {A = Result Ordered Cause} (Ok op) (Ok new)
   gathered_is new b e =

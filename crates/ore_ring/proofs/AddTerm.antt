@@ -5,14 +5,13 @@ use Rattle.std.proofs.Common.{◌≡◌, ◌≢◌, pos, [], ◌∷◌, sym, ap,
 use Rattle.std.specs.Prelude.{OnErr}
 use Rattle.std.specs.declared.result.Result.{Result}
 use Rattle.std.specs.declared.result.Result.TheVariants.{Ok, Err}
-use Rattle.ore_algebra.specs.Free.{empty_sum, single, plus, terms}
-use Rattle.ore_algebra.specs.Limits.{program, guard, Overflow}
+use Rattle.ore_algebra.specs.Free.{single}
+use Rattle.ore_algebra.specs.Limits.{program}
 use Rattle.ore_rational.specs.Fraction.{Fraction, whole}
 use Rattle.ore_rational.specs.Field.{rationals}
 use Rattle.ore_monomial.specs.Gives.{Turns}
 use Rattle.ore_monomial.specs.Monomial.{Monomial, plain_cmp}
 use Rattle.ore_monomial.specs.declared.order.Order.{Order}
-use Rattle.ore_monomial.specs.declared.order.Order.TheVariants.{DegLex}
 use Rattle.ore_monomial.specs.declared.stop.RingStop.{RingStop}
 use Rattle.ore_monomial.specs.LetterRule.{Operator}
 use Rattle.ore_monomial.proofs.Operators
@@ -20,9 +19,9 @@ use Rattle.ore_monomial.proofs.Stops.{fails_like}
 use Rattle.ore_ring.specs.Terms.{Terms, IsFalling}
 use Rattle.ore_ring.specs.Within.{plus_within}
 use Rattle.ore_ring.specs.Merge.{merge_within}
-use Rattle.ore_ring.proofs.MergeIs.{fits_is, fits_none}
 use Rattle.ore_ring.proofs.TermLaws.{C}
 use Rattle.ore_ring.proofs.OpSums.{sum_ok, sum_stops}
+use Rattle.ore_ring.proofs.ZeroSums.{plus_zero}
 
 module _ (o : Order) (f : Operator rationals) (ts new : Terms) (m : Monomial) (c : Fraction) (te : C ts ≡ f) (h : IsFalling o ts) (n : c ≢ whole (pos 0)) where
   one_term : C ((m, c) ∷ []) ≡ single rationals plain_cmp m c
@@ -37,8 +36,6 @@ module _ (o : Order) (f : Operator rationals) (ts new : Terms) (m : Monomial) (c
   added (Err d) e u = (subst (IsFalling o) (sym u) h, fails_like d _ _ (λ k g. sum_stops o f (single rationals plain_cmp m c) ts ((m, c) ∷ []) te one_term h one_falls k g) e)
 
 pub nothing_added : (f : Operator rationals) (m : Monomial) (c : Fraction) → c ≡ whole (pos 0) → plus_within program f (single rationals plain_cmp m c) ≡ Ok f
-unfolding plus_within empty_sum
 nothing_added f m c e =
     ap (plus_within program f) (ap (single rationals plain_cmp m) e ∙ Operators.single_zero rationals m)
-    ∙ ap (λ b. guard b (plus rationals plain_cmp f (empty_sum rationals plain_cmp)) Overflow) (fits_is program DegLex (terms rationals plain_cmp f) [] ∙ fits_none program DegLex (terms rationals plain_cmp f))
-    ∙ ap Ok (Operators.plus_zero rationals f)
+    ∙ plus_zero program f

@@ -17,6 +17,7 @@ pub mod LeadTerm
 pub mod FractionSteps
 pub mod Degrees
 pub mod MergeIs
+pub mod ZeroSums
 pub mod MergeSteps
 pub mod Negated
 pub mod Splice

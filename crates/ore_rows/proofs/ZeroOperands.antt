@@ -1,5 +1,4 @@
 -- Operations of the ring on the operator zero, under any limits: none of them stops.
---     plus_zero, zero_plus         a sum with zero is the other operand
 --     minus_zero                   a difference from which zero is taken is the same
 --     times_zero, zero_times       a product with zero is zero
 --     added_none                   where a product with zero is added, the same is left
@@ -10,42 +9,28 @@ use Rattle.std.proofs.Common.{◌≡◌, [], ◌∷◌, true, refl, sym, ap, ◌
 use Rattle.std.specs.Prelude.{IfOk, IfErr}
 use Rattle.std.specs.declared.result.Result.{Result}
 use Rattle.std.specs.declared.result.Result.TheVariants.{Ok, Err}
-use Rattle.ore_algebra.specs.Free.{coefficient, empty_sum, plus, terms}
-use Rattle.ore_algebra.specs.Limits.{Limits, Cause, Overflow, Degree, ◌>>=◌, guard, fold_within}
+use Rattle.ore_algebra.specs.Free.{empty_sum}
+use Rattle.ore_algebra.specs.Limits.{Limits, Cause, Degree, ◌>>=◌, fold_within}
 use Rattle.ore_rational.specs.Field.{rationals}
 use Rattle.ore_monomial.specs.Gives.{Fails, Gives}
 use Rattle.ore_monomial.specs.Monomial.{plain_cmp}
 use Rattle.ore_monomial.specs.Signature.{Signature}
 use Rattle.ore_monomial.specs.LetterRule.{Operator}
-use Rattle.ore_monomial.specs.declared.order.Order.TheVariants.{DegLex}
 use Rattle.ore_monomial.specs.declared.stop.RingStop.{RingStop}
 use Rattle.ore_monomial.specs.declared.stop.RingStop.TheVariants.{Memory}
 use Rattle.ore_monomial.proofs.Operators
 use Rattle.ore_ring.specs.Ordered.{Ordered}
 use Rattle.ore_ring.specs.AdjointWithin.{adjoint_within, adjoint_term_within}
 use Rattle.ore_ring.specs.Terms.{Terms, falling}
-use Rattle.ore_ring.specs.Within.{shared_fits, all_shared_fit, plus_within, minus_within, opposite, degrees_fit, row_within, times_within}
-use Rattle.ore_ring.proofs.AllTerms.{all_terms}
-use Rattle.ore_ring.proofs.Falls.{falls_none, falling-none}
-use Rattle.ore_ring.proofs.MergeIs.{fits_is, fits_none}
+use Rattle.ore_ring.specs.Within.{plus_within, minus_within, opposite, degrees_fit, row_within, times_within}
+use Rattle.ore_ring.proofs.Falls.{falling-none}
+use Rattle.ore_ring.proofs.ZeroSums.{plus_zero}
 use Rattle.ore_rows.specs.RowsWithin.{product_added, product_taken}
 
 module _ (l : Limits) where
-  pub plus_zero : (f : Operator rationals) → plus_within l f (empty_sum rationals plain_cmp) ≡ Ok f
-  unfolding plus_within empty_sum
-  plus_zero f =
-      ap (λ b. guard b (plus rationals plain_cmp f (empty_sum rationals plain_cmp)) Overflow) (fits_is l DegLex (terms rationals plain_cmp f) [] ∙ fits_none l DegLex (terms rationals plain_cmp f))
-      ∙ ap Ok (Operators.plus_zero rationals f)
-
-  pub zero_plus : (f : Operator rationals) → plus_within l (empty_sum rationals plain_cmp) f ≡ Ok f
-  unfolding plus_within all_shared_fit empty_sum
-  zero_plus f =
-      ap (λ b. guard b (plus rationals plain_cmp (empty_sum rationals plain_cmp) f) Overflow) (all_terms (λ t. shared_fits l t.1 (coefficient rationals plain_cmp f t.0)) DegLex [] (falls_none DegLex))
-      ∙ ap Ok (Operators.zero-plus rationals f)
-
   pub minus_zero : (f : Operator rationals) → minus_within l f (empty_sum rationals plain_cmp) ≡ Ok f
   unfolding opposite
-  minus_zero f = ap (plus_within l f) (Operators.scale-empty_sum rationals (rationals.minus rationals.one)) ∙ plus_zero f
+  minus_zero f = ap (plus_within l f) (Operators.scale-empty_sum rationals (rationals.minus rationals.one)) ∙ plus_zero l f
 
   fits_all : (ts : Terms) → degrees_fit l ts [] ≡ true
   unfolding degrees_fit
@@ -71,7 +56,7 @@ module _ (l : Limits) where
 
     pub added_none : (acc f : Operator rationals) → product_added l s acc (empty_sum rationals plain_cmp, f) ≡ Ok acc
     unfolding product_added
-    added_none acc f = ap (λ r. r >>= plus_within l acc) (zero_times f) ∙ plus_zero acc
+    added_none acc f = ap (λ r. r >>= plus_within l acc) (zero_times f) ∙ plus_zero l acc
 
     pub taken_none : (d f : Operator rationals) → product_taken l s d f (empty_sum rationals plain_cmp) ≡ Ok f
     unfolding product_taken

@@ -1,7 +1,8 @@
 use Rattle.std.proofs.Common.{refl, ap, ◌∙◌}
 use Rattle.ore_algebra.specs.Limits.{program}
 use Rattle.ore_ring.specs.Within.{plus_within}
-use Rattle.ore_rows.proofs.ZeroOperands.{plus_zero, zero_plus, copied}
+use Rattle.ore_ring.proofs.ZeroSums.{plus_zero, zero_plus}
+use Rattle.ore_rows.proofs.ZeroOperands.{copied}
 use Rattle.ore_rows.proofs.entry_ops.add.Goals as goal
 
 pub returns-then-is_zero-clause-gives : goal.returns-then-is_zero-clause-gives

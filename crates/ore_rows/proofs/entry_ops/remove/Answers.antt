@@ -3,7 +3,8 @@ use Rattle.std.specs.declared.result.Result.TheVariants.{Ok}
 use Rattle.ore_algebra.specs.Limits.{program}
 use Rattle.ore_ring.specs.Within.{minus_within, opposite}
 use Rattle.ore_ring.proofs.OpSums.{minus_belongs}
-use Rattle.ore_rows.proofs.ZeroOperands.{minus_zero, zero_plus}
+use Rattle.ore_ring.proofs.ZeroSums.{zero_plus}
+use Rattle.ore_rows.proofs.ZeroOperands.{minus_zero}
 use Rattle.ore_rows.proofs.entry_ops.remove.Goals as goal
 
 pub returns-then-is_zero-clause-gives : goal.returns-then-is_zero-clause-gives

@@ -1,4 +1,5 @@
-use Rattle.ore_rows.proofs.ZeroOperands.{plus_zero, zero_plus, minus_zero, times_zero, zero_times, adjoint_none}
+use Rattle.ore_ring.proofs.ZeroSums.{plus_zero, zero_plus}
+use Rattle.ore_rows.proofs.ZeroOperands.{minus_zero, times_zero, zero_times, adjoint_none}
 use Rattle.ore_rows.proofs.laws.law_zero.Goals as goal
 
 pub returns-clause-product : goal.returns-clause-product
