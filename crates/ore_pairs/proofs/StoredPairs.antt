@@ -3,7 +3,7 @@
 --     s_row_read                   the S-row of two rows that are read at the places of a pair
 --     s_rows_degree, s_rows_first, s_rows_second, s_rows_give     where the S-row with its cofactor row stops, and what
 --                                  it gives
---     passes, passes_not           whether the degree of a common multiple fits the limits of the program
+--     passes_not                   the degree of a common multiple is past the limits of the program
 --     found_listed, added_listed   the set finds the pairs of its list, and one more that was added
 --     one_more_exponent, divides_to_twelve     dividing, exponent by exponent
 --     lead_read                    the lead that is read at a place
@@ -83,9 +83,6 @@ module _ (K : Domain) (A : Arithmetic K) (basis : List (BasisRow (Row K))) (lead
     s_rows_give r q e f = s_rows_by true fits ∙ (λ n. parts (Ok tt) (e n) (f n))
 
 -- ---- the limits of the program
-
-pub passes : (d : ℕ) → d ≤ 32767 → nat_le d 32767 ≡ true
-passes d h = grind (arith, nat_tests)
 
 pub passes_not : (d : ℕ) → ¬ (d ≤ 32767) → nat_le d 32767 ≡ false
 passes_not d h = grind (arith, nat_tests)

@@ -18,7 +18,7 @@ use Rattle.ore_monomial.specs.Monomial.{Monomial, order_cmp, degree, plain_cmp}
 use Rattle.ore_monomial.specs.declared.order.Order.{Order}
 use Rattle.ore_monomial.specs.declared.order.Order.TheVariants.{DegLex, DegRevLex}
 use Rattle.std.specs.Cmp.Lexicographic.{slice_cmp}
-use Rattle.std.proofs.lemmas.Bool.{and_from}
+use Rattle.std.proofs.lemmas.Bool.{and_from, le-leb, leb-true}
 use Rattle.ore_algebra.specs.Limits.{program}
 use Rattle.ore_ring.specs.Terms.{Term, Terms, IsFalling}
 use Rattle.ore_monomial.specs.Numbers.{back}
@@ -35,20 +35,14 @@ pub graded : (o : Order) (m n : Monomial) → order_cmp o m n ≡ Less → degre
 graded DegLex m n e = then_less m n (nat_cmp (degree m) (degree n)) (plain_cmp m n) (ranked (degree m) (degree n) (nat_cmp (degree m) (degree n)) refl) e
 graded DegRevLex m n e = then_less m n (nat_cmp (degree m) (degree n)) (slice_cmp nat_cmp (reverse n.exponents) (reverse m.exponents)) (ranked (degree m) (degree n) (nat_cmp (degree m) (degree n)) refl) e
 
-small : (n : ℕ) → n ≤ 32767 → nat_le n 32767 ≡ true
-small n h = grind (arith, nat_tests)
-
-small_back : (n : ℕ) → nat_le n 32767 ≡ true → n ≤ 32767
-small_back n h = grind (arith, nat_tests)
-
 row_fits : (o : Order) (d : ℕ) (u : Term) (us : Terms) → T (below_all (back o) u.0 us) → d + degree u.0 ≤ 32767 → list_all (λ v. nat_le (d + degree v.0) 32767) us ≡ true
 row_fits o d u [] h k = refl
 row_fits o d u (v ∷ us) h k =
     let g = graded o v.0 u.0 (less_of _ (first _ _ h)) in
-    λ i. small (d + degree v.0) (omega arith) i && row_fits o d u us (second _ _ h) k i
+    λ i. le-leb (d + degree v.0) 32767 (omega arith) i && row_fits o d u us (second _ _ h) k i
 
 whole_row : (o : Order) (d : ℕ) (u : Term) (us : Terms) → T (below_all (back o) u.0 us) → d + degree u.0 ≤ 32767 → list_all (λ v. nat_le (d + degree v.0) 32767) (u ∷ us) ≡ true
-whole_row o d u us h k = and_from _ _ (small _ k) (row_fits o d u us h k)
+whole_row o d u us h k = and_from _ _ (le-leb (d + degree u.0) 32767 k) (row_fits o d u us h k)
 
 rows_fit : (o : Order) (t u : Term) (ts us : Terms) → T (below_all (back o) t.0 ts) → T (below_all (back o) u.0 us) → degree t.0 + degree u.0 ≤ 32767 → list_all (λ s. list_all (λ v. nat_le (degree s.0 + degree v.0) 32767) (u ∷ us)) ts ≡ true
 rows_fit o t u [] us h k l = refl
@@ -63,7 +57,7 @@ first_decides o t u ts us h k = by (nat_le (degree t.0 + degree u.0) 32767) refl
     by : (b : Bool) → nat_le (degree t.0 + degree u.0) 32767 ≡ b
         → ((nat_le (degree t.0 + degree u.0) 32767 && list_all (λ v. nat_le (degree t.0 + degree v.0) 32767) us) && list_all (λ s. list_all (λ v. nat_le (degree s.0 + degree v.0) 32767) (u ∷ us)) ts) ≡ b
     by true e =
-        let l = small_back _ e in
+        let l = leb-true (degree t.0 + degree u.0) 32767 e in
         and_from _ _ (and_from _ _ e (row_fits o (degree t.0) u us (first _ _ k.falls) l)) (rows_fit o t u ts us (first _ _ h.falls) (first _ _ k.falls) l)
     by false e = ap (λ b. (b && list_all (λ v. nat_le (degree t.0 + degree v.0) 32767) us) && list_all (λ s. list_all (λ v. nat_le (degree s.0 + degree v.0) 32767) (u ∷ us)) ts) e
 
@@ -81,7 +75,7 @@ AreSmall ts us = All (λ t. All (λ u. degree t.0 + degree u.0 ≤ 32767) us) ts
 
 row_small : (d : ℕ) (us : Terms) → list_all (λ v. nat_le (d + degree v.0) 32767) us ≡ true → All (λ u. d + degree u.0 ≤ 32767) us
 row_small d [] e = All-nil (λ (u : Term). d + degree u.0 ≤ 32767)
-row_small d (u ∷ us) e = All-cons (λ (u : Term). d + degree u.0 ≤ 32767) u us (small_back _ (left_true _ _ e)) (row_small d us (right_true _ _ e))
+row_small d (u ∷ us) e = All-cons (λ (u : Term). d + degree u.0 ≤ 32767) u us (leb-true (d + degree u.0) 32767 (left_true _ _ e)) (row_small d us (right_true _ _ e))
 
 pub are_small : (ts us : Terms) → degrees_fit program ts us ≡ true → AreSmall ts us
 unfolding degrees_fit

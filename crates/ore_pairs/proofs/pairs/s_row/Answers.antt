@@ -1,4 +1,5 @@
 use Rattle.std.proofs.Common.{sym, ◌∙◌, subst}
+use Rattle.std.proofs.lemmas.Bool.{le-leb}
 use Rattle.std.proofs.lemmas.Result.{err_from_is_err_and}
 use Rattle.ore_algebra.specs.Limits.{program}
 use Rattle.ore_monomial.specs.Signature.{MonomialOf}
@@ -10,7 +11,7 @@ use Rattle.ore_rows.specs.Reduction.{basis_rows, cofactors_of}
 use Rattle.ore_rows.specs.Stored.{sums_of}
 use Rattle.ore_rows.specs.StoredBasis.{monics}
 use Rattle.ore_rows.proofs.BasisParts.{leads_monics, row_value, cofactor_value, row_belongs, cofactor_belongs}
-use Rattle.ore_pairs.proofs.StoredPairs.{lead_of_row, passes, passes_not, s_rows_degree, s_rows_first, s_rows_second, s_rows_give}
+use Rattle.ore_pairs.proofs.StoredPairs.{lead_of_row, passes_not, s_rows_degree, s_rows_first, s_rows_second, s_rows_give}
 use Rattle.ore_pairs.proofs.pairs.s_row.Goals as goal
 
 pub s_row-requires-clause-multiple_of : goal.s_row-requires-clause-multiple_of
@@ -54,7 +55,7 @@ returns-in_err-row-clause-gives g c =
     let b = c.args.basis.now in
     let p = err_from_is_err_and c.from_residual-in_err-row.result c.from_residual-in_err-row.ensures.1 in
     rw (p.1, p.2) (fails_like _ _ _
-    (s_rows_first rationals A (monics b) c.leads-leads.result.now (c.leads-leads.ensures ∙ sym (leads_monics b.items)) c.args.i c.args.j (passes _ c.in_ok-multiple.ensures.0))
+    (s_rows_first rationals A (monics b) c.leads-leads.result.now (c.leads-leads.ensures ∙ sym (leads_monics b.items)) c.args.i c.args.j (le-leb _ 32767 c.in_ok-multiple.ensures.0))
     (c.in_err-row.ensures.gives (basis_rows (monics b)) (row_value b _ _ c.row-first_row.ensures.value) (row_value b _ _ c.row-second_row.ensures.value)))
 
 pub returns-in_err-cofactor-clause-gives : goal.returns-in_err-cofactor-clause-gives
@@ -63,7 +64,7 @@ returns-in_err-cofactor-clause-gives g c =
     let b = c.args.basis.now in
     let p = err_from_is_err_and c.from_residual-in_err-cofactor.result c.from_residual-in_err-cofactor.ensures.1 in
     rw (p.1, p.2) (fails_like _ _ _
-    (λ e. s_rows_second rationals A (monics b) c.leads-leads.result.now (c.leads-leads.ensures ∙ sym (leads_monics b.items)) c.args.i c.args.j (passes _ c.in_ok-multiple.ensures.0) (sums_of c.in_ok-row.row) e
+    (λ e. s_rows_second rationals A (monics b) c.leads-leads.result.now (c.leads-leads.ensures ∙ sym (leads_monics b.items)) c.args.i c.args.j (le-leb _ 32767 c.in_ok-multiple.ensures.0) (sums_of c.in_ok-row.row) e
     (c.in_ok-row.ensures.gives (basis_rows (monics b)) (row_value b _ _ c.row-first_row.ensures.value) (row_value b _ _ c.row-second_row.ensures.value)))
     (c.in_err-cofactor.ensures.gives (cofactors_of (monics b)) (cofactor_value b _ _ c.cofactor-first_cofactor.ensures.value) (cofactor_value b _ _ c.cofactor-second_cofactor.ensures.value)))
 
@@ -71,6 +72,6 @@ pub returns-clause-gives : goal.returns-clause-gives
 returns-clause-gives g c =
     let A = within program (g.R.OreRing.sig c.args.ring.now) in
     let b = c.args.basis.now in
-    s_rows_give rationals A (monics b) c.leads-leads.result.now (c.leads-leads.ensures ∙ sym (leads_monics b.items)) c.args.i c.args.j (passes _ c.in_ok-multiple.ensures.0) (sums_of c.in_ok-row.row) (sums_of c.in_ok-cofactor.cofactor)
+    s_rows_give rationals A (monics b) c.leads-leads.result.now (c.leads-leads.ensures ∙ sym (leads_monics b.items)) c.args.i c.args.j (le-leb _ 32767 c.in_ok-multiple.ensures.0) (sums_of c.in_ok-row.row) (sums_of c.in_ok-cofactor.cofactor)
     (c.in_ok-row.ensures.gives (basis_rows (monics b)) (row_value b _ _ c.row-first_row.ensures.value) (row_value b _ _ c.row-second_row.ensures.value))
     (c.in_ok-cofactor.ensures.gives (cofactors_of (monics b)) (cofactor_value b _ _ c.cofactor-first_cofactor.ensures.value) (cofactor_value b _ _ c.cofactor-second_cofactor.ensures.value))
