@@ -72,10 +72,6 @@ module _ (s : Signature) where
       Rows.adjoint-product rationals s (lawful s) m 1 a (as_column e) long (long_column e)
       ∙ ap (λ rows. matrix_times rationals s (length a) rows (transpose_adjoint rationals s m a)) (adjoint_of_column e)
 
-  length-product : (n : ℕ) (a b : List (Row rationals)) → length (matrix_times rationals s n a b) ≡ length a
-  unfolding matrix_times
-  length-product n a b = length-map a (λ r. combine rationals s n r b)
-
   module _ (a : List (Row rationals)) (m : ℕ) (long : AreLong rationals m a) (e : Row rationals) where
     abbrev adjoints : Row rationals
     adjoints = map (adjoint rationals s) e
@@ -89,12 +85,12 @@ module _ (s : Signature) where
 
     from_zeros : combine rationals s (length a) adjoints (transpose_adjoint rationals s m a) ≡ zero_row rationals (length a) → matrix_times rationals s 1 a (as_column e) ≡ as_column (zero_row rationals (length a))
     from_zeros h = same_adjoints (matrix_times rationals s 1 a (as_column e)) (as_column (zero_row rationals (length a))) (long_product 1 a (as_column e) (long_column e)) (long_column (zero_row rationals (length a)))
-        (length-product 1 a (as_column e) ∙ sym (length-map (zero_row rationals (length a)) (λ f. f ∷ []) ∙ Rows.length-zero_row rationals s (lawful s) (length a)))
+        (Rows.length-product rationals s 1 a (as_column e) ∙ sym (length-map (zero_row rationals (length a)) (λ f. f ∷ []) ∙ Rows.length-zero_row rationals s (lawful s) (length a)))
         (product_adjoint m a e long ∙ ap (λ z. z ∷ []) (h ∙ sym (zeros_adjoint (length a))) ∙ sym (adjoint_of_column (zero_row rationals (length a))))
 
     to_columns : (x : Row rationals) → length e ≡ length a → combine rationals s (length a) (map (adjoint rationals s) x) (transpose_adjoint rationals s m a) ≡ adjoints → matrix_times rationals s 1 a (as_column x) ≡ as_column e
     to_columns x le h = same_adjoints (matrix_times rationals s 1 a (as_column x)) (as_column e) (long_product 1 a (as_column x) (long_column x)) (long_column e)
-        (length-product 1 a (as_column x) ∙ sym le ∙ sym (length-map e (λ f. f ∷ [])))
+        (Rows.length-product rationals s 1 a (as_column x) ∙ sym le ∙ sym (length-map e (λ f. f ∷ [])))
         (product_adjoint m a x long ∙ ap (λ z. z ∷ []) h ∙ sym (adjoint_of_column e))
 
     from_columns : (x : Row rationals) → matrix_times rationals s 1 a (as_column x) ≡ as_column e → combine rationals s (length a) (map (adjoint rationals s) x) (transpose_adjoint rationals s m a) ≡ adjoints

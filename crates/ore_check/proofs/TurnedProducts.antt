@@ -4,7 +4,6 @@
 --     turned                                    of transposed adjoints
 use Rattle.std.proofs.Common.{◌≡◌, ℕ, zero, suc, List, [], ◌∷◌, length, map, get_or, refl, ap, ◌∙◌, subst}
 use Rattle.std.specs.List.{AllByRecursion}
-use Rattle.std.proofs.lemmas.List.{length-map}
 use Rattle.ore_algebra.specs.Free.{empty_sum}
 use Rattle.ore_rational.specs.Field.{rationals}
 use Rattle.ore_monomial.specs.Monomial.{plain_cmp}
@@ -57,14 +56,10 @@ module _ (s : Signature) where
   product_of_zeros n [] m h = tt
   product_of_zeros n (r ∷ rows) m (e, h) = (e, product_of_zeros n rows m h)
 
-  product_count : (n : ℕ) (rows m : List (Row rationals)) → length (matrix_times rationals s n rows m) ≡ length rows
-  unfolding matrix_times
-  product_count n rows m = length-map rows (λ r. combine rationals s n r m)
-
   pub turned : (n : ℕ) (m rows : List (Row rationals)) → AreLong rationals n m → AreLong rationals (length m) rows → AreTakenToZeros n rows m
       → AreTakenToZeros (length rows) (transpose_adjoint rationals s n m) (transpose_adjoint rationals s (length m) rows)
   turned n m rows long wide h =
-      let count = product_count n rows m in
+      let count = Rows.length-product rationals s n rows m in
       let zeros = subst (λ q. AreZeros q (transpose_adjoint rationals s n (matrix_times rationals s n rows m))) count (zero_adjoint n n (matrix_times rationals s n rows m) (zeros_of_product n rows m h)) in
       product_of_zeros (length rows) (transpose_adjoint rationals s n m) (transpose_adjoint rationals s (length m) rows)
       (subst (AreZeros (length rows)) (Rows.adjoint-product rationals s (lawful s) (length m) n rows m wide long) zeros)

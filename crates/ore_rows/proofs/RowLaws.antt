@@ -25,6 +25,7 @@
 --     dot-zero_column                   a row times a column of zeros
 --     combine-plus, combine-zero        combinations with the sums of coefficients, and with zeros
 --     combine-combine, matrix_assoc     combinations of combinations; products of matrices are associative
+--     length-product                    a product has as many rows as the first matrix
 --     module_plus, module_scale         row modules are closed under sums and multiples by operators of the signature
 --     long_adjoint, length-adjoint      the shape of the transposed adjoint: its columns are as many as the rows, and
 --                                       its rows as the columns
@@ -375,6 +376,10 @@ module _ (K : Domain) (s : Signature) (lawful : IsLawful s) where
   module_scale n rows d z od (c, lc, oc, e) = (row_scale K s d c, length-row_scale K s lawful d c ∙ lc, of_row_scale K s d c od oc, sym (scale-combine K s lawful d n c rows) ∙ ap (row_scale K s d) e)
 
 module _ (K : Domain) (s : Signature) where
+  pub length-product : (n : ℕ) (a b : List (Row K)) → length (matrix_times K s n a b) ≡ length a
+  unfolding matrix_times
+  length-product n a b = length-map a (λ r. combine K s n r b)
+
   long_from : (j n : ℕ) (a : List (Row K)) (p : ℕ) → length a ≡ p → AreLong K p (adjoint_columns K s j n a)
   unfolding adjoint_columns
   long_from j zero a p h = tt
