@@ -24,6 +24,7 @@ use Rattle.ore_rows.specs.Rows.{Row, row_plus, row_minus}
 use Rattle.ore_rows.specs.RowLead.{IsRowBelow}
 use Rattle.ore_rows.specs.Arithmetic.{Arithmetic, IsSoundArithmetic}
 use Rattle.ore_rows.specs.Reduction.{BasisRow, Step, ReductionState, basis_rows, cofactors_of, leads_of, row_at, origin, step_operator, remainder_after, reduce}
+use Rattle.ore_rows.proofs.BasisParts.{long_at}
 use Rattle.ore_rows.proofs.Differences.{row_minus_back, length-row_minus}
 use Rattle.ore_rows.proofs.GreatestTerms.{row_lead-Some, row_lead_from}
 use Rattle.ore_rows.proofs.RowLaws.{length-row_scale, zero_row_plus}
@@ -73,7 +74,7 @@ module _ (K : Domain) (s : Signature) (lawful : IsLawful s) (A : Arithmetic K) (
       first_divisor-None (leads_of basis) t origin (next_step-None K s.order basis rest.row none t (row_lead_from K s.order rest.row t k a)) i (let same = length-map basis (λ b. b.lead) in omega arith)
 
   wide_row : (i : ℕ) → i < length (basis_rows basis) → length (row_at (basis_rows basis) i) ≡ n
-  wide_row i h = let same = length-map basis (λ b. b.row) in let inside : i < length basis = omega arith in ap length (get_or-map (λ b. b.row) basis i blank [] inside) ∙ good.rows i blank inside
+  wide_row i h = let same = length-map basis (λ b. b.row) in let inside : i < length basis = omega arith in long_at K basis n good.rows i inside
 
   wide_cofactor : (i : ℕ) → i < length (cofactors_of basis) → length (row_at (cofactors_of basis) i) ≡ m
   wide_cofactor i h = let same = length-map basis (λ b. b.cofactor) in let inside : i < length basis = omega arith in ap length (get_or-map (λ b. b.cofactor) basis i blank [] inside) ∙ good.cofactors i blank inside

@@ -19,7 +19,6 @@ use Rattle.std.specs.declared.option.Option.TheVariants.{None, Some}
 use Rattle.std.specs.declared.result.Result.{Result}
 use Rattle.std.specs.declared.result.Result.TheVariants.{Ok, Err}
 use Rattle.std.specs.List.{All}
-use Rattle.std.proofs.lemmas.List.{get_or-map}
 use Rattle.ore_algebra.specs.Domain.{Domain}
 use Rattle.ore_algebra.specs.Limits.{Cause, ◌>>=◌, IsAtMost}
 use Rattle.ore_algebra.proofs.LimitLaws.{most_bind, most_value}
@@ -31,7 +30,8 @@ use Rattle.ore_monomial.specs.LetterRule.{Operator}
 use Rattle.ore_rows.specs.Rows.{Row, row_minus, row_scale}
 use Rattle.ore_rows.specs.RowLead.{row_lead}
 use Rattle.ore_rows.specs.Arithmetic.{Arithmetic, exact, IsSoundArithmetic, less}
-use Rattle.ore_rows.specs.Reduction.{BasisRow, AreMonic, Step, ReductionState, basis_rows, cofactors_of, row_at, step_operator, remainder_after, next_step, room, less_multiple, subtract, reduce_once, reduce_in, reduce, origin}
+use Rattle.ore_rows.specs.Reduction.{BasisRow, AreMonic, Step, ReductionState, basis_rows, cofactors_of, row_at, step_operator, remainder_after, next_step, room, less_multiple, subtract, reduce_once, reduce_in, reduce}
+use Rattle.ore_rows.proofs.BasisParts.{long_at}
 use Rattle.ore_rows.proofs.Differences.{length-row_minus}
 use Rattle.ore_rows.proofs.RowLaws.{length-row_scale}
 use Rattle.ore_rows.proofs.SoundArithmetic.{scaled_exact, less_exact, scaled_most, less_most}
@@ -88,12 +88,6 @@ module _ (K : Domain) (A : Arithmetic K) (basis : List (BasisRow (Row K))) (t : 
 -- ---- reduction is one step after another
 
 module _ (K : Domain) (s : Signature) (lawful : IsLawful s) (o : Order) (A : Arithmetic K) (sound : IsSoundArithmetic K s A) (basis : List (BasisRow (Row K))) (n : ℕ) (monic : AreMonic K o basis) (wide : All (λ b. length b.row ≡ n) basis) where
-  wide_at : (i : ℕ) → i < length basis → length (row_at (basis_rows basis) i) ≡ n
-  wide_at i h = ap length (get_or-map (λ b. b.row) basis i blank [] h) ∙ wide i blank h
-    where
-      blank : BasisRow (Row K)
-      blank = record { row = []; cofactor = []; lead = origin }
-
   pub goes_down : (w v : ReductionState K) (t : Step K) → length w.row ≡ n → next_step K o basis w.row ≡ Some t → subtract K A basis t w ≡ Ok v → (length v.row ≡ n) × (row_height K o v.row < row_height K o w.row)
   goes_down w v t l h e = subst (λ (x : ReductionState K). (length x.row ≡ n) × (row_height K o x.row < row_height K o w.row)) (sym (subtract_value K s A sound basis t w v e)) (long, low)
     where
@@ -104,7 +98,7 @@ module _ (K : Domain) (s : Signature) (lawful : IsLawful s) (o : Order) (A : Ari
       multiple = row_scale K s (step_operator K t) (row_at (basis_rows basis) t.index)
 
       long_multiple : length multiple ≡ n
-      long_multiple = length-row_scale K s lawful (step_operator K t) (row_at (basis_rows basis) t.index) ∙ wide_at t.index (step_inside K s lawful o basis monic w.row t a)
+      long_multiple = length-row_scale K s lawful (step_operator K t) (row_at (basis_rows basis) t.index) ∙ long_at K basis n wide t.index (step_inside K s lawful o basis monic w.row t a)
 
       long : length (row_minus K w.row multiple) ≡ n
       long = length-row_minus K s lawful n w.row multiple l long_multiple

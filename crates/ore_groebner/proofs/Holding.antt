@@ -6,7 +6,7 @@
 --                              of one that is zeros, the unit row is the syzygy that comes from it
 --     back_more                so it is with more basis rows and syzygies
 --     grown_inside             a place in a list is one in a longer list
---     are_monic, are_wide, long_at, leads_are, long_rows, of_rows    what the rows of a basis are, as a list
+--     are_monic, are_wide, leads_are, long_rows, of_rows    what the rows of a basis are, as a list
 --     wide_cofactors, of_cofactors, to_right    what its cofactor rows are
 --     wide_syzygies, vanishing    what the syzygies are
 use Rattle.std.proofs.Common.{◌≡◌, ◌⊎◌, inl, inr, ℕ, suc, ◌<◌, List, [], ◌∷◌, ◌++◌, length, get_or, refl, sym, ap, ◌∙◌, subst, arith}
@@ -72,9 +72,6 @@ module _ (K : Domain) (s : Signature) (o : Order) (n : ℕ) (a : List (Row K)) w
 
     pub are_wide : All (λ b. length b.row ≡ n) basis
     are_wide i d h = (All-get_or (IsBasisRow K s o n a) basis i d h good).long
-
-    pub long_at : (i : ℕ) → i < length basis → length (row_at (basis_rows basis) i) ≡ n
-    long_at i h = ap length (get_or-map (λ b. b.row) basis i blank [] h) ∙ are_wide i blank h
 
     pub leads_are : AreLeads K o (basis_rows basis) (leads_of basis)
     leads_are = record {

@@ -28,6 +28,7 @@ use Rattle.ore_pairs.proofs.PairRuleLaws.{CanTreat, SameLeads, treat_to, treat_s
 use Rattle.ore_pairs.proofs.SRows.{of_s_row, below_s_row}
 use Rattle.ore_rows.specs.declared.choices.Origin.{Origin}
 use Rattle.ore_rows.specs.declared.choices.Origin.TheVariants.{Event}
+use Rattle.ore_rows.proofs.BasisParts.{long_at}
 use Rattle.ore_rows.proofs.Differences.{row_minus_self}
 use Rattle.ore_rows.proofs.GreatestTerms.{row_lead-Some, zero_from}
 use Rattle.ore_division.proofs.Reductions.{remainder_after-push}
@@ -39,7 +40,7 @@ use Rattle.ore_groebner.specs.RunLaws.{IsBasisRow, IsSyzygy, IsNone, IsFrom, IsP
 use Rattle.ore_groebner.proofs.Limited.{monic_of, start_of, state_with}
 use Rattle.ore_groebner.proofs.Growing.{SameRows, within_steps, left_same, pair_same, below_same, lawful_same, shown_same, shown_push, inside_map, map_inside, map_longer, map_grow}
 use Rattle.ore_groebner.proofs.Sources.{none_more, from_new, from_zeros, no_event, Grown, grown_none, grown_many, grown_places}
-use Rattle.ore_groebner.proofs.Holding.{back_more, Holds, are_monic, are_wide, leads_are, long_rows, wide_cofactors, of_rows, of_cofactors, to_right, long_at}
+use Rattle.ore_groebner.proofs.Holding.{back_more, Holds, are_monic, are_wide, leads_are, long_rows, wide_cofactors, of_rows, of_cofactors, to_right}
 use Rattle.ore_groebner.proofs.Listing.{latest, latest_same, entries_of_push, lawful_push}
 use Rattle.ore_groebner.proofs.Monics.{shift-unit, monic_good, monic_row, monic_cofactor}
 use Rattle.ore_groebner.proofs.Parts.{lead_of_signature, IsPart, part_reduced}
@@ -118,7 +119,7 @@ module _ (K : Domain) (inverses : HasInverses K) (s : Signature) (lawful : IsLaw
   start = start_of K inverses s o st.basis i j
 
   abbrev pub IsPairReduction : ReductionState K → Type 0
-  IsPairReduction w = IsPart K s lawful o n st.basis (are_monic K s o n a st.basis holds.basis) (are_wide K s o n a st.basis holds.basis) (long_at K s o n a st.basis holds.basis) (AllByRecursion (RowOf K s) a) (of_rows K s o n a st.basis holds.basis) (of_cofactors K s o n a st.basis holds.basis)
+  IsPairReduction w = IsPart K s lawful o n st.basis (are_monic K s o n a st.basis holds.basis) (are_wide K s o n a st.basis holds.basis) (long_at K st.basis n (are_wide K s o n a st.basis holds.basis)) (AllByRecursion (RowOf K s) a) (of_rows K s o n a st.basis holds.basis) (of_cofactors K s o n a st.basis holds.basis)
       start.row start.cofactor (lcm_of_leads leads i j) w
 
   second_inside : j < length st.basis
@@ -172,7 +173,7 @@ module _ (K : Domain) (inverses : HasInverses K) (s : Signature) (lawful : IsLaw
   start_wide = length-s_row K s lawful width (cofactors_of st.basis) wide_rows leads i j (inside_of (λ b. b.cofactor) i first_inside) (inside_of (λ b. b.cofactor) j second_inside)
 
   pub reduced_part : (rest : ReductionState K) → reduce K o (exact K s) st.basis start ≡ Ok rest → (length rest.row ≡ n) × IsPairReduction rest
-  reduced_part rest = part_reduced K s lawful o n st.basis (are_monic K s o n a st.basis holds.basis) (are_wide K s o n a st.basis holds.basis) (long_at K s o n a st.basis holds.basis) (AllByRecursion (RowOf K s) a) (of_rows K s o n a st.basis holds.basis) (of_cofactors K s o n a st.basis holds.basis)
+  reduced_part rest = part_reduced K s lawful o n st.basis (are_monic K s o n a st.basis holds.basis) (are_wide K s o n a st.basis holds.basis) (long_at K st.basis n (are_wide K s o n a st.basis holds.basis)) (AllByRecursion (RowOf K s) a) (of_rows K s o n a st.basis holds.basis) (of_cofactors K s o n a st.basis holds.basis)
       start.row start.cofactor (lcm_of_leads leads i j) start rest start_long part_start
 
   module _ (w : ReductionState K) (long : length w.row ≡ n) (p : IsPairReduction w) where

@@ -1,4 +1,5 @@
--- The parts of a stored basis, without the orders of its operators.
+-- The parts of a basis, and of a stored one without the orders of its operators.
+--     long_at                        the row at a place is as long as all rows are
 --     leads_monics, rows_monics, cofactors_monics     the parts of the basis rows
 --     row_value, cofactor_value      the row, and the cofactor row, that is read at a place
 --     row_belongs, cofactor_belongs  they belong to the signature
@@ -9,6 +10,7 @@ use Rattle.std.specs.declared.option.Option.TheVariants.{Some}
 use Rattle.std.proofs.lemmas.List.{get_or-map, length-map}
 use Rattle.std.proofs.lemmas.List.Elements.{All-map}
 use Rattle.std.proofs.lemmas.Option.{slice_get_within, get_or_from_slice_get}
+use Rattle.ore_algebra.specs.Domain.{Domain}
 use Rattle.ore_algebra.specs.Free.{empty_sum, coefficient}
 use Rattle.ore_rational.specs.Fraction.{Fraction}
 use Rattle.ore_rational.specs.Field.{rationals}
@@ -17,12 +19,19 @@ use Rattle.ore_monomial.specs.Signature.{Signature, MonomialOf}
 use Rattle.ore_monomial.specs.Term.{Term}
 use Rattle.ore_ring.specs.Belongs.{Belongs}
 use Rattle.ore_ring.specs.Ordered.{Ordered}
-use Rattle.ore_rows.specs.Reduction.{BasisRow, basis_rows, cofactors_of, leads_of, row_at}
+use Rattle.ore_rows.specs.Reduction.{BasisRow, origin, basis_rows, cofactors_of, leads_of, row_at}
 use Rattle.ore_rows.specs.RowLead.{IsRowLead}
+use Rattle.ore_rows.specs.Rows.{Row}
 use Rattle.ore_rows.specs.Stored.{sums_of}
 use Rattle.ore_rows.specs.StoredBasis.{StoredBasis, BasisBelongs, monic_of, monics}
 use Rattle.ore_rows.proofs.Dots.{all_at}
 use Rattle.ore_rows.proofs.LeadAppend.{within_row}
+
+pub long_at : (K : Domain) (basis : List (BasisRow (Row K))) (n : ℕ) → All (λ b. length b.row ≡ n) basis → (i : ℕ) → i < length basis → length (row_at (basis_rows basis) i) ≡ n
+long_at K basis n long i h = ap length (get_or-map (λ b. b.row) basis i blank [] h) ∙ long i blank h
+  where
+    blank : BasisRow (Row K)
+    blank = record { row = []; cofactor = []; lead = origin }
 
 pub leads_monics : (items : List (BasisRow (List Ordered))) → leads_of (map monic_of items) ≡ leads_of items
 leads_monics [] = refl
