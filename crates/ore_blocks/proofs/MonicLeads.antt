@@ -1,6 +1,6 @@
 -- Leads of rows whose lead coefficient is 1, as they are found in stored rows.
 --     same_yes, same_no              a test whether two values are the same
---     zeros_lead, lead_zeros         a row of zeros has no lead, and a row without a lead is one of zeros
+--     lead_zeros                     a row without a lead is one of zeros
 --     none_is                        a test by is_some
 --     zero_told                      so a test for zeros is one for leads
 --     none_told                      so a test whether something is none
@@ -31,8 +31,8 @@ use Rattle.ore_leads.specs.FirstDivisor.{first_divisor}
 use Rattle.ore_rows.specs.RowLead.{coefficient_at, row_lead, IsRowLead}
 use Rattle.ore_rows.specs.Rows.{Row, zero_row}
 use Rattle.ore_rows.specs.Stored.{IsZeroRow, OperatorMatrix, rows_of, sums_of}
-use Rattle.ore_rows.proofs.GreatestTerms.{row_lead-Some, row_lead_from, zero_from}
-use Rattle.ore_rows.proofs.StoredBases.{no_lead_of_zeros}
+use Rattle.ore_rows.proofs.GreatestTerms.{row_lead_from, zero_from}
+use Rattle.ore_rows.proofs.StoredBases.{zeros_lead}
 use Rattle.ore_blocks.specs.CheckBlock.{monic_leads}
 use Rattle.ore_blocks.specs.PlaceConditions.{is_reduced, monic_lead}
 use Rattle.ore_blocks.specs.Conditions.{Checked, found, is_none, is_same}
@@ -51,13 +51,6 @@ same_yes d x y e = sym (same_told d x y true (λ h. e, λ h. refl))
 
 pub same_no : {A : Type 0} (d : Discrete A) (x y : A) → x ≢ y → is_same d x y ≡ false
 same_no d x y n = sym (same_told d x y false (λ h. absurd (true≢false (sym h)), λ e. absurd (n e)))
-
-pub zeros_lead : (o : Order) (r : List Ordered) → IsZeroRow r → row_lead rationals o (sums_of r) ≡ None
-zeros_lead o r z = by (row_lead rationals o (sums_of r)) refl
-  where
-    by : (v : Option Term) → row_lead rationals o (sums_of r) ≡ v → v ≡ None
-    by None e = refl
-    by (Some t) e = absurd (no_lead_of_zeros o r t _ z (row_lead-Some rationals o (sums_of r) t e))
 
 pub lead_zeros : (o : Order) (r : List Ordered) → row_lead rationals o (sums_of r) ≡ None → IsZeroRow r
 unfolding zero_row

@@ -2,7 +2,7 @@
 --     divisor_divides          the lead that is found divides
 --     step_found, no_lead, no_divisor    the step that the code finds
 --     stops_first, stops_second, step_taken    what the two parts of a step give
-use Rattle.std.proofs.Common.{◌≡◌, ℕ, List, [], ◌∷◌, ◌++◌, get_or, refl, sym, ap, ◌∙◌, subst}
+use Rattle.std.proofs.Common.{◌≡◌, ℕ, List, [], ◌∷◌, ◌++◌, get_or, sym, ap, ◌∙◌, subst}
 use Rattle.std.specs.List.{slice_get}
 use Rattle.std.specs.Option.{option_map}
 use Rattle.std.specs.declared.option.Option.{Option}
@@ -25,12 +25,12 @@ use Rattle.ore_leads.specs.FirstDivisor.{first_divisor}
 use Rattle.ore_leads.proofs.Dividing.{divides_term_true, first_divisor-Some}
 use Rattle.ore_rows.specs.Arithmetic.{within}
 use Rattle.ore_rows.specs.Reduction.{Step, ReductionState, basis_rows, cofactors_of, leads_of, row_at, basis_lead, origin, step_operator, step_by, next_step, less_multiple, subtract}
-use Rattle.ore_rows.specs.RowLead.{IsRowLead, row_lead}
+use Rattle.ore_rows.specs.RowLead.{IsRowLead}
 use Rattle.ore_rows.specs.Stored.{IsZeroRow, sums_of}
 use Rattle.ore_rows.specs.StoredBasis.{StoredBasis, monics}
 use Rattle.ore_rows.proofs.BasisParts.{leads_monics, row_value, cofactor_value}
-use Rattle.ore_rows.proofs.GreatestTerms.{row_lead-Some, row_lead_from}
-use Rattle.ore_rows.proofs.StoredBases.{no_lead_of_zeros}
+use Rattle.ore_rows.proofs.GreatestTerms.{row_lead_from}
+use Rattle.ore_rows.proofs.StoredBases.{zeros_lead}
 use Rattle.ore_division.proofs.Steps.{no_step}
 use Rattle.ore_division.proofs.Reductions.{subtract_stops_first, subtract_stops_second, subtract_gives}
 
@@ -42,11 +42,7 @@ divisor_divides leads u l i e f = subst (λ (x : Term). Divides x.monomial u.mon
 
 module _ (o : Order) (b : StoredBasis) (r : List Ordered) where
   pub no_lead : IsZeroRow r → next_step rationals o (monics b) (sums_of r) ≡ None
-  no_lead z = no_step rationals o (monics b) (sums_of r) (by (row_lead rationals o (sums_of r)) refl)
-    where
-      by : (x : Option Term) → row_lead rationals o (sums_of r) ≡ x → x ≡ None
-      by None e = refl
-      by (Some t) e = absurd (no_lead_of_zeros o r t _ z (row_lead-Some rationals o (sums_of r) t e))
+  no_lead z = no_step rationals o (monics b) (sums_of r) (zeros_lead o r z)
 
   module _ (u : Term) (k : Fraction) (a : IsRowLead rationals o (sums_of r) u k) where
     found : next_step rationals o (monics b) (sums_of r) ≡ option_map (step_by rationals o (monics b) (sums_of r) u) (first_divisor (leads_of b.items) u)

@@ -37,21 +37,14 @@ use Rattle.ore_pairs.specs.Run as run
 use Rattle.ore_rows.specs.Stored.{IsZeroRow, sums_of}
 use Rattle.ore_rows.specs.StoredBasis.{BasisBelongs, monics}
 use Rattle.ore_rows.specs.declared.choices.Origin.TheVariants as origin
-use Rattle.ore_rows.proofs.GreatestTerms.{row_lead-Some, zero_from}
-use Rattle.ore_rows.proofs.StoredBases.{no_lead_of_zeros}
+use Rattle.ore_rows.proofs.GreatestTerms.{zero_from}
+use Rattle.ore_rows.proofs.StoredBases.{zeros_lead}
 use Rattle.ore_groebner.specs.Choosing.{chosen_pairs}
 use Rattle.ore_groebner.specs.RunProgress.{entries_from, new_rows, basis_with, state_of, choice_of, choices_of, IsProgressOf}
 use Rattle.ore_groebner.specs.declared.outcome.Event.{Event}
 use Rattle.ore_groebner.specs.declared.outcome.Event.TheVariants.{Treated, Skipped}
 use Rattle.ore_groebner.specs.declared.outcome.Outcome.TheVariants.{Zero, NewRow}
 use Rattle.ore_groebner.specs.declared.progress.Progress.{Progress}
-
-pub no_lead : (o : Order) (r : List Ordered) → IsZeroRow r → row_lead rationals o (sums_of r) ≡ None
-no_lead o r z = by (row_lead rationals o (sums_of r)) refl
-  where
-    by : (x : Option Term) → row_lead rationals o (sums_of r) ≡ x → x ≡ None
-    by None e = refl
-    by (Some t) e = absurd (no_lead_of_zeros o r t _ z (row_lead-Some rationals o (sums_of r) t e))
 
 pub unless_zero-zero : (o : Order) (r : List Ordered) → IsZeroRow r → unless_zero rationals o (sums_of r) ≡ []
 unfolding unless_zero

@@ -27,11 +27,12 @@ use Rattle.ore_rows.specs.ReduceRows.{Reductions, AllReduce, LeavesRest, negated
 use Rattle.ore_rows.specs.RowLead.{row_lead}
 use Rattle.ore_rows.specs.Rows.{Row, zero_row, unit_row, unit_entry}
 use Rattle.ore_rows.specs.Stored.{OperatorMatrix, IsZeroRow, sums_of, rows_of}
+use Rattle.ore_rows.proofs.StoredBases.{zeros_lead}
 use Rattle.ore_rows.proofs.UnitRows.{length-unit_row, entry-unit_row}
 use Rattle.ore_division.specs.StoredWork.{work_of}
 use Rattle.ore_division.specs.declared.division.Reduced.{Reduced}
 use Rattle.ore_blocks.proofs.ReadItems.{drop_mapped}
-use Rattle.ore_blocks.proofs.MonicLeads.{zeros_lead, lead_zeros}
+use Rattle.ore_blocks.proofs.MonicLeads.{lead_zeros}
 
 module _ (K : Domain) where
   past : (n j : ℕ) → j < n → unit_entry K n j ≡ empty_sum K plain_cmp

@@ -2,7 +2,7 @@
 --     parts-with_leads, leads-with_leads    the parts of rows that stand beside their leads
 --     widths-with_leads      the widths that they have
 --     with_leads-push        one more row beside its lead
---     no_lead_of_zeros       a row of zeros has no lead
+--     no_lead_of_zeros, zeros_lead    a row of zeros has no lead
 --     stored_length          as many rows are stored as are seen
 --     part_at, widths_at, lead_at_place    what is read at a place; its widths; its lead
 --     has_lead, is_monic     for a row of a signature, a lead by the order that its entries carry is one by the signature's
@@ -13,7 +13,8 @@
 use Rattle.std.proofs.Common.{◌≡◌, ℕ, zero, suc, pred, ◌+◌, ◌<◌, List, [], ◌∷◌, ◌++◌, length, map, get_or, refl, sym, ap, ◌∙◌, subst, arith}
 use Rattle.std.specs.List.{All, slice_get}
 use Rattle.std.specs.Option.{option_map}
-use Rattle.std.specs.declared.option.Option.TheVariants.{Some}
+use Rattle.std.specs.declared.option.Option.{Option}
+use Rattle.std.specs.declared.option.Option.TheVariants.{None, Some}
 use Rattle.std.proofs.lemmas.List.{length_push, length-map, map-append}
 use Rattle.std.proofs.lemmas.Option.{slice_get-map, slice_get-get_or}
 use Rattle.std.proofs.lemmas.List.Elements.{All-nil, All-cons, All-head, All-tail, All-map, All-push}
@@ -28,10 +29,11 @@ use Rattle.ore_monomial.proofs.Operators
 use Rattle.ore_ring.specs.Belongs.{Belongs}
 use Rattle.ore_ring.specs.Ordered.{Ordered}
 use Rattle.ore_rows.specs.Reduction.{BasisRow, IsMonic, AreMonic, leads_of, basis_lead}
-use Rattle.ore_rows.specs.RowLead.{IsRowLead}
+use Rattle.ore_rows.specs.RowLead.{IsRowLead, row_lead}
 use Rattle.ore_rows.specs.Stored.{IsZeroRow, sums_of}
 use Rattle.ore_rows.specs.StoredBasis.{StoredBasis, HasLead, HaveLeads, HaveWidths, BasisBelongs, monic_of, monics, with_leads, IsStoredBasis}
 use Rattle.ore_rows.specs.declared.basis.BasisEntry.{BasisEntry}
+use Rattle.ore_rows.proofs.GreatestTerms.{row_lead-Some}
 
 -- a part that doesn't come from the lead
 pub parts-with_leads : {B : Type 0} (f : BasisRow (List Ordered) → B) (g : BasisEntry → B) → ((e : BasisEntry) (t : Term) → f (record { row = e.row; cofactor = e.cofactor; lead = t }) ≡ g e)
@@ -60,6 +62,13 @@ no_lead_of_zeros o r t k z a = a.apart (sym a.stands ∙ ap (λ f. coefficient r
     zero_entry [] j z = refl
     zero_entry (f ∷ r) zero z = All-head (λ (g : Ordered). g.sum ≡ empty_sum rationals plain_cmp) f r z
     zero_entry (f ∷ r) (suc j) z = zero_entry r j (All-tail (λ (g : Ordered). g.sum ≡ empty_sum rationals plain_cmp) f r z)
+
+pub zeros_lead : (o : Order) (r : List Ordered) → IsZeroRow r → row_lead rationals o (sums_of r) ≡ None
+zeros_lead o r z = by (row_lead rationals o (sums_of r)) refl
+  where
+    by : (v : Option Term) → row_lead rationals o (sums_of r) ≡ v → v ≡ None
+    by None e = refl
+    by (Some t) e = absurd (no_lead_of_zeros o r t _ z (row_lead-Some rationals o (sums_of r) t e))
 
 -- the rows that stand beside leads have the widths of the rows
 pub widths-with_leads : (n m : ℕ) (es : List BasisEntry) (ls : List Term) → IsStoredBasis n m es ls → HaveWidths n m (with_leads es ls)

@@ -12,9 +12,9 @@ use Rattle.ore_pairs.specs.Run as run
 use Rattle.ore_rows.specs.declared.choices.Origin.TheVariants as origin
 use Rattle.ore_rows.specs.Stored.{sums_of}
 use Rattle.ore_rows.proofs.GreatestTerms.{row_lead_from}
+use Rattle.ore_rows.proofs.StoredBases.{zeros_lead}
 use Rattle.ore_groebner.specs.RunProgress.{state_of, with_basis_row, IsProgressOf}
 use Rattle.ore_groebner.proofs.FirstBasis.{begin_none, begin_some}
-use Rattle.ore_groebner.proofs.ProgressParts.{no_lead}
 use Rattle.ore_groebner.proofs.first.begin_row.Goals as goal
 
 pub begin_zero-requires-clause-kept : goal.begin_zero-requires-clause-kept
@@ -30,7 +30,7 @@ returns-in_ok-begin_zero-in-None-clause-gives g c =
     let s = g.R.OreRing.sig c.args.ring.now in
     let p = c.args.progress in
     let unit = c.in_ok-unit.ensures.value ∙ ap (λ n. unit_row rationals n c.args.k) c.width.ensures in
-    begin_none s p.basis.width c.args.k (sums_of c.args.row.now) (state_of p) (no_lead s.order c.args.row.now c.in-None.ensures)
+    begin_none s p.basis.width c.args.k (sums_of c.args.row.now) (state_of p) (zeros_lead s.order c.args.row.now c.in-None.ensures)
     ∙ (λ n. Ok (record (state_of p) { syzygies = map sums_of p.syzygies.items ++ sym unit n ∷ []; origins = p.origins.items ++ origin.ZeroRow c.args.k ∷ [] }))
     ∙ ap Ok (sym c.in_ok-begin_zero-in-None.ensures.state)
 

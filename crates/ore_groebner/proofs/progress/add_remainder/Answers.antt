@@ -8,9 +8,10 @@ use Rattle.ore_rows.specs.RowLead.{IsRowLead}
 use Rattle.ore_pairs.specs.Run as run
 use Rattle.ore_rows.specs.Stored.{sums_of}
 use Rattle.ore_rows.proofs.GreatestTerms.{row_lead_from}
+use Rattle.ore_rows.proofs.StoredBases.{zeros_lead}
 use Rattle.ore_division.specs.StoredWork.{work_of}
 use Rattle.ore_groebner.specs.RunProgress.{state_of}
-use Rattle.ore_groebner.proofs.ProgressParts.{no_lead, remainder_none, remainder_some}
+use Rattle.ore_groebner.proofs.ProgressParts.{remainder_none, remainder_some}
 use Rattle.ore_groebner.proofs.progress.add_remainder.Goals as goal
 
 pub add_row-requires-clause-lead : goal.add_row-requires-clause-lead
@@ -21,7 +22,7 @@ add_row-requires-clause-lead g c =
 pub returns-in_ok-add_syzygy-in-None-clause-gives : goal.returns-in_ok-add_syzygy-in-None-clause-gives
 returns-in_ok-add_syzygy-in-None-clause-gives g c =
     let s = g.R.OreRing.sig c.args.ring.now in
-    remainder_none s (state_of c.args.progress) c.args.i c.args.j (work_of c.args.work) (no_lead s.order c.args.work.row c.in-None.ensures)
+    remainder_none s (state_of c.args.progress) c.args.i c.args.j (work_of c.args.work) (zeros_lead s.order c.args.work.row c.in-None.ensures)
     ∙ ap (λ (v : Signature). Ok (run.with_syzygy rationals v.order (state_of c.args.progress) c.args.i c.args.j (work_of c.args.work))) (sym c.signature-in-None.ensures)
     ∙ ap Ok (sym c.in_ok-add_syzygy-in-None.ensures.state)
 
