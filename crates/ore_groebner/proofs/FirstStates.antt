@@ -30,7 +30,7 @@ use Rattle.ore_groebner.specs.RunLaws.{IsBasisRow, IsSyzygy, IsNone, IsFrom, IsP
 use Rattle.ore_groebner.proofs.Limited.{monic_of, monic_exact}
 use Rattle.ore_algebra.proofs.ResultLaws.{same_ok}
 use Rattle.ore_groebner.proofs.Growing.{map_grow, map_last}
-use Rattle.ore_groebner.proofs.Sources.{all_imply, none_other, none_more, from_more, from_new}
+use Rattle.ore_groebner.proofs.Sources.{all_imply, none_other, none_more, from_more, from_new, row_place}
 use Rattle.ore_groebner.proofs.Holding.{AreBack, Holds}
 use Rattle.ore_groebner.proofs.Monics.{monic_good, monic_row, monic_cofactor}
 
@@ -49,9 +49,6 @@ IsEarlier k (Event i) = ⊥
 abbrev pub IsLater : ℕ → Origin → Type 0
 IsLater k (ZeroRow i) = k ≤ i
 IsLater k (Event i) = ⊥
-
-row_place : (i k : ℕ) → ZeroRow i ≡ ZeroRow k → i ≡ k
-row_place i k e = cc
 
 earlier_other : (k : ℕ) (x : Origin) → IsEarlier k x → x ≢ ZeroRow k
 earlier_other k (ZeroRow i) h e = let f = row_place i k e in omega arith

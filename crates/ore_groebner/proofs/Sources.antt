@@ -3,6 +3,7 @@
 --     slice_split, slice_front, slice_behind    the item at a place of a list with more behind it
 --     none_other, none_more, no_event    no syzygy comes from an origin that isn't among theirs
 --     from_more, from_new, from_zeros    the row that comes from an origin: with more syzygies, with its own, and with none
+--     row_place                origins of rows are the same at the same place alone
 --     same_or_other, find, from_inside   that row is in the module of the syzygies
 --     Grown                    more syzygies, each from the pair that is listed next
 --     grown_none               none is new
@@ -88,7 +89,7 @@ module _ (K : Domain) (q : ℕ) (o : Origin) where
     pub from_zeros : IsNone os o → c ≡ zero_row K q → IsFrom K q os rs o c
     from_zeros none zeros = record { there = λ m e. absurd (none m e); absent = λ _. zeros }
 
-row_place : (i k : ℕ) → ZeroRow i ≡ ZeroRow k → i ≡ k
+pub row_place : (i k : ℕ) → ZeroRow i ≡ ZeroRow k → i ≡ k
 row_place i k e = cc
 
 event_place : (i k : ℕ) → Event i ≡ Event k → i ≡ k
