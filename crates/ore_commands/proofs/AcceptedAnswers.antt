@@ -1,19 +1,18 @@
 -- What a search prints, `check` accepts: the certificate is right, and may be written.
 --     claims_of              a valid certificate is no report
 --     right_is_valid         the law
---     names_counted          an accepted problem has a name for each variable
 --     valid_behind           a certificate whose stored parts are in range, behind the problem
 --     verdict_is_valid       so is what `analyse` finds
 --     plan_passes, passes    the answer of a plan, and what is said of it
-use Rattle.std.proofs.Common.{◌≡◌, ℕ, suc, Bool, true, false, List, [], ◌∷◌, ◌++◌, length, drop, refl, sym, ap, subst, inl}
+use Rattle.std.proofs.Common.{ℕ, Bool, true, false, List, [], ◌++◌, length, drop, refl, sym, ap, subst, inl}
 use Rattle.std.proofs.Math.Seq.{drop-append_seam}
 use Rattle.ore_course.specs.Leading.{IsFormedBy}
 use Rattle.ore_monomial.specs.Signature.{Signature}
-use Rattle.ore_monomial.specs.declared.signature.VarKind.{VarKind}
 use Rattle.ore_rows.specs.declared.choices.Choice.{Choice}
 use Rattle.ore_problem.specs.Lines.{raw_lines}
-use Rattle.ore_problem.specs.Accepted.{Accepted, AllDeclare}
+use Rattle.ore_problem.specs.Accepted.{Accepted}
 use Rattle.ore_problem.specs.Problems.{System}
+use Rattle.ore_problem.proofs.AcceptedDeclarations.{declared_same}
 use Rattle.ore_problem.proofs.FrontReads.{prefix_reads_exactly}
 use Rattle.ore_cert.specs.declared.certificate.Certificate.{Certificate}
 use Rattle.ore_cert.specs.declared.certificate.Certificate.TheVariants.{Controllable, AutonomousElement, LeftInverse, RightInverse, NoLeftInverse, NoRightInverse, Kernel, Resolution, ExtZero, ExtNonzero, Halted}
@@ -69,18 +68,10 @@ right_is_valid bytes p c accepted written right =
 
 -- ---- answers
 
-names_counted : (before lines names : List (List ℕ)) (kinds : List VarKind) → AllDeclare before lines names kinds → length names ≡ length kinds
-names_counted before [] [] [] h = refl
-names_counted before (line ∷ lines) (name ∷ names) (kind ∷ kinds) h = ap suc (names_counted (before ++ name ∷ []) lines names kinds h.1)
-names_counted before [] (name ∷ names) kinds h = absurd h
-names_counted before [] [] (kind ∷ kinds) h = absurd h
-names_counted before (line ∷ lines) [] kinds h = absurd h
-names_counted before (line ∷ lines) (name ∷ names) [] h = absurd h
-
 module _ (bytes : List ℕ) (p : System) (accepted : Accepted bytes p) where
   valid_behind : (c : Certificate) → IsCorrect p.signature (matrix_of p) c → HasNonZeroSteps c → IsStorableCertificate c → IsReplyOfCheck (closed bytes ++ certificate_text p.names p.signature.order c) (valid (kind_word c))
   valid_behind c right number h =
-      let count = names_counted [] accepted.declarations p.names p.signature.kinds accepted.declared in
+      let count = declared_same [] accepted.declarations p.names p.signature.kinds accepted.declared in
       right_is_valid bytes p c accepted (right_may_be_written p.signature p.names accepted.names count (matrix_of p) c right number h) right
 
   pub verdict_is_valid : (c : Certificate) → IsFound p (search_by plan.Analyse) c → IsReplyOfCheck (closed bytes ++ text_of p c) (valid (kind_word c))

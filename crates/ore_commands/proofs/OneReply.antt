@@ -1,23 +1,20 @@
 -- Bytes have one verdict.
 --     OneCertificate, OneFaultyLine      no text is that of two certificates; it has at most one faulty line, and none where it is one's
---     declared_same        as many names are declared as kinds
---     read_sizes           what is answered of a problem and the cursor behind it
 --     front_of             the problem of such an answer
 --     AreRead, read_names  the names of a problem that was read
 --     reports_same, no_report     the report of a certificate is one; one that is no report has none
 --     checked_same, certificate_same, reply_same     two replies to a certificate, to the text behind a problem, to what was read
 --     one_verdict          two verdicts on the same bytes are the same, where no text is that of two certificates
-use Rattle.std.proofs.Common.{◌≡◌, ℕ, suc, ◌+◌, List, [], ◌∷◌, ◌++◌, length, drop, refl, sym, ap, ◌∙◌, subst, inl, inr}
+use Rattle.std.proofs.Common.{◌≡◌, ℕ, ◌+◌, List, [], length, drop, refl, sym, ap, ◌∙◌, subst, inl, inr}
 use Rattle.std.specs.Prelude.{codes}
 use Rattle.std.specs.declared.result.Result.TheVariants.{Ok, Err}
 use Rattle.ore_algebra.specs.Limits.{program}
-use Rattle.ore_monomial.specs.declared.signature.VarKind.{VarKind}
 use Rattle.ore_monomial.specs.Signature.{Signature}
 use Rattle.ore_text.specs.Names.{AreNames}
-use Rattle.ore_problem.specs.Accepted.{AllDeclare}
 use Rattle.ore_problem.specs.Lines.{Cursor}
-use Rattle.ore_problem.specs.Problems.{System, Read, prefix_of, prefix_sizes}
+use Rattle.ore_problem.specs.Problems.{System, Read, prefix_of, with_sizes, prefix_sizes}
 use Rattle.ore_algebra.specs.Results.{◌>>=◌}
+use Rattle.ore_problem.proofs.AcceptedDeclarations.{declared_same}
 use Rattle.ore_problem.proofs.AcceptedReads.{prefix_stands}
 use Rattle.ore_cert.specs.declared.certificate.Certificate.{Certificate}
 use Rattle.ore_cert.specs.declared.certificate.Certificate.TheVariants.{Halted}
@@ -42,17 +39,6 @@ OneFaultyLine = (s : Signature) (names : List (List ℕ)) → HasOneFaultyLine (
 
 -- ---- problems
 
-declared_same : (before lines names : List (List ℕ)) (kinds : List VarKind) → AllDeclare before lines names kinds → length names ≡ length kinds
-declared_same before [] [] [] h = refl
-declared_same before (line ∷ lines) (name ∷ names) (kind ∷ kinds) h = ap suc (declared_same (before ++ name ∷ []) lines names kinds h.1)
-declared_same before [] [] (kind ∷ kinds) h = absurd h
-declared_same before [] (name ∷ names) kinds h = absurd h
-declared_same before (line ∷ lines) [] kinds h = absurd h
-declared_same before (line ∷ lines) (name ∷ names) [] h = absurd h
-
-abbrev read_sizes : System × Cursor → Read (System × (ℕ × ℕ))
-read_sizes y = Ok (y.0, (y.1.used, y.1.line))
-
 abbrev front_of : Read (System × (ℕ × ℕ)) → System → System
 front_of (Ok x) p = x.0
 front_of (Err f) p = p
@@ -64,10 +50,10 @@ record AreRead (p : System) : Type 0 where
 read_names : (bytes : List ℕ) (x : System × (ℕ × ℕ)) → prefix_sizes bytes ≡ Ok x → AreRead x.0
 read_names bytes x e = by (prefix_of bytes) refl e
   where
-    same_system : (y : System × Cursor) → read_sizes y ≡ Ok x → y.0 ≡ x.0
+    same_system : (y : System × Cursor) → with_sizes y ≡ Ok x → y.0 ≡ x.0
     same_system y h = ap (λ r. front_of r y.0) h
 
-    by : (r : Read (System × Cursor)) → prefix_of bytes ≡ r → (r >>= read_sizes) ≡ Ok x → AreRead x.0
+    by : (r : Read (System × Cursor)) → prefix_of bytes ≡ r → (r >>= with_sizes) ≡ Ok x → AreRead x.0
     by (Ok y) r h =
         let stands = prefix_stands y.0 y.1 bytes r in
         subst AreRead (same_system y h) (record { names = stands.names; count = declared_same [] stands.declarations y.0.names y.0.signature.kinds stands.declared })

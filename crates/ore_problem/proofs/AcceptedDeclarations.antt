@@ -13,6 +13,7 @@
 --     all_front                      a fact of all of a list holds of its front, and of the item behind
 --     declarations_back, declarations_due    all declarations up to the matrix line
 --     same_frame                     a frame is its names, kinds and order
+--     declared_same                  as many names are declared as kinds
 use Rattle.std.proofs.Common.{◌≡◌, ◌≢◌, ℕ, suc, ◌+◌, ◌<◌, ◌≤◌, Bool, true, false, ◌&&◌, cond, List, [], ◌∷◌, ◌++◌, length, get_or, refl, sym, ap, ◌∙◌, subst, inl, inr, arith, append_assoc, append-nil, min}
 use Rattle.std.specs.Prelude.{if◌then◌else◌, nat_le, codes}
 use Rattle.std.specs.declared.option.Option.{Option}
@@ -436,3 +437,11 @@ declarations_due f line used (raw ∷ left) (l ∷ lines) matrix (n ∷ names) (
 -- what grew to the names and the kinds of a signature is a frame of them
 pub same_frame : (f g : Frame) → f.names ≡ g.names → f.signature.kinds ≡ g.signature.kinds → f.signature.order ≡ g.signature.order → f ≡ g
 same_frame f g n k o = λ i. record { names = n i; signature = same_signature f.signature g.signature k o i }
+
+pub declared_same : (before lines names : List (List ℕ)) (ks : List VarKind) → AllDeclare before lines names ks → length names ≡ length ks
+declared_same before [] [] [] h = refl
+declared_same before (line ∷ lines) (name ∷ names) (k ∷ ks) h = ap suc (declared_same (before ++ name ∷ []) lines names ks h.1)
+declared_same before [] [] (k ∷ ks) h = absurd h
+declared_same before [] (name ∷ names) ks h = absurd h
+declared_same before (line ∷ lines) [] ks h = absurd h
+declared_same before (line ∷ lines) (name ∷ names) [] h = absurd h

@@ -14,7 +14,7 @@ use Rattle.ore_text.proofs.FaultyLines.{stray_faulty, one_faulty_line}
 use Rattle.ore_problem.specs.declared.fault.ProblemFault.{ProblemFault}
 use Rattle.ore_problem.specs.declared.fault.ProblemReason.TheVariants.{AfterEnd}
 use Rattle.ore_problem.specs.Lines.{Cursor, raw_lines, onto_first, is_line_end, content}
-use Rattle.ore_problem.specs.Problems.{System, Read, fault_at, prefix_of, ends_there, problem_of}
+use Rattle.ore_problem.specs.Problems.{System, Read, fault_at, prefix_of, with_sizes, ends_there, problem_of}
 use Rattle.ore_algebra.specs.Results.{◌>>=◌}
 use Rattle.ore_problem.specs.Laws.{lines_of, IsProblemText, BeginsWithProblem, FindsFirstFaultyLine}
 use Rattle.ore_problem.proofs.AgainBytes.{Lacks, all_append}
@@ -144,16 +144,13 @@ front_runs text = prefix_runs front_closing front_behind (λ p c. refl) text
 sized : (text : List ℕ) (p : System) → (prefix_of text >>= front_behind) ≡ Ok p → BeginsWithProblem text
 sized text p e =
     let a = bound (prefix_of text) front_behind p e in
-    let h = (prefix_reads_exactly text a.0.0 a.0.1.used a.0.1.line).0 (ap (λ (r : Read (System × Cursor)). r >>= λ x. Ok (x.0, (x.1.used, x.1.line))) a.1) in
+    let h = (prefix_reads_exactly text a.0.0 a.0.1.used a.0.1.line).0 (ap (λ (r : Read (System × Cursor)). r >>= with_sizes) a.1) in
     (a.0.0, h.0, h.1, h.2)
 
 front_read : (text : List ℕ) → BeginsWithProblem text → (p : System) × ((prefix_of text >>= front_behind) ≡ Ok p)
 front_read text (p, front, rest, h) = (p, ap (λ (r : Read (System × Cursor)). r >>= front_behind) (accepted_prefix front text p (raw_lines rest) h.lines h.accepted))
 
-abbrev sizes_behind : System × Cursor → Read (System × (ℕ × ℕ))
-sizes_behind x = Ok (x.0, (x.1.used, x.1.line))
-
-sizes_fault : (r : Read (System × Cursor)) (f : ProblemFault) → (r >>= sizes_behind) ≡ Err f → (r >>= front_behind) ≡ Err f
+sizes_fault : (r : Read (System × Cursor)) (f : ProblemFault) → (r >>= with_sizes) ≡ Err f → (r >>= front_behind) ≡ Err f
 sizes_fault (Ok x) f e = cc
 sizes_fault (Err g) f e = ap Err (same_err {A = System × (ℕ × ℕ)} g f e)
 

@@ -9,7 +9,7 @@ mod ProblemLemmas
 mod PrintLemmas
 mod AcceptedLines
 mod AcceptedWords
-mod AcceptedDeclarations
+pub mod AcceptedDeclarations
 mod AcceptedRows
 pub mod AcceptedReads
 pub mod FrontReads

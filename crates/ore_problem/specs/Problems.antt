@@ -23,7 +23,8 @@
 --     parsed, evaluated, entries_of       the entries of a row line: each is parsed before any is evaluated
 --     row_after, rows_after, end_after    a row line; the row lines; the last line
 --     prefix_of                           the problem at the front of a text
---     prefix_sizes                        the same, with the numbers of bytes and lines that it takes
+--     with_sizes                          a problem with the numbers of bytes and lines before a cursor
+--     prefix_sizes                        the problem at the front of a text, with those that it takes
 --     ends_there, problem_of              a problem is the whole text; the problem that is the whole text
 use Rattle.std.specs.Prelude.{ℕ, zero, suc, ◌+◌, Bool, true, false, ◌&&◌, nat_lt, nat_eq, if◌then◌else◌, cond, List, [], ◌∷◌, ◌++◌, length, drop, take, codes}
 use Rattle.std.specs.List.{list_all}
@@ -246,11 +247,15 @@ prefix_of text = do
   e ← end_after r.1
   Ok (record { names = d.frame.names; signature = d.frame.signature; cols = n.1; rows = r.0 }, e)
 
--- with the numbers of bytes and of lines before the cursor
+-- the numbers of bytes and of lines before the cursor
+abbrev pub with_sizes : System × Cursor → Read (System × (ℕ × ℕ))
+with_sizes x = Ok (x.0, (x.1.used, x.1.line))
+
+-- the problem at the front of a text, with the numbers of bytes and of lines that it takes
 abbrev pub prefix_sizes : List ℕ → Read (System × (ℕ × ℕ))
 prefix_sizes text = do
   x ← prefix_of text
-  Ok (x.0, (x.1.used, x.1.line))
+  with_sizes x
 
 -- no line is left, else the first one that is has a fault
 abbrev pub ends_there : System → Cursor → List (List ℕ) → Read System
