@@ -40,7 +40,7 @@ use Rattle.ore_blocks.specs.KernelCourse.{RunCourse, run_on, transposed_adjoint_
 use Rattle.ore_blocks.specs.Valid.{IsValidExactFor, IsValidOutsideFor}
 use Rattle.ore_blocks.proofs.StoredBlocks.{sums_of-ordered_row, row_stored, exact_block-valid, exact_block-of}
 use Rattle.ore_check.specs.Meaning.{transposed_adjoint}
-use Rattle.ore_check.specs.Plans.{Resolution, certified, reduced, resolution, ext}
+use Rattle.ore_check.specs.Plans.{Resolution, reduced, resolution, extension_ends, extension, ext}
 use Rattle.ore_check.specs.PlanLaws.{IsCorrect, FormsCorrect}
 use Rattle.ore_check.specs.Reports.{program_runner}
 use Rattle.ore_check.specs.Valid.{AreValidLinks}
@@ -52,20 +52,11 @@ use Rattle.ore_check.proofs.Inverses.{of_adjoint_rows}
 use Rattle.ore_check.proofs.TurnedProducts.{AreTakenToZeros, turned}
 
 module _ (s : Signature) where
-  abbrev ext_ends : RowMatrix → Resolution → RowMatrix → RunState rationals → RowMatrix → RunState rationals → Reductions rationals → RunCourse Certificate
-  ext_ends r x last e before f elements = elim elements [
-    | AllReduce combinations ↦ certified program s r (ExtZero x.links (exact_block_of s last e (record { cols = length before.rows; rows = combinations }))) tt
-    | LeavesRest n w ↦ certified program s r (ExtNonzero x.links (ordered_row s.order w.row) (outside_block_of s before f [] w.row)) tt
-  ]
-
   abbrev after_second : RowMatrix → Resolution → RowMatrix → RunState rationals → RowMatrix → RunCourse Certificate
-  after_second r x last e before = run_on program s before >>= (λ f. forced (reduced program s before f e.syzygies) >>= ext_ends r x last e before f)
+  after_second r x last e before = run_on program s before >>= (λ f. forced (reduced program s before f e.syzygies) >>= extension_ends program s r x last e before f)
 
   abbrev after_first : RowMatrix → Resolution → RowMatrix → RunCourse Certificate
   after_first r x last = run_on program s last >>= (λ e. forced (transposed_adjoint_within program s x.before) >>= after_second r x last e)
-
-  abbrev after_links : RowMatrix → Resolution → RunCourse Certificate
-  after_links r x = forced (transposed_adjoint_within program s x.last) >>= after_first r x
 
   module _ (r : RowMatrix) (long : AreLong rationals r.cols r.rows) (x : Resolution) (few : IsLength (length x.links)) (h : IsSoFar s r x) (b : IsBehind s x) where
     abbrev last_star : RowMatrix
@@ -135,7 +126,7 @@ module _ (s : Signature) where
             ∙ Rows.zero_row_twice rationals last_star.cols
 
       ext_ended : (elements : Reductions rationals) → IsReducedOn s before_star before_wide before_of f over e.syzygies elements
-          → (runs : List (List Choice)) (d : Certificate) → LeadsTo (program_runner s) (ext_ends r x last_star e before_star f elements) runs (Done d) → IsCorrect s r d
+          → (runs : List (List Choice)) (d : Certificate) → LeadsTo (program_runner s) (extension_ends program s r x last_star e before_star f elements) runs (Done d) → IsCorrect s r d
       ext_ended (AllReduce all) (more, same, found) runs d formed =
           let here : AreFound s before_star before_wide before_of f over e.syzygies all = subst (AreFound s before_star before_wide before_of f over e.syzygies) (sym same) found in
           let inside : RowMatrix = record { cols = length before_star.rows; rows = all } in
@@ -167,22 +158,22 @@ module _ (s : Signature) where
             subst (λ c. IsValidOutsideFor s before_star c block) (sym sums) (rest_block_valid s before_star before_wide before_of f over y wide of_y w reduces t lead),
           )) runs formed
 
-    links_ended : (runs : List (List Choice)) (d : Certificate) → LeadsTo (program_runner s) (after_links r x) runs (Done d) → IsCorrect s r d
+    links_ended : (runs : List (List Choice)) (d : Certificate) → LeadsTo (program_runner s) (extension program s r x) runs (Done d) → IsCorrect s r d
     links_ended runs d formed =
         let (star, is_star, h1) = worked_split (program_runner s) (transposed_adjoint_within program s x.last) (after_first r x) runs d formed in
         let here = subst (λ m. LeadsTo (program_runner s) (after_first r x m) runs (Done d)) (adjoint_value s x.last star is_star) h1 in
         let (e, rest, end, h2) = ran s last_star (λ e. forced (transposed_adjoint_within program s x.before) >>= after_second r x last_star e) runs d here in
         let (other, is_other, h3) = worked_split (program_runner s) (transposed_adjoint_within program s x.before) (after_second r x last_star e) rest d h2 in
         let there = subst (λ m. LeadsTo (program_runner s) (after_second r x last_star e m) rest (Done d)) (adjoint_value s x.before other is_other) h3 in
-        let (f, later, over, h4) = ran s before_star (λ f. forced (reduced program s before_star f e.syzygies) >>= ext_ends r x last_star e before_star f) rest d there in
-        let (elements, is_elements, h5) = worked_split (program_runner s) (reduced program s before_star f e.syzygies) (ext_ends r x last_star e before_star f) later d h4 in
+        let (f, later, over, h4) = ran s before_star (λ f. forced (reduced program s before_star f e.syzygies) >>= extension_ends program s r x last_star e before_star f) rest d there in
+        let (elements, is_elements, h5) = worked_split (program_runner s) (reduced program s before_star f e.syzygies) (extension_ends program s r x last_star e before_star f) later d h4 in
         ext_ended e end f over elements (rows_are_reduced s before_star before_wide before_of f over e.syzygies elements (elements_wide e end f over) is_elements) later d h5
 
   pub ext_right : (k : ℕ) → IsLength k → FormsCorrect s (ext program s k)
   unfolding ext
   ext_right zero few r long of_r runs d formed = absurd (let least = few.0 in omega (arith, least))
   ext_right (suc n) few r long of_r runs d formed =
-      let (x, before, after, joined, found, more) = leads_split (program_runner s) (resolution program s (suc n) r) (after_links r) runs d formed in
+      let (x, before, after, joined, found, more) = leads_split (program_runner s) (resolution program s (suc n) r) (extension program s r) runs d formed in
       let (so_far, many) = resolved s (suc n) r long of_r before x found in
       let behind = links_stand_behind s r n (record { links = []; before = r; last = r }) x (started s r long of_r) before found in
       links_ended r long x (subst IsLength (sym many) few) so_far behind after d more

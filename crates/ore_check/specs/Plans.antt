@@ -14,6 +14,7 @@
 --     autonomous, analyse           which of the two verdicts is true
 --     Resolution, next_link         a resolution so far, and one link more
 --     links, resolve                so many links
+--     extension_ends, extension     the certificate of an extension module; what plan ext does behind the links
 --     ext                           whether an extension module is zero
 --     AnswerOf, course_of           the answer of a plan, and the plan by its name
 use Rattle.std.specs.Prelude.{ℕ, zero, suc, List, [], ◌∷◌, ◌++◌, length, cond}
@@ -187,19 +188,27 @@ module _ (l : Limits) (s : Signature) where
     resolved ← resolution k r
     certified r (Resolved resolved.links) tt
 
+  -- what is left of the elements decides which certificate it is
+  abbrev pub extension_ends : RowMatrix → Resolution → RowMatrix → RunState rationals → RowMatrix → RunState rationals → Reductions rationals → RunCourse Certificate
+  extension_ends r resolved last e before f elements = elim elements [
+    | AllReduce combinations ↦ certified r (ExtZero resolved.links (exact_block_of s last e (record { cols = length before.rows; rows = combinations }))) tt
+    | LeavesRest n w ↦ certified r (ExtNonzero resolved.links (ordered_row s.order w.row) (outside_block_of s before f [] w.row)) tt
+  ]
+
   -- what takes the adjoint of the last matrix to zeros is the row module of that before, or has an element outside
-  unfoldable pub ext : ℕ → RowMatrix → RunCourse Certificate
-  ext k r = do
-    resolved ← resolution k r
+  abbrev pub extension : RowMatrix → Resolution → RunCourse Certificate
+  extension r resolved = do
     last ← forced (transposed_adjoint_within l s resolved.last)
     e ← run_on l s last
     before ← forced (transposed_adjoint_within l s resolved.before)
     f ← run_on l s before
     elements ← forced (reduced before f e.syzygies)
-    elim elements [
-      | AllReduce combinations ↦ certified r (ExtZero resolved.links (exact_block_of s last e (record { cols = length before.rows; rows = combinations }))) tt
-      | LeavesRest n w ↦ certified r (ExtNonzero resolved.links (ordered_row s.order w.row) (outside_block_of s before f [] w.row)) tt
-    ]
+    extension_ends r resolved last e before f elements
+
+  unfoldable pub ext : ℕ → RowMatrix → RunCourse Certificate
+  ext k r = do
+    resolved ← resolution k r
+    extension r resolved
 
   -- ---- by name
 

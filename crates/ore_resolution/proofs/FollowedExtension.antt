@@ -53,7 +53,7 @@ use Rattle.ore_syzygy.specs.RunBlock.{IsExactBlockOfRun, IsOutsideBlockOfRun}
 use Rattle.ore_syzygy.proofs.FollowedKernels.{adjoint_stop}
 use Rattle.ore_syzygy.proofs.HonestBlocks.{ordered_row-sums_of}
 use Rattle.ore_check.specs.InnerContracts.{matrix_before}
-use Rattle.ore_check.specs.Plans.{Resolution, certified, reduced}
+use Rattle.ore_check.specs.Plans.{Resolution, certified, reduced, extension_ends, extension}
 use Rattle.ore_inverse.specs.Runs.{IsRunOn}
 use Rattle.ore_inverse.specs.StoredReductions.{reductions_of, AreReducedSyzygies}
 use Rattle.ore_inverse.specs.declared.reductions.Reductions.{Reductions as Stored}
@@ -61,7 +61,7 @@ use Rattle.ore_inverse.specs.declared.reductions.Reductions.TheVariants as store
 use Rattle.ore_inverse.proofs.StoredRuns.{reduced_is, unstepped_is}
 use Rattle.ore_blocks.proofs.TransposedAdjoints.{adjoint_gives}
 use Rattle.ore_resolution.specs.declared.elements.Elements.{Elements}
-use Rattle.ore_resolution.specs.Stored.{resolution_of, adjoint_course, extension, extension_ends}
+use Rattle.ore_resolution.specs.Stored.{resolution_of, adjoint_course}
 
 module _ (s : Signature) where
   -- a run on a transposed adjoint, and what is made of both, statement by statement
@@ -108,11 +108,11 @@ module _ (s : Signature) where
       x = resolution_of r ks
 
       abbrev course : RunCourse Certificate
-      course = extension s (plain r) x
+      course = extension program s (plain r) x
 
       -- what is left of it behind the two runs
       abbrev behind_before : RowMatrix → RunState rationals → RowMatrix × RunState rationals → RunCourse Certificate
-      behind_before last e f = forced (reduced program s f.0 f.1 e.syzygies) >>= extension_ends s (plain r) x last e f.0 f.1
+      behind_before last e f = forced (reduced program s f.0 f.1 e.syzygies) >>= extension_ends program s (plain r) x last e f.0 f.1
 
       abbrev behind_last : RowMatrix × RunState rationals → RunCourse Certificate
       behind_last e = adjoint_course s x.before >>= behind_before e.0 e.1
@@ -151,20 +151,20 @@ module _ (s : Signature) where
 
             pub reducing_halts : (settings : Settings) (stop : RingStop) → Fails stop work → HaltsIn s allows allows_spent course start given settings (halt_of stop Forced)
             reducing_halts settings stop fails =
-                work_halts s allows allows_spent given settings (reduced program s (plain before) (last_of f) e.syzygies) (extension_ends s (plain r) x last e (plain before) (last_of f)) stop
+                work_halts s allows allows_spent given settings (reduced program s (plain before) (last_of f) e.syzygies) (extension_ends program s (plain r) x last e (plain before) (last_of f)) stop
                 (subst (λ (y : Result (Reductions rationals) Cause). Fails stop y) (sym (reduced_is s before f on e.syzygies)) fails) to_reduce
 
-            pub reduced_to : (found : Reductions rationals) → work ≡ Ok found → Follows runner rule course start given (extension_ends s (plain r) x last e (plain before) (last_of f) found)
-            reduced_to found same = worked runner rule (reduced program s (plain before) (last_of f) e.syzygies) found (extension_ends s (plain r) x last e (plain before) (last_of f)) (reduced_is s before f on e.syzygies ∙ same) to_reduce
+            pub reduced_to : (found : Reductions rationals) → work ≡ Ok found → Follows runner rule course start given (extension_ends program s (plain r) x last e (plain before) (last_of f) found)
+            reduced_to found same = worked runner rule (reduced program s (plain before) (last_of f) e.syzygies) found (extension_ends program s (plain r) x last e (plain before) (last_of f)) (reduced_is s before f on e.syzygies ∙ same) to_reduce
 
       -- ---- the certificate
 
       -- what the code has found, where the certificate is left to form
       module _ (given : List (List Choice)) (y : Elements) (on_last : IsRunOn s y.last.adjoint y.last.run) (on_before : IsRunOn s y.before.adjoint y.before.run)
           (reduced : AreReducedSyzygies s y.before.adjoint y.before.run y.last.run y.reductions)
-          (left : Follows runner rule course start given (extension_ends s (plain r) x (plain y.last.adjoint) (last_of y.last.run) (plain y.before.adjoint) (last_of y.before.run) (reductions_of y.reductions))) where
-        left_as : (found : Stored) → y.reductions ≡ found → Follows runner rule course start given (extension_ends s (plain r) x (plain y.last.adjoint) (last_of y.last.run) (plain y.before.adjoint) (last_of y.before.run) (reductions_of found))
-        left_as found is = subst (λ (found : Stored). Follows runner rule course start given (extension_ends s (plain r) x (plain y.last.adjoint) (last_of y.last.run) (plain y.before.adjoint) (last_of y.before.run) (reductions_of found))) is left
+          (left : Follows runner rule course start given (extension_ends program s (plain r) x (plain y.last.adjoint) (last_of y.last.run) (plain y.before.adjoint) (last_of y.before.run) (reductions_of y.reductions))) where
+        left_as : (found : Stored) → y.reductions ≡ found → Follows runner rule course start given (extension_ends program s (plain r) x (plain y.last.adjoint) (last_of y.last.run) (plain y.before.adjoint) (last_of y.before.run) (reductions_of found))
+        left_as found is = subst (λ (found : Stored). Follows runner rule course start given (extension_ends program s (plain r) x (plain y.last.adjoint) (last_of y.last.run) (plain y.before.adjoint) (last_of y.before.run) (reductions_of found))) is left
 
         -- all reduce, to these combinations
         module _ (all : OperatorMatrix) (is : y.reductions ≡ stored.AllReduce all) where

@@ -42,13 +42,13 @@ use Rattle.ore_groebner.specs.declared.outcome.Halt.{Halt}
 use Rattle.ore_groebner.proofs.EngineCalls.{call_halts, call_halts_last}
 use Rattle.ore_check.specs.InnerContracts.{matrix_before}
 use Rattle.ore_check.specs.PlanLaws.{IsCorrect}
-use Rattle.ore_check.specs.Plans.{Resolution, next_link, links, resolution, resolve, ext, certified}
+use Rattle.ore_check.specs.Plans.{Resolution, next_link, links, resolution, resolve, extension, ext, certified}
 use Rattle.ore_check.proofs.FormedExtensions.{ext_right}
 use Rattle.ore_check.proofs.FormedResolutions.{resolve_right, stored_back}
 use Rattle.ore_kernels.specs.KernelPlans.{IsKernelBlockOf}
 use Rattle.ore_inverse.proofs.FoundInverses.{stored_is}
 use Rattle.ore_syzygy.proofs.RunKernels.{syzygies_width}
-use Rattle.ore_resolution.specs.Stored.{resolution_of, link_of, extension, IsNextLink}
+use Rattle.ore_resolution.specs.Stored.{resolution_of, link_of, IsNextLink}
 
 pub last_pushed : (r : OperatorMatrix) (ks : List Link) (x : Link) → matrix_before r (ks ++ x ∷ []) (length (ks ++ x ∷ [])) ≡ x.l
 unfolding matrix_before
@@ -147,22 +147,22 @@ module _ (s : Signature) where
           → Follows runner rule (resolve program s n (plain r)) before given (certified program s (plain r) (Resolved x.links) tt)
       resolve_found given x h = called runner rule (resolution program s n (plain r)) x behind_resolve h resolve_begun
 
-      ext_begun : Follows runner rule (ext program s n (plain r)) before before (resolution program s n (plain r) >>= extension s (plain r))
+      ext_begun : Follows runner rule (ext program s n (plain r)) before before (resolution program s n (plain r) >>= extension program s (plain r))
       unfolding ext
       ext_begun = started runner rule (ext program s n (plain r)) before
 
       pub ext_links_halt : (given : List (List Choice)) (settings : Settings) (halt : Halt) → HaltsIn s allows allows_spent (resolution program s n (plain r)) before given settings halt → HaltsIn s allows allows_spent (ext program s n (plain r)) before given settings halt
-      ext_links_halt given settings halt h = call_halts s allows allows_spent given settings (resolution program s n (plain r)) (extension s (plain r)) halt h ext_begun
+      ext_links_halt given settings halt h = call_halts s allows allows_spent given settings (resolution program s n (plain r)) (extension program s (plain r)) halt h ext_begun
 
       module _ (mid : List (List Choice)) (x : Resolution) (h : FollowsTo s allows allows_spent (resolution program s n (plain r)) before mid x) where
-        ext_found : Follows runner rule (ext program s n (plain r)) before mid (extension s (plain r) x)
-        ext_found = called runner rule (resolution program s n (plain r)) x (extension s (plain r)) h ext_begun
+        ext_found : Follows runner rule (ext program s n (plain r)) before mid (extension program s (plain r) x)
+        ext_found = called runner rule (resolution program s n (plain r)) x (extension program s (plain r)) h ext_begun
 
-        pub ext_halts : (given : List (List Choice)) (settings : Settings) (halt : Halt) → HaltsIn s allows allows_spent (extension s (plain r) x) mid given settings halt → HaltsIn s allows allows_spent (ext program s n (plain r)) before given settings halt
-        ext_halts given settings halt k = call_halts_last s allows allows_spent given settings (extension s (plain r) x) halt k ext_found
+        pub ext_halts : (given : List (List Choice)) (settings : Settings) (halt : Halt) → HaltsIn s allows allows_spent (extension program s (plain r) x) mid given settings halt → HaltsIn s allows allows_spent (ext program s n (plain r)) before given settings halt
+        ext_halts given settings halt k = call_halts_last s allows allows_spent given settings (extension program s (plain r) x) halt k ext_found
 
-        pub ext_answered : (given : List (List Choice)) (c : Certificate) → FollowsTo s allows allows_spent (extension s (plain r) x) mid given c → FollowsTo s allows allows_spent (ext program s n (plain r)) before given c
-        ext_answered given c k = called_last runner rule (extension s (plain r) x) c k ext_found
+        pub ext_answered : (given : List (List Choice)) (c : Certificate) → FollowsTo s allows allows_spent (extension program s (plain r) x) mid given c → FollowsTo s allows allows_spent (ext program s n (plain r)) before given c
+        ext_answered given c k = called_last runner rule (extension program s (plain r) x) c k ext_found
 
       -- ---- what they form
 

@@ -3,15 +3,13 @@
 --     link_of            the link that the last state of a run makes
 --     IsNextLink         the choices given since lead a run to the state that makes this link
 --     adjoint_course     a run on the transposed adjoint of a matrix
---     extension, extension_ends     what plan ext does behind the links
 --     IsResolutionOf     a certificate with so many links
 --     IsExtensionOf      a certificate of the extension module at this place
-use Rattle.std.specs.Prelude.{◌≡◌, ℕ, ◌-◌, Bool, List, [], length}
+use Rattle.std.specs.Prelude.{◌≡◌, ℕ, ◌-◌, Bool, List, length}
 use Rattle.ore_algebra.specs.Limits.{program}
 use Rattle.ore_course.specs.Course.{Done, ◌>>=◌, forced}
 use Rattle.ore_rational.specs.Field.{rationals}
 use Rattle.ore_monomial.specs.Signature.{Signature}
-use Rattle.ore_rows.specs.ReduceRows.{Reductions, AllReduce, LeavesRest}
 use Rattle.ore_rows.specs.BasisLeads.{BasisLeads}
 use Rattle.ore_rows.specs.Stored.{OperatorMatrix}
 use Rattle.ore_rows.specs.declared.choices.Choice.{Choice}
@@ -19,12 +17,11 @@ use Rattle.ore_pairs.specs.Run.{RunState}
 use Rattle.ore_parts.specs.declared.block.Link.{Link}
 use Rattle.ore_cert.specs.declared.certificate.Certificate.{Certificate}
 use Rattle.ore_cert.specs.declared.certificate.Certificate.TheVariants.{Resolution as Resolved, ExtZero, ExtNonzero}
-use Rattle.ore_blocks.specs.BlockOfRun.{ordered_row, exact_block_of, outside_block_of}
 use Rattle.ore_blocks.specs.CheckBlock.{RowMatrix, plain}
 use Rattle.ore_blocks.specs.KernelCourse.{RunCourse, syzygies_of, kernel_block, run_on, transposed_adjoint_within}
 use Rattle.ore_groebner.specs.Courses.{FollowsTo}
 use Rattle.ore_check.specs.InnerContracts.{matrix_before}
-use Rattle.ore_check.specs.Plans.{Resolution, stored, certified, reduced}
+use Rattle.ore_check.specs.Plans.{Resolution, stored}
 
 -- of the matrix r
 abbrev pub resolution_of : OperatorMatrix → List Link → Resolution
@@ -56,20 +53,3 @@ module _ (s : Signature) where
     adjoint ← forced (transposed_adjoint_within program s m)
     last ← run_on program s adjoint
     Done (adjoint, last)
-
-  -- the certificate: what is left of the elements decides which one
-  abbrev pub extension_ends : RowMatrix → Resolution → RowMatrix → RunState rationals → RowMatrix → RunState rationals → Reductions rationals → RunCourse Certificate
-  extension_ends r resolved last e before f elements = elim elements [
-    | AllReduce combinations ↦ certified program s r (ExtZero resolved.links (exact_block_of s last e (record { cols = length before.rows; rows = combinations }))) tt
-    | LeavesRest n w ↦ certified program s r (ExtNonzero resolved.links (ordered_row s.order w.row) (outside_block_of s before f [] w.row)) tt
-  ]
-
-  -- elements that take the adjoint of the last matrix to zeros are reduced by a run on that of the matrix before
-  abbrev pub extension : RowMatrix → Resolution → RunCourse Certificate
-  extension r resolved = do
-    last ← forced (transposed_adjoint_within program s resolved.last)
-    e ← run_on program s last
-    before ← forced (transposed_adjoint_within program s resolved.before)
-    f ← run_on program s before
-    elements ← forced (reduced program s before f e.syzygies)
-    extension_ends r resolved last e before f elements

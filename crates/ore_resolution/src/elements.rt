@@ -12,9 +12,10 @@ ghost use Rattle.ore_blocks.specs.CheckBlock.{plain};
 ghost use Rattle.ore_groebner.specs.Choosing.{AreWithinBudget};
 ghost use Rattle.ore_groebner.specs.Courses.{last_of, FollowsTo, HaltsIn};
 ghost use Rattle.ore_check.specs.InnerContracts.{matrix_before};
+ghost use Rattle.ore_check.specs.Plans.{extension, extension_ends};
 ghost use Rattle.ore_inverse.specs.Runs.{IsRunOn};
 ghost use Rattle.ore_inverse.specs.StoredReductions.{reductions_of, AreReducedSyzygies};
-ghost use Rattle.ore_resolution.specs.Stored.{adjoint_course, extension, extension_ends, resolution_of};
+ghost use Rattle.ore_resolution.specs.Stored.{adjoint_course, resolution_of};
 
 use ore_adjoint::transpose_adjoint;
 use ore_cert::Links;
@@ -58,8 +59,8 @@ pub(crate) fn reduce_elements<R: OreRing, C: Chooser>(
     ensures before { IfOk result (λ x. IsRunOn (R.sig ring.now) x.before.adjoint x.before.run) }
     ensures reduced { IfOk result (λ x. AreReducedSyzygies (R.sig ring.now) x.before.adjoint x.before.run x.last.run x.reductions) }
     // The certificate is left to form.
-    ensures left { IfOk result (λ x. Follows (runner_within program (R.sig ring.now)) (rule_of (R.sig ring.now) C.allows C.allows_spent) (extension (R.sig ring.now) (plain r.now) (resolution_of r.now links.now)) (C.given chooser.old) (C.given chooser.new) (extension_ends (R.sig ring.now) (plain r.now) (resolution_of r.now links.now) (plain x.last.adjoint) (last_of x.last.run) (plain x.before.adjoint) (last_of x.before.run) (reductions_of x.reductions))) }
-    ensures halts { IfErr result (HaltsIn (R.sig ring.now) C.allows C.allows_spent (extension (R.sig ring.now) (plain r.now) (resolution_of r.now links.now)) (C.given chooser.old) (C.given chooser.new) (C.settings chooser.new)) }
+    ensures left { IfOk result (λ x. Follows (runner_within program (R.sig ring.now)) (rule_of (R.sig ring.now) C.allows C.allows_spent) (extension program (R.sig ring.now) (plain r.now) (resolution_of r.now links.now)) (C.given chooser.old) (C.given chooser.new) (extension_ends program (R.sig ring.now) (plain r.now) (resolution_of r.now links.now) (plain x.last.adjoint) (last_of x.last.run) (plain x.before.adjoint) (last_of x.before.run) (reductions_of x.reductions))) }
+    ensures halts { IfErr result (HaltsIn (R.sig ring.now) C.allows C.allows_spent (extension program (R.sig ring.now) (plain r.now) (resolution_of r.now links.now)) (C.given chooser.old) (C.given chooser.new) (C.settings chooser.new)) }
     ensures within_budget { AreWithinBudget (C.given chooser.old) (C.settings chooser.old).budget → AreWithinBudget (C.given chooser.new) (C.settings chooser.new).budget }
     ensures settings { C.settings chooser.new ≡ C.settings chooser.old }
 {

@@ -11,8 +11,8 @@ ghost use Rattle.ore_groebner.specs.Choosing.{AreWithinBudget};
 ghost use Rattle.ore_groebner.specs.Courses.{FollowsTo, HaltsIn};
 ghost use Rattle.ore_check.specs.InnerContracts.{matrix_before};
 ghost use Rattle.ore_check.specs.PlanLaws.{IsCorrect};
-ghost use Rattle.ore_check.specs.Plans.{ext};
-ghost use Rattle.ore_resolution.specs.Stored.{extension, resolution_of, IsExtensionOf};
+ghost use Rattle.ore_check.specs.Plans.{extension, ext};
+ghost use Rattle.ore_resolution.specs.Stored.{resolution_of, IsExtensionOf};
 
 use crate::elements::{Elements, reduce_elements};
 use crate::links::find_links;
@@ -70,8 +70,8 @@ fn behind_links<R: OreRing, C: Chooser>(
     requires links_of { AreLinksOf (R.sig ring.now) links }
     requires fits { (matrix_before r.now links (length links)).cols ≡ length (matrix_before r.now links (length links - 1)).rows }
     ensures kind { IfOk result (IsExtensionOf (length links)) }
-    ensures answered { IfOk result (FollowsTo (R.sig ring.now) C.allows C.allows_spent (extension (R.sig ring.now) (plain r.now) (resolution_of r.now links)) (C.given chooser.old) (C.given chooser.new)) }
-    ensures halts { IfErr result (HaltsIn (R.sig ring.now) C.allows C.allows_spent (extension (R.sig ring.now) (plain r.now) (resolution_of r.now links)) (C.given chooser.old) (C.given chooser.new) (C.settings chooser.new)) }
+    ensures answered { IfOk result (FollowsTo (R.sig ring.now) C.allows C.allows_spent (extension program (R.sig ring.now) (plain r.now) (resolution_of r.now links)) (C.given chooser.old) (C.given chooser.new)) }
+    ensures halts { IfErr result (HaltsIn (R.sig ring.now) C.allows C.allows_spent (extension program (R.sig ring.now) (plain r.now) (resolution_of r.now links)) (C.given chooser.old) (C.given chooser.new) (C.settings chooser.new)) }
     ensures within_budget { AreWithinBudget (C.given chooser.old) (C.settings chooser.old).budget → AreWithinBudget (C.given chooser.new) (C.settings chooser.new).budget }
     ensures settings { C.settings chooser.new ≡ C.settings chooser.old }
 {
