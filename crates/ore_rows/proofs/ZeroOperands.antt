@@ -1,7 +1,7 @@
 -- Operations of the ring on the operator zero, under any limits: none of them stops.
 --     minus_zero                   a difference from which zero is taken is the same
 --     times_zero, zero_times       a product with zero is zero
---     added_none                   where a product with zero is added, the same is left
+--     added_none, added_zero       where a product with zero is added, its first or its second factor, the same is left
 --     taken_none                   where a product with zero is taken away, the same is left
 --     adjoint_none                 the adjoint of zero is zero
 --     copied                       a copy gives what a definition gives that gives the operand
@@ -57,6 +57,10 @@ module _ (l : Limits) where
     pub added_none : (acc f : Operator rationals) → product_added l s acc (empty_sum rationals plain_cmp, f) ≡ Ok acc
     unfolding product_added
     added_none acc f = ap (λ r. r >>= plus_within l acc) (zero_times f) ∙ plus_zero l acc
+
+    pub added_zero : (acc f : Operator rationals) → product_added l s acc (f, empty_sum rationals plain_cmp) ≡ Ok acc
+    unfolding product_added
+    added_zero acc f = ap (λ r. r >>= plus_within l acc) (times_zero f) ∙ plus_zero l acc
 
     pub taken_none : (d f : Operator rationals) → product_taken l s d f (empty_sum rationals plain_cmp) ≡ Ok f
     unfolding product_taken

@@ -9,7 +9,7 @@ ghost use Rattle.ore_ring.specs.Belongs.{AllBelong, Belongs};
 ghost use Rattle.ore_rows.specs.RowsWithin.{AreEnough, combine_within, dot_within, matrix_times_within, product_added};
 ghost use Rattle.ore_rows.specs.Stored.{places, rows_of, sums_of};
 
-use crate::entry_ops::{join, mul};
+use crate::entry_ops::join;
 use crate::matrix::Matrix;
 use crate::row::Row;
 use crate::row_ops::row_copy;
@@ -84,7 +84,7 @@ pub fn stack<R: OreRing>(ring: &R, alloc: Global, z: &Row, m: &Matrix) -> Result
     Ok(Matrix::from_rows(m.cols(), out))
 }
 
-// A product added to an operator.
+// A product added to an operator; that is moved where the second factor is zero.
 #[tactic(auto, unfolding(crate::specs::RowsWithin::product_added))]
 fn add_product<R: OreRing>(ring: &R, alloc: Global, acc: Op, f: &Op, g: &Op) -> Result<Op, RingStop>
     requires acc_of { Belongs (R.sig ring.now) acc }
@@ -93,7 +93,10 @@ fn add_product<R: OreRing>(ring: &R, alloc: Global, acc: Op, f: &Op, g: &Op) -> 
     ensures gives { Gives (λ f. f.sum) result (product_added program (R.sig ring.now) acc.sum (f.now.sum, g.now.sum)) }
     ensures of { IfOk result (Belongs (R.sig ring.now)) }
 {
-    let product = mul(ring, alloc, f, g)?;
+    if g.is_zero() {
+        return Ok(acc);
+    }
+    let product = ring.mul(alloc, f, g)?;
     join(ring, alloc, acc, product)
 }
 
