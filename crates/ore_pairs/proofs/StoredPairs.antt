@@ -5,9 +5,11 @@
 --                                  it gives
 --     passes_not                   the degree of a common multiple is past the limits of the program
 --     found_listed, added_listed   the set finds the pairs of its list, and one more that was added
+--     none_ordered, one_ordered    the pairs stay ordered where none are listed, and with one more
+--     either_first, either_second  a pair of ordered ones is listed in the order of its places
 --     one_more_exponent, divides_to_twelve     dividing, exponent by exponent
 --     lead_read                    the lead that is read at a place
-use Rattle.std.proofs.Common.{◌≡◌, ◌⊎◌, ⊎_elim, ℕ, ◌+◌, ◌<◌, ◌≤◌, Bool, true, false, List, [], ◌∷◌, refl, sym, ap, ◌∙◌, subst, arith, rules}
+use Rattle.std.proofs.Common.{◌≡◌, ◌⊎◌, ⊎_elim, ℕ, ◌+◌, ◌<◌, ◌≤◌, Bool, true, false, List, [], ◌∷◌, refl, sym, ap, ◌∙◌, subst, true≢false, arith, rules}
 use Rattle.std.specs.Prelude.{◌&&◌, ◌||◌, nat_eq, nat_le, cond}
 use Rattle.std.specs.List.{slice_get, list_any}
 use Rattle.std.specs.Ordering.{is_eq, nat_cmp, ordering_then}
@@ -35,8 +37,10 @@ use Rattle.ore_rows.specs.Stored.{sums_of}
 use Rattle.ore_rows.specs.StoredBasis.{StoredBasis, HasLead, BasisBelongs}
 use Rattle.ore_rows.proofs.BasisParts.{row_belongs, lead_of_signature}
 use Rattle.ore_rows.proofs.StoredBases.{is_monic}
-use Rattle.ore_pairs.specs.PairRule.{is_listed, HaveSamePairs}
+use Rattle.ore_pairs.specs.Listed.{AreOrdered}
+use Rattle.ore_pairs.specs.PairRule.{is_listed, either_listed, HaveSamePairs}
 use Rattle.ore_pairs.specs.Run.{s_rows}
+use Rattle.ore_pairs.proofs.PairRuleLaws.{listed_split}
 use Rattle.ore_pairs.specs.Steps.{row_at, lead_at, lcm_of_leads, multiplier, multiples_less, s_row_within, common_fits}
 
 -- ---- reading the basis
@@ -115,6 +119,33 @@ added_listed i j before after h x y =
     or_by_cases : (b c : Bool) → cond b true c ≡ (b || c)
     or_by_cases true c = refl
     or_by_cases false c = refl
+
+-- ---- ordered pairs
+
+pub none_ordered : AreOrdered []
+unfolding is_listed
+none_ordered i j h = absurd (true≢false (sym h))
+
+pub one_ordered : (i j : ℕ) (before after : List (ℕ × ℕ)) → i < j → HaveSamePairs after ((i, j) ∷ before) → AreOrdered before → AreOrdered after
+one_ordered i j before after l same ordered x y h = ⊎_elim (λ e. subst (λ n. n < y) e.0 (subst (λ n. i < n) e.1 l)) (ordered x y) (listed_split x y (i, j) before (sym (same x y) ∙ h))
+
+module _ (ps : List (ℕ × ℕ)) (ordered : AreOrdered ps) (i j : ℕ) where
+  not_listed : (x y : ℕ) → ¬ (x < y) → is_listed x y ps ≡ false
+  not_listed x y n = by (is_listed x y ps) (ordered x y)
+    where
+      by : (b : Bool) → (b ≡ true → x < y) → b ≡ false
+      by true h = absurd (n (h refl))
+      by false h = refl
+
+  or_false : (b : Bool) → b ≡ (b || false)
+  or_false true = refl
+  or_false false = refl
+
+  pub either_first : i < j → is_listed i j ps ≡ either_listed i j ps
+  either_first l = or_false (is_listed i j ps) ∙ ap (λ b. is_listed i j ps || b) (sym (not_listed j i (omega (arith, l))))
+
+  pub either_second : j ≤ i → is_listed j i ps ≡ either_listed i j ps
+  either_second l = ap (λ b. b || is_listed j i ps) (sym (not_listed i j (omega (arith, l))))
 
 -- ---- dividing, exponent by exponent
 

@@ -1,7 +1,7 @@
 //! The pairs that a run has dealt with.
 
 ghost use Rattle.std.specs.Prelude.{◌≡◌, ◌<◌, [], ◌∷◌, IfOk, IfErr};
-ghost use Rattle.ore_pairs.specs.PairRule.{is_listed, HaveSamePairs};
+ghost use Rattle.ore_pairs.specs.PairRule.{is_listed, either_listed, HaveSamePairs};
 
 use ore_monomial::NoMemory;
 use std::alloc::Global;
@@ -16,13 +16,15 @@ pub struct Listed {
 
 impl Model for Listed {
     ghost use Rattle.std.specs.Prelude.{List, ℕ};
-    ghost use Rattle.ore_pairs.specs.Listed.{pairs_code};
+    ghost use Rattle.ore_pairs.specs.Listed.{pairs_code, AreOrdered};
 
     ghost Value = { List (ℕ × ℕ) };
 
     ghost coded = { pairs_code };
 
     ghost view = { λ a. a.pairs.keys };
+
+    ghost invariant = { λ a. AreOrdered a.pairs.keys };
 }
 
 impl Listed {
@@ -40,6 +42,18 @@ impl Listed {
         ensures { result ≡ is_listed i j self.now }
     {
         self.pairs.contains(&(i, j))
+    }
+
+    /// Whether the pair is listed, in one of its two orders.
+    pub fn has_either(&self, i: usize, j: usize) -> bool
+        ensures { result ≡ either_listed i j self.now }
+    {
+        let _ = &self.pairs;
+        if i < j {
+            self.has(i, j)
+        } else {
+            self.has(j, i)
+        }
     }
 
     /// The pair is listed, if it wasn't before.

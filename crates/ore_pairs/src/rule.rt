@@ -3,7 +3,7 @@
 ghost use Rattle.std.specs.Prelude.{◌≡◌, ◌<◌, ◌↔◌, length, IsTrue};
 ghost use Rattle.ore_monomial.specs.Monomial.{Divides, lcm};
 ghost use Rattle.ore_leads.specs.FirstDivisor.{divides_term};
-ghost use Rattle.ore_pairs.specs.PairRule.{either_listed, may_skip, may_treat};
+ghost use Rattle.ore_pairs.specs.PairRule.{may_skip, may_treat};
 ghost use Rattle.ore_pairs.specs.Steps.{lead_at, lcm_of_leads};
 
 use crate::listed::Listed;
@@ -45,7 +45,7 @@ pub fn may_skip(leads: &Leads, listed: &Listed, i: usize, j: usize, via: usize) 
     if !divides_common(leads, i, j, via) {
         return false;
     }
-    either_listed(listed, i, via) && either_listed(listed, j, via)
+    listed.has_either(i, via) && listed.has_either(j, via)
 }
 
 // Whether the lead at `via` divides the common multiple of those at `i` and `j`.
@@ -71,11 +71,4 @@ fn divides_lcm(exps: &Exps, first: &Exps, second: &Exps) -> bool
         }
     }
     true
-}
-
-// Whether the pair is listed, in one of its two orders.
-fn either_listed(listed: &Listed, i: usize, j: usize) -> bool
-    ensures { result ≡ either_listed i j listed.now }
-{
-    listed.has(i, j) || listed.has(j, i)
 }
