@@ -3,6 +3,7 @@
 --     SoFar                    the entries at some places, and all from a place on, make the product with each column
 --     none_seen, zero_seen, other_seen, all_seen     at the start; past a zero entry, past any entry; at the end
 --     placed, added_there      the operator at a place of a column; the product with that of the row, added
+--     none_there               nothing changes where the operator of the column is zero
 --     place_next, place_stops, places_end     one turn of the fold by places, and its end
 use Rattle.std.proofs.Common.{◌≡◌, ℕ, ◌+◌, ◌<◌, ◌≤◌, List, [], ◌∷◌, ◌++◌, length, map, drop, get_or, Some, refl, sym, ap, ◌∙◌, subst}
 use Rattle.std.proofs.lemmas.List.{length-map, drop_more, drop_all, get_or-map}
@@ -22,7 +23,7 @@ use Rattle.ore_rows.specs.Rows.{Row}
 use Rattle.ore_rows.specs.RowsWithin.{product_added, dot_within, added_at, AreEnough}
 use Rattle.ore_rows.specs.Stored.{sums_of, places}
 use Rattle.ore_rows.proofs.Dots.{entry_place}
-use Rattle.ore_rows.proofs.ZeroOperands.{added_none}
+use Rattle.ore_rows.proofs.ZeroOperands.{added_none, added_zero}
 
 -- a fold by the places ks of what stands there, and then by a list
 module _ {A S : Type 0} (step : S → A → Result S Cause) (at : ℕ → A) where
@@ -109,6 +110,10 @@ placed rows k j r f h e =
 pub added_there : (l : Limits) (s : Signature) (row : List Ordered) (rows : List (List Ordered)) (k j : ℕ) (f : Ordered) (r : List Ordered) (g : Ordered) (acc : Operator rationals)
     → slice_get row k ≡ Some f → slice_get rows k ≡ Some r → slice_get r j ≡ Some g → added_at l s (sums_of row) (places j rows) acc k ≡ product_added l s acc (f.sum, g.sum)
 added_there l s row rows k j f r g acc a b e = ap (λ x. product_added l s acc (x, get_or (places j rows) k none)) (entry_place row k f a) ∙ ap (λ y. product_added l s acc (f.sum, y)) (placed rows k j r g b e)
+
+pub none_there : (l : Limits) (s : Signature) (c : Row rationals) (rows : List (List Ordered)) (k j : ℕ) (r : List Ordered) (g : Ordered) (acc : Operator rationals)
+    → slice_get rows k ≡ Some r → slice_get r j ≡ Some g → g.sum ≡ none → added_at l s c (places j rows) acc k ≡ Ok acc
+none_there l s c rows k j r g acc b e z = ap (λ y. product_added l s acc (get_or c k none, y)) (placed rows k j r g b e ∙ z) ∙ added_zero l s acc (get_or c k none)
 
 -- a fold by places, from one of them on
 module _ {S : Type 0} (step : S → ℕ → Result S Cause) (ks : List ℕ) (n : ℕ) where

@@ -84,7 +84,7 @@ pub fn stack<R: OreRing>(ring: &R, alloc: Global, z: &Row, m: &Matrix) -> Result
     Ok(Matrix::from_rows(m.cols(), out))
 }
 
-// A product added to an operator; that is moved where the second factor is zero.
+// A product added to an operator.
 #[tactic(auto, unfolding(crate::specs::RowsWithin::product_added))]
 fn add_product<R: OreRing>(ring: &R, alloc: Global, acc: Op, f: &Op, g: &Op) -> Result<Op, RingStop>
     requires acc_of { Belongs (R.sig ring.now) acc }
@@ -93,9 +93,6 @@ fn add_product<R: OreRing>(ring: &R, alloc: Global, acc: Op, f: &Op, g: &Op) -> 
     ensures gives { Gives (λ f. f.sum) result (product_added program (R.sig ring.now) acc.sum (f.now.sum, g.now.sum)) }
     ensures of { IfOk result (Belongs (R.sig ring.now)) }
 {
-    if g.is_zero() {
-        return Ok(acc);
-    }
     let product = ring.mul(alloc, f, g)?;
     join(ring, alloc, acc, product)
 }
@@ -115,7 +112,8 @@ fn nonzero_places(alloc: Global, c: &Row) -> Result<Vec<usize>, NoMemory>
     Ok(out)
 }
 
-// A row times the column at place `j` of a matrix, by the entries of the row at the places `nonzero`.
+// A row times the column at place `j` of a matrix, by the entries of the row at the places `nonzero`; those of the
+// column that are zero are passed over.
 fn dot<R: OreRing>(
     ring: &R,
     alloc: Global,
@@ -135,7 +133,11 @@ fn dot<R: OreRing>(
 {
     let mut acc = Op::zero(alloc, ring.signature().order());
     for k in nonzero {
-        acc = add_product(ring, alloc, acc, c.entry(*k), m.row(*k).entry(j))?;
+        let g = m.row(*k).entry(j);
+        if g.is_zero() {
+            continue;
+        }
+        acc = add_product(ring, alloc, acc, c.entry(*k), g)?;
     }
     Ok(acc)
 }
