@@ -1,5 +1,5 @@
 -- Values or refusals, and what a call answers where a definition gives one or the other.
---     _>>=_         go on with the value, or keep the refusal
+--     ◌>>=◌         go on with the value, or keep the refusal
 --     fronted       the items with a front before them
 --     IsRefusal     a definition refuses by this; where a call names none, something else holds
 --     RefusedBy     a call that refused did as the definition says, by what its refusal means

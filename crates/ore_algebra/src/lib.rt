@@ -13,6 +13,7 @@
 //!   why an operation stops. Operations on exact numbers are defined under limits that are a parameter:
 //!   those of the program, or none.
 //! - `Laws` says the laws of rings and fields as statements that a contract can name.
+//! - `Results` says how to go on with a value or a refusal, and what a call gives of what a definition gives.
 //!
 //! Proofs (`proofs/`):
 //!

@@ -5,7 +5,7 @@
 --     quotients_iff                the steps of an outside block
 --     reduced_iff                  a row has a lead that no lead divides
 --     rest_iff                     what the steps left is the rest, which is reduced
---     IsOutsideRight, outside_iff  outside blocks
+--     IsBehindLeads, outside_iff   outside blocks
 use Rattle.std.proofs.Common.{◌≡◌, ◌↔◌, ℕ, suc, ◌+◌, ◌<◌, true, false, ◌&&◌, nat_eq, nat_lt, List, [], ◌∷◌, length, drop, refl, sym, ap, ◌∙◌, subst, true≢false, arith}
 use Rattle.std.specs.List.{AllByRecursion}
 use Rattle.std.proofs.ByRecursion.{All-weaker}

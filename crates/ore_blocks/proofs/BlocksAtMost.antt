@@ -1,6 +1,6 @@
 -- The places of a block within limits give what they give without, or an operation stops.
 --     s_row_most, less_step_most, less_steps_most, shifted_most, common_most       operations on rows and terms
---     zeros_same, reduced_same                what doesn't look at limits
+--     zeros_same                              what doesn't look at limits
 --     row_gives_most, rows_give_most          rows that are given
 --     check_step_most, check_steps_most, check_entry_most, check_entries_most, check_pairs_most        pairs
 --     row_inside_most, rows_inside_most, pair_inside_most, pairs_inside_most, check_inside_most        inside rows

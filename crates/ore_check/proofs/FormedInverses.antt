@@ -1,6 +1,8 @@
 -- Certificates that plans of inverses form.
 --     left_outside, left_block_of, left_block_valid     what is left of a row has a block that is valid, and of the signature
---     units_reduced, units_left     what reducing the unit rows gives
+--     IsReducedOn, rows_are_reduced     what reducing rows gives
+--     AreFound, found_wide, found_of, found_product, found_count     rows by which the reduced ones are combined
+--     unit_less, unit_block_valid, unit_block_of     the first unit row that leaves a rest has such a block
 --     inverse_left_right, inverse_right_right     the plans of inverses form certificates that are right
 use Rattle.std.proofs.Common.{◌≡◌, ◌≢◌, ℕ, ◌<◌, List, [], length, refl, sym, ap, ◌∙◌, subst, arith}
 use Rattle.std.specs.List.{AllByRecursion}

@@ -11,9 +11,10 @@
 --     adjoint_course                the transposed adjoint
 --     stacked                       a row above the rows of a matrix
 --     first_nonzero                 the first row with a first entry that isn't zero
+--     autonomous_element            the certificate of an element outside, by a syzygy of it and the rows of r
 --     autonomous, analyse           which of the two verdicts is true
 --     Resolution, next_link         a resolution so far, and one link more
---     links, resolve                so many links
+--     links, resolution, resolve    so many links; those from r on; their certificate
 --     extension_ends, extension     the certificate of an extension module; what plan ext does behind the links
 --     ext                           whether an extension module is zero
 --     AnswerOf, course_of           the answer of a plan, and the plan by its name

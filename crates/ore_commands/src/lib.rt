@@ -11,12 +11,12 @@
 //! number or a degree leaves the program's range. The report of a stopped search is valid where it is honest.
 //!
 //! A search reads a problem alone and follows a plan: `analyse`, `kernel`, `parametrise`, `inverse left`, `inverse right`,
-//! `resolve`, `ext` and `adjoint`. It writes the certificate of what it finds, or the problem with the transposed adjoint of its matrix. Where
-//! an operation stops, or the budget of pairs is spent, it writes the report of that, and nothing else comes. So where no
-//! report is honest the search has an answer, if memory, source and sink serve.
+//! `resolve`, `ext` and `adjoint`. It writes the certificate of what it finds, or the problem with the transposed adjoint
+//! of its matrix. Where an operation stops, or the budget of pairs is spent, it writes the report of that, and nothing
+//! else comes. So where no report is honest the search has an answer, if memory, source and sink serve.
 //!
-//! `generate` reads nothing, and writes the problem with a number. `survey` writes the verdict on it, once `check` has found the
-//! certificate valid, and the size of the certificate.
+//! `generate` reads nothing, and writes the problem with a number. `survey` writes the verdict on it, once `check` has
+//! found the certificate valid, and the size of the certificate.
 //!
 //!  * `command`: the commands.
 //!  * `report_check`: the check of a report, by a search with its choices.
@@ -28,12 +28,13 @@
 //!  * `generated`: the reply with a generated problem.
 //!  * `survey`: the reply with the verdict on it.
 //!  * `top`: the top call.
-//!  * `laws`: each input has one reply to `check`; words call one command; a search without an honest report has an answer.
+//!  * `laws`: each input has one reply to `check`, and one to a search; words call one command; a search without an honest
+//!    report has an answer; what is printed of a right certificate is valid.
 //!
 //! The crate stands on `ore_reply` for words, input, output and replies, on `ore_io` for sources and sinks, on
 //! `ore_problem` and `ore_generate` for problems, on `ore_cert` and `ore_check` for certificates, their check and the plans,
-//! on `ore_kernels`, `ore_inverse`, `ore_torsion`, `ore_resolution` and `ore_adjoint` for what is found, on `ore_report` for the choosers of
-//! runs, and on `ore_commutative`, `ore_weyl` and `ore_mixed` for rings.
+//! on `ore_kernels`, `ore_inverse`, `ore_torsion`, `ore_resolution` and `ore_adjoint` for what is found, on `ore_report` for
+//! the choosers of runs, and on `ore_commutative`, `ore_weyl` and `ore_mixed` for rings.
 #![tactic(auto)]
 
 mod check;

@@ -1,5 +1,5 @@
 -- Following a course with the choices of a report decides its first failing line.
---     snoc, at_length, past      of lists with one item more
+--     snoc_front, at_length, past_own    of lists with one item more
 --     fronts                     what is kept, run by run
 --     next_first, next_later     of that the choice whose turn it is, in the first run and behind it
 --     kept_cons, front_cases     the first run that is kept, and the choices given of it

@@ -2,7 +2,7 @@
 -- lead. Such a tree of interactions and answers is a free monad (Swierstra 2008; interaction structures: Hancock and
 -- Setzer 2000).
 --     Course           an answer, a stop of forced work, or a run and what follows its last state
---     _>>=_            a course that goes on with the answer of one before
+--     ◌>>=◌            a course that goes on with the answer of one before
 --     forced           forced work, which gives a value or stops
 --     run_from         a run from its first state; the answer is its last state
 use Rattle.std.specs.declared.result.Result.{Result}

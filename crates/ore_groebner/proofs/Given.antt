@@ -3,7 +3,6 @@
 --     present-cons, earlier-cons         the parts of more runs
 --     present-with_choice, earlier-with_choice, treatment_count_in-with_choice    what the last run, the others and all treat with one more choice
 --     present-start, earlier-start       the same of a run that begins
---     treatment_count_in-start                    the same of what all treat
 --     within_budget_start, within_budget_next      a run that begins, and a choice that the budget allows, stay within the budget
 --     runs_are                           the runs are the others and the last
 --     one_more                           the runs of which the others are those that were there before

@@ -1,6 +1,5 @@
 -- A choice adds at most one basis row, and only where it treats a pair.
 --     IsLonger        a state has basis rows behind those of another, no more than so many
---     bound           the two parts of what goes on with a value
 --     with_row_longer, remainder_longer, treat_longer    treating a pair makes such a state
 --     follow_longer, step_longer     so does a choice
 use Rattle.std.proofs.Common.{◌≡◌, ℕ, ◌≤◌, List, [], ◌∷◌, ◌++◌, length, refl, sym, ap, ◌∙◌, arith}

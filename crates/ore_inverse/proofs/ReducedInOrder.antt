@@ -1,8 +1,10 @@
 -- The loop that reduces rows in order, beside its definition.
 --     unit_row-past                   a unit row whose 1 is past its end
 --     row_stops, row_leaves, row_reduces     the first row of some: it stops, leaves a rest, or leaves nothing
---     rows_next, rows_end             the rows from a place on
---     reduced_stops, reduced_leaves, reduced_more     of stored rows, what one row does
+--     rows_end                        no row is left
+--     summed_more                     one row more that is stored
+--     all_reduced                     the end of stored rows
+--     stored_stops, stored_leaves, stored_reduces     of stored rows, what the row at a place does
 use Rattle.std.proofs.Common.{◌≡◌, ℕ, suc, ◌+◌, ◌<◌, ◌≤◌, false, cond, nat_eq, List, [], ◌∷◌, ◌++◌, length, map, take, drop, refl, sym, ap, ◌∙◌, subst, arith}
 use Rattle.std.specs.List.{slice_get}
 use Rattle.std.specs.declared.option.Option.{Option}

@@ -11,7 +11,7 @@
 --                                                multiple, by operators of the signature
 --     Matrix                                     a list of rows of operators
 --     AdjointOfMatrixProduct, AdjointOfMatrixTwice    of the transposed adjoint of matrices
---     Operator, one                              a finite sum of terms; the operator 1
+--     Operator, zero, one                        a finite sum of terms; the operators 0 and 1
 --     matrix_times, transpose_adjoint            the product of matrices; the transposed adjoint of one
 use Rattle.std.specs.Prelude.{◌≡◌, ◌≢◌, ◌⊎◌, ℕ, List, length}
 use Rattle.ore_algebra.specs.Free as sums

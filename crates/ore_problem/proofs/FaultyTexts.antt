@@ -1,7 +1,7 @@
 -- The fault of a text names its faulty line.
 --     text_of, lines_of-text_of      a text with these lines
 --     lack_ends                      no line of a text has a line end in it
---     all_take, all_append, front_take      the first items of lists
+--     all_take, front_take           the first items of lists
 --     found_stray                    the line of a fault is the first that no text of a set has
 --     whole_closing, front_closing   nothing may follow a problem; anything may
 --     finds_first_faulty_line        the law

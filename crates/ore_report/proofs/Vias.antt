@@ -1,5 +1,4 @@
 -- The least row by way of which a pair may be skipped.
---     there                 the number at a place of 0, 1, ..
 --     first_is, answer      the first number that passes a test, and what is found
 --     position_found, position_none     it is found where it is below the end
 --     one_more              one more number fails

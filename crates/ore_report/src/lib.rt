@@ -10,8 +10,8 @@
 //! budget, the plan and the halt. Where nothing was given before a call that follows a course, it is an honest report
 //! of this course, by the rule and within the budget (`law_followed` of `ore_course`).
 //!
-//! The rule of the live chooser is that choice and no other (`chain_allows` and `chain_allows_spent` in `specs/ChainRule.antt`): at each
-//! state one choice may come ([`law_rule`]).
+//! The rule of the live chooser is that choice and no other (`chain_allows` and `chain_allows_spent` in
+//! `specs/ChainRule.antt`): at each state one choice may come ([`law_rule`]).
 //!
 //! A [`ReplayChooser`] gives the choices of a report, run by run, while each is lawful where it comes; the pair whose
 //! treatment stopped comes behind those of the last run. Its rule is that every lawful choice may come, and its budget

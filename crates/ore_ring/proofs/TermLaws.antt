@@ -1,5 +1,5 @@
 -- The terms of an operator over the fractions in falling order, against the operator.
---     C, _+_, sc       the operator that terms make; sums and scalings of operators
+--     C, ◌+◌, sc       the operator that terms make; sums and scalings of operators
 --     collect-falling  the terms make the operator again
 --     falling-collect  stored terms are the falling terms of what they make
 use Rattle.std.proofs.Common.{◌≡◌}

@@ -1,6 +1,6 @@
 -- Sums, differences and products of operators that stop at limits.
 --     shared_fits, all_shared_fit       the fraction of a monomial that both operators have fits; each of them does
---     plus_within, minus_within         a sum; a difference, which is the sum with the opposite
+--     plus_within, opposite, minus_within    a sum; a difference, which is the sum with the opposite
 --     add_term_within                   a term added to an operator
 --     degrees_fit                       each product of two terms keeps the degree
 --     contribute                        a fraction times a whole number of a product of monomials, added

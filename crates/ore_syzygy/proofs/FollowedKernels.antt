@@ -1,7 +1,7 @@
 -- The code of kernels follows its course.
 --     memory_halts               want of memory is a halt of every course
 --     stop_halts                 so is a stop of forced work
---     RightFollowed              what is left of the course of a right kernel after its first and second statement
+--     after_adjoint, after_run   what is left of the course of a right kernel after its first and second statement
 --     begun, adjoint_formed, run_answered, run_halted, answered     the statements in order
 use Rattle.std.proofs.Common.{◌≡◌, ℕ, Bool, List}
 use Rattle.std.specs.declared.result.Result.{Result}

@@ -2,7 +2,7 @@
 --     row_from-map                 a row that is mapped beside an origin
 --     ordered_row-sums_of          a row of a signature has its order
 --     ordered-rows                 so do rows
---     matrix_is                    so does a matrix
+--     ordered-basis_rows, basis_cofactors    so do the rows of a basis, and their cofactors
 --     counted                      the events made some of its basis rows
 --     last_is                      its last state
 --     exact_is, outside_is         the blocks of a run
