@@ -29,3 +29,13 @@ fn the_first_divisor(rt: HostRuntime) -> Result<(), Fail> {
     }
     Ok(())
 }
+
+#[test]
+fn the_first_of_falling_powers(rt: HostRuntime) -> Result<(), Fail> {
+    let mut leads = Leads::new(rt.alloc());
+    for power in [9, 8, 7, 6, 5, 4, 3, 2, 1] {
+        leads.push(0, monomial(power, 0)?)?;
+    }
+    assert_eq!(rt; leads.first_divisor(0, &monomial(4, 0)?), Some(5));
+    Ok(())
+}
