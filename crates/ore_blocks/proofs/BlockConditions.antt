@@ -43,7 +43,7 @@ use Rattle.ore_blocks.specs.declared.place.Name.TheVariants.{To, Inside, Rest}
 use Rattle.ore_blocks.specs.declared.place.Place.TheVariants as place
 use Rattle.ore_blocks.specs.declared.reason.Reason.TheVariants as reason
 use Rattle.ore_blocks.specs.Conditions.{is_none}
-use Rattle.ore_blocks.specs.CheckBlock.{RowMatrix, plain, entries_of, are_zero, rows_inside, check_basis, check_to, check_pairs, check_inside, check_exact, quotient_steps, check_rest, check_outside}
+use Rattle.ore_blocks.specs.CheckBlock.{RowMatrix, plain, dealt_pairs, are_zero, rows_inside, check_basis, check_to, check_pairs, check_inside, check_exact, quotient_steps, check_rest, check_outside}
 use Rattle.ore_blocks.specs.PlaceConditions.{same_row, is_reduced, less_step, quotient_step}
 use Rattle.ore_blocks.specs.Same.{row_discrete}
 use Rattle.ore_blocks.specs.Valid.{IsValidExactFor, IsValidOutsideFor}
@@ -85,13 +85,13 @@ module _ (s : Signature) where
     q = length a.rows
 
     abbrev inside_count : ℕ
-    inside_count = q + treated_count (entries_of b.pairs)
+    inside_count = q + treated_count (dealt_pairs b.pairs)
 
     -- the sizes and the identities of the inside rows
     abbrev AreInsideRight : List Term → Type 0
     AreInsideRight leads = ((length (rows_of b.inside) ≡ inside_count) × (b.inside.cols ≡ length m.rows))
         × (((k : ℕ) → k < length (rows_of b.from) → row_minus rationals (unit_row rationals q (0 + k)) (combine rationals s q (row_at (rows_of b.from) k) (rows_of b.to)) ≡ combine rationals s q (row_at (rows_of b.inside) k) m.rows)
-        × AreInside rationals s q leads (rows_of b.to) m.rows (entries_of b.pairs) (drop q (rows_of b.inside)))
+        × AreInside rationals s q leads (rows_of b.to) m.rows (dealt_pairs b.pairs) (drop q (rows_of b.inside)))
 
     inside_iff : (leads : List Term) → length (rows_of b.from) ≡ q → AreLong rationals q (rows_of b.to) → (check_inside unlimited s a m leads at (plain b.from) (plain b.to) b.pairs (plain b.inside) ≡ Ok tt) ↔ AreInsideRight leads
     unfolding check_inside
@@ -106,7 +106,7 @@ module _ (s : Signature) where
     -- what is behind the leads
     abbrev IsBehind : List Term → Type 0
     IsBehind leads = (((length (rows_of b.to) ≡ length (rows_of b.basis)) × (b.to.cols ≡ q)) × (matrix_times rationals s a.cols (rows_of b.to) a.rows ≡ rows_of b.basis))
-        × ((AreLawful rationals s s.order a.cols (rows_of b.basis) leads [] (entries_of b.pairs) × (length (entries_of b.pairs) ≡ pair_count leads)) × AreInsideRight leads)
+        × ((AreLawful rationals s s.order a.cols (rows_of b.basis) leads [] (dealt_pairs b.pairs) × (length (dealt_pairs b.pairs) ≡ pair_count leads)) × AreInsideRight leads)
 
     abbrev IsExactRight : Type 0
     IsExactRight = AllByRecursion (λ r. combine rationals s a.cols r a.rows ≡ zero_row rationals a.cols) m.rows × ((leads : List Term) × IsRight s a (plain b.basis) (plain b.from) leads × IsBehind leads)
@@ -123,7 +123,7 @@ module _ (s : Signature) where
       valid = record {
         leads = leads;
         annihilates = zeros;
-        is_basis = basis_from s a (plain b.basis) (plain b.from) leads (entries_of b.pairs) (wide_rows s b.basis of.basis) (wide_rows s b.from of.from) basis pairs.0 pairs.1;
+        is_basis = basis_from s a (plain b.basis) (plain b.from) leads (dealt_pairs b.pairs) (wide_rows s b.basis of.basis) (wide_rows s b.from of.from) basis pairs.0 pairs.1;
         to_shape = (to.0.0, to_long to.0.1);
         to_is = to.1;
         inside_shape = (inside.0.0, subst (λ n. AreLong rationals n (rows_of b.inside)) inside.0.1 (wide_rows s b.inside of.inside));
@@ -139,7 +139,7 @@ module _ (s : Signature) where
       v.annihilates,
       (
         v.leads,
-        right_from s a (plain b.basis) (plain b.from) v.leads (entries_of b.pairs) h.basis_columns (h.from_columns ∙ sym (rows_count b.basis)) v.is_basis,
+        right_from s a (plain b.basis) (plain b.from) v.leads (dealt_pairs b.pairs) h.basis_columns (h.from_columns ∙ sym (rows_count b.basis)) v.is_basis,
         (
           ((v.to_shape.0, h.to_columns), v.to_is),
           (
@@ -230,7 +230,7 @@ module _ (s : Signature) where
   module _ (a : RowMatrix) (w : Row rationals) (b : OutsideBlock) (of : IsOutsideOf s b) where
     -- what is behind the leads
     abbrev IsBehindLeads : List Term → Type 0
-    IsBehindLeads leads = (AreLawful rationals s s.order a.cols (rows_of b.basis) leads [] (entries_of b.pairs) × (length (entries_of b.pairs) ≡ pair_count leads))
+    IsBehindLeads leads = (AreLawful rationals s s.order a.cols (rows_of b.basis) leads [] (dealt_pairs b.pairs) × (length (dealt_pairs b.pairs) ≡ pair_count leads))
         × (AllByRecursion (λ (t : Step rationals). t.index < length (rows_of b.basis)) b.quotients × ((length b.rest ≡ a.cols) × ((remainder_after rationals s (rows_of b.basis) b.quotients w ≡ sums_of b.rest) × IsReduced leads (sums_of b.rest))))
 
     outside_from : (leads : List Term) × IsRight s a (plain b.basis) (plain b.from) leads × IsBehindLeads leads → IsValidOutsideFor s a w b
@@ -240,7 +240,7 @@ module _ (s : Signature) where
       rest_columns = rest;
       valid = record {
         leads = leads;
-        is_basis = basis_from s a (plain b.basis) (plain b.from) leads (entries_of b.pairs) (wide_rows s b.basis of.basis) (wide_rows s b.from of.from) basis pairs.0 pairs.1;
+        is_basis = basis_from s a (plain b.basis) (plain b.from) leads (dealt_pairs b.pairs) (wide_rows s b.basis of.basis) (wide_rows s b.from of.from) basis pairs.0 pairs.1;
         steps_within = All-weaker (λ t. t.index < length (rows_of b.basis)) (λ t. t.index < length leads) (λ t k. subst (λ n. t.index < n) (sym basis.monic.long) k) b.quotients within;
         rest_is = left;
         rest_lead = reduced.lead;
@@ -253,7 +253,7 @@ module _ (s : Signature) where
     outside_right : IsValidOutsideFor s a w b → (leads : List Term) × IsRight s a (plain b.basis) (plain b.from) leads × IsBehindLeads leads
     outside_right h = let v = h.valid in (
       v.leads,
-      right_from s a (plain b.basis) (plain b.from) v.leads (entries_of b.pairs) h.basis_columns (h.from_columns ∙ sym (rows_count b.basis)) v.is_basis,
+      right_from s a (plain b.basis) (plain b.from) v.leads (dealt_pairs b.pairs) h.basis_columns (h.from_columns ∙ sym (rows_count b.basis)) v.is_basis,
       (
         (v.is_basis.lawful, v.is_basis.counted),
         (

@@ -22,7 +22,7 @@ use Rattle.ore_parts.specs.declared.block.PairEntry.TheVariants.{Pair, Skip}
 use Rattle.ore_parts.specs.declared.block.ExactBlock.{ExactBlock}
 use Rattle.ore_parts.specs.declared.block.OutsideBlock.{OutsideBlock}
 use Rattle.ore_parts.specs.OfSignature.{MatrixOf, IsEntryOf, IsExactOf, IsOutsideOf}
-use Rattle.ore_blocks.specs.CheckBlock.{entries_of}
+use Rattle.ore_blocks.specs.CheckBlock.{dealt_pairs}
 pub use Rattle.ore_blocks.specs.Valid.{exact_of, outside_of}
 
 pub rows_count : (m : OperatorMatrix) → length (rows_of m) ≡ length m.rows
@@ -42,7 +42,7 @@ module _ (s : Signature) where
   steps_are_of : (steps : List (Step rationals)) → All (λ t. MonomialOf s t.monomial) steps → AreStepsOf rationals s steps
   steps_are_of steps h = recursion_from_All (λ t. MonomialOf s t.monomial) steps h
 
-  entries_are_of : (es : List PairEntry) → All (IsEntryOf s) es → AreEntriesOf rationals s (entries_of es)
+  entries_are_of : (es : List PairEntry) → All (IsEntryOf s) es → AreEntriesOf rationals s (dealt_pairs es)
   entries_are_of [] h = tt
   entries_are_of (Pair i j steps ∷ es) h = (steps_are_of steps (All-head (IsEntryOf s) (Pair i j steps) es h), entries_are_of es (All-tail (IsEntryOf s) (Pair i j steps) es h))
   entries_are_of (Skip i j via ∷ es) h = entries_are_of es (All-tail (IsEntryOf s) (Skip i j via) es h)

@@ -33,7 +33,7 @@ use Rattle.ore_blocks.specs.declared.place.Place.TheVariants as place
 use Rattle.ore_blocks.specs.declared.reason.Reason.TheVariants as reason
 use Rattle.ore_blocks.specs.Conditions.{formed, required}
 use Rattle.ore_algebra.specs.Results.{◌>>=◌}
-use Rattle.ore_blocks.specs.CheckBlock.{check_entries, check_entry, check_steps, entries_of, pair_of, rows_taken}
+use Rattle.ore_blocks.specs.CheckBlock.{check_entries, check_entry, check_steps, dealt_pairs, pair_of, rows_taken}
 use Rattle.ore_blocks.specs.InnerContracts.{IsTreatable}
 use Rattle.ore_blocks.specs.PlaceConditions.{check_step}
 use Rattle.ore_blocks.proofs.Passed.{formed_then, nat_lt_true, required_then, required_true}
@@ -43,7 +43,7 @@ use Rattle.ore_algebra.proofs.ListLaws.{drop_read}
 -- ---- numbers
 
 abbrev treated : List PairEntry → ℕ
-treated es = treated_count (entries_of es)
+treated es = treated_count (dealt_pairs es)
 
 pub treated_next : (es : List PairEntry) (k : ℕ) (e : PairEntry) → slice_get es k ≡ Some e → treated (drop k es) ≡ rows_taken e + treated (drop (k + 1) es)
 unfolding treated_count

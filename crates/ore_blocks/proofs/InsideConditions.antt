@@ -9,7 +9,7 @@ use Rattle.ore_monomial.specs.Signature.{Signature}
 use Rattle.ore_monomial.specs.Term.{Term}
 use Rattle.ore_rows.specs.Arithmetic.{within}
 use Rattle.ore_rows.specs.Rows.{Row, AreLong, unit_row, row_minus, combine}
-use Rattle.ore_rows.specs.RowsWithin.{difference_within, combine_within}
+use Rattle.ore_rows.specs.RowsWithin.{row_difference_within, combine_within}
 use Rattle.ore_rows.specs.Reduction.{Step, row_at, remainder_after}
 use Rattle.ore_rows.proofs.WithinValues.{combine_unlimited, difference_unlimited}
 use Rattle.ore_pairs.specs.Blocks.{AreInside}
@@ -22,7 +22,7 @@ use Rattle.ore_blocks.specs.declared.place.Name.TheVariants.{Inside}
 use Rattle.ore_blocks.specs.declared.place.Place.{Place}
 use Rattle.ore_blocks.specs.declared.place.Place.TheVariants as place
 use Rattle.ore_blocks.specs.declared.reason.Reason.TheVariants as reason
-use Rattle.ore_blocks.specs.CheckBlock.{entries_of, rows_inside, pairs_inside}
+use Rattle.ore_blocks.specs.CheckBlock.{dealt_pairs, rows_inside, pairs_inside}
 use Rattle.ore_blocks.specs.PlaceConditions.{same_row, less_steps, row_inside, pair_inside}
 use Rattle.ore_blocks.specs.Same.{row_discrete}
 use Rattle.ore_blocks.proofs.Equivalences.{map_iff, goes_iff, formed_iff, passes_iff, same_iff}
@@ -38,7 +38,7 @@ module _ (s : Signature) (q : ℕ) (to m : List (Row rationals)) (long : AreLong
   unfolding row_inside
   row_inside_iff place i f r =
       formed_iff place (combine_within unlimited s q f to) _ (combine rationals s q f to) tt (combine_unlimited s q f to long)
-      (formed_iff place (difference_within unlimited (unit_row rationals q i) (combine rationals s q f to)) _ (row_minus rationals (unit_row rationals q i) (combine rationals s q f to)) tt
+      (formed_iff place (row_difference_within unlimited (unit_row rationals q i) (combine rationals s q f to)) _ (row_minus rationals (unit_row rationals q i) (combine rationals s q f to)) tt
       (difference_unlimited (unit_row rationals q i) (combine rationals s q f to))
       (formed_iff place (combine_within unlimited s q r m) _ (combine rationals s q r m) tt (combine_unlimited s q r m wide)
       (passes_iff place reason.Inside (same_row (row_minus rationals (unit_row rationals q i) (combine rationals s q f to)) (combine rationals s q r m)) (same_iff row_discrete _ _))))
@@ -77,8 +77,8 @@ module _ (s : Signature) (q : ℕ) (to m : List (Row rationals)) (long : AreLong
       (formed_iff place (combine_within unlimited s q r m) _ (combine rationals s q r m) tt (combine_unlimited s q r m wide)
       (passes_iff place reason.Inside (same_row (remainder_after rationals s to steps (s_row rationals s leads to i j)) (combine rationals s q r m)) (same_iff row_discrete _ _))))
 
-  pub pairs_inside_iff : (leads : List Term) (at : Section) (n : ℕ) (es : List PairEntry) (rs : List (Row rationals)) → length rs ≡ treated_count (entries_of es)
-      → (pairs_inside unlimited s q leads to m at n es rs ≡ Ok tt) ↔ AreInside rationals s q leads to m (entries_of es) rs
+  pub pairs_inside_iff : (leads : List Term) (at : Section) (n : ℕ) (es : List PairEntry) (rs : List (Row rationals)) → length rs ≡ treated_count (dealt_pairs es)
+      → (pairs_inside unlimited s q leads to m at n es rs ≡ Ok tt) ↔ AreInside rationals s q leads to m (dealt_pairs es) rs
   unfolding pairs_inside pair_inside treated_count
   pairs_inside_iff leads at n [] [] e = (λ h. tt, λ h. refl)
   pairs_inside_iff leads at n [] (r ∷ rs) e = absurd (omega arith)

@@ -38,7 +38,7 @@ use Rattle.ore_blocks.specs.declared.place.Place.{Place}
 use Rattle.ore_blocks.specs.declared.place.Place.TheVariants as place
 use Rattle.ore_blocks.specs.declared.reason.Reason.TheVariants as reason
 use Rattle.ore_blocks.specs.Conditions.{is_none}
-use Rattle.ore_blocks.specs.CheckBlock.{pair_of, entry_of, entries_of, check_steps, check_entry, check_entries, check_pairs}
+use Rattle.ore_blocks.specs.CheckBlock.{pair_of, entry_of, dealt_pairs, check_steps, check_entry, check_entries, check_pairs}
 use Rattle.ore_blocks.specs.PlaceConditions.{is_below, less_step, check_step}
 use Rattle.ore_blocks.proofs.Equivalences.{same_claim, map_iff, goes_iff, gives_iff, required_iff, formed_iff, formed_value_iff, passes_iff, nat_eq_iff, nat_lt_iff, both_iff, below_iff, none_iff}
 use Rattle.ore_blocks.proofs.RowConditions.{s_row_exact, stepped, step_exact}
@@ -107,7 +107,7 @@ module _ (s : Signature) (basis : List (Row rationals)) (leads : List Term) wher
         passes_iff (place.Pair at k 0) reason.Skip (may_treat leads (pairs_of before) i j && may_skip leads (pairs_of before) i j via)
         (both_iff (may_treat leads (pairs_of before) i j) (may_skip leads (pairs_of before) i j via) same_claim same_claim)
 
-    entries_iff : (at : Section) (k : ℕ) (before : List (DealtPair rationals)) (es : List PairEntry) → (check_entries unlimited s basis leads at k (pairs_of before) es ≡ Ok tt) ↔ AreLawful rationals s s.order n basis leads before (entries_of es)
+    entries_iff : (at : Section) (k : ℕ) (before : List (DealtPair rationals)) (es : List PairEntry) → (check_entries unlimited s basis leads at k (pairs_of before) es ≡ Ok tt) ↔ AreLawful rationals s s.order n basis leads before (dealt_pairs es)
     unfolding check_entries pair_of
     entries_iff at k before [] = (λ h. tt, λ h. refl)
     entries_iff at k before (Pair i j steps ∷ es) =
@@ -115,7 +115,7 @@ module _ (s : Signature) (basis : List (Row rationals)) (leads : List Term) wher
     entries_iff at k before (Skip i j via ∷ es) =
         goes_iff (check_entry unlimited s basis leads at k (pairs_of before) (Skip i j via)) _ tt (skipped_iff at k before i j via) (λ here. entries_iff at (suc k) (listed.Skip i j via ∷ before) es)
 
-    pub pairs_iff : (at : Section) (es : List PairEntry) → (check_pairs unlimited s basis leads at es ≡ Ok tt) ↔ (AreLawful rationals s s.order n basis leads [] (entries_of es) × (length (entries_of es) ≡ pair_count leads))
+    pub pairs_iff : (at : Section) (es : List PairEntry) → (check_pairs unlimited s basis leads at es ≡ Ok tt) ↔ (AreLawful rationals s s.order n basis leads [] (dealt_pairs es) × (length (dealt_pairs es) ≡ pair_count leads))
     unfolding check_pairs
     pairs_iff at es = map_iff
         (required_iff (place.Pairs at) reason.Pairs (nat_eq (length es) (pair_count leads)) _ tt (nat_eq_iff (length es) (pair_count leads)) (λ counted. entries_iff at 0 [] es))

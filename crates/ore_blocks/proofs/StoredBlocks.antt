@@ -1,6 +1,6 @@
 -- Stored rows, matrices and blocks beside the plain ones from which they are made.
 --     sums_of-ordered_row, rows_of-stored     without the orders, a row and a matrix are what they were
---     entries_of-stored                       so are the entries of a list of pairs
+--     dealt_pairs-stored                      so are the entries of a list of pairs
 --     exact_of-stored, outside_of-stored      so are blocks
 --     row_stored, matrix_stored, entries_stored     of a signature, where the plain ones are
 --     exact_stored, outside_stored            so are blocks, where their rows are as long as their matrices ask
@@ -28,7 +28,7 @@ use Rattle.ore_pairs.specs.Steps.{AreStepsOf}
 use Rattle.ore_parts.specs.OfSignature.{MatrixOf, IsEntryOf, IsExactOf, IsOutsideOf}
 use Rattle.ore_parts.specs.declared.block.PairEntry.TheVariants.{Pair, Skip}
 use Rattle.ore_blocks.specs.BlockOfRun.{ordered_row, stored_matrix, stored_entry, stored_exact, stored_outside, exact_block_of, outside_block_of}
-use Rattle.ore_blocks.specs.CheckBlock.{RowMatrix, entries_of}
+use Rattle.ore_blocks.specs.CheckBlock.{RowMatrix, dealt_pairs}
 use Rattle.ore_blocks.specs.Valid.{exact_of, outside_of, IsValidExactFor, IsValidOutsideFor}
 
 module _ (o : Order) where
@@ -40,10 +40,10 @@ module _ (o : Order) where
   rows_of-stored n [] = refl
   rows_of-stored n (r ∷ rows) = λ i. sums_of-ordered_row r i ∷ rows_of-stored n rows i
 
-pub entries_of-stored : (es : List (DealtPair rationals)) → entries_of (map stored_entry es) ≡ es
-entries_of-stored [] = refl
-entries_of-stored (listed.Pair i j steps ∷ es) = λ k. listed.Pair i j steps ∷ entries_of-stored es k
-entries_of-stored (listed.Skip i j via ∷ es) = λ k. listed.Skip i j via ∷ entries_of-stored es k
+pub dealt_pairs-stored : (es : List (DealtPair rationals)) → dealt_pairs (map stored_entry es) ≡ es
+dealt_pairs-stored [] = refl
+dealt_pairs-stored (listed.Pair i j steps ∷ es) = λ k. listed.Pair i j steps ∷ dealt_pairs-stored es k
+dealt_pairs-stored (listed.Skip i j via ∷ es) = λ k. listed.Skip i j via ∷ dealt_pairs-stored es k
 
 module _ (o : Order) (n : ℕ) where
   pub exact_of-stored : (q m : ℕ) (b : blocks.ExactBlock rationals) → exact_of (stored_exact o n q m b) ≡ b
@@ -51,7 +51,7 @@ module _ (o : Order) (n : ℕ) where
     basis = rows_of-stored o n b.basis i;
     from = rows_of-stored o (length b.basis) b.from i;
     to = rows_of-stored o q b.to i;
-    entries = entries_of-stored b.entries i;
+    entries = dealt_pairs-stored b.entries i;
     inside = rows_of-stored o m b.inside i;
   }
 
@@ -59,7 +59,7 @@ module _ (o : Order) (n : ℕ) where
   outside_of-stored b = λ i. record {
     basis = rows_of-stored o n b.basis i;
     from = rows_of-stored o (length b.basis) b.from i;
-    entries = entries_of-stored b.entries i;
+    entries = dealt_pairs-stored b.entries i;
     steps = b.steps;
     rest = sums_of-ordered_row o b.rest i;
   }

@@ -2,7 +2,7 @@
 --     RowMatrix, plain               a matrix as its columns and rows
 --     rows_taken                 how many inside rows an entry takes
 --     pair_of                    the pair of an entry
---     entry_of, entries_of       an entry, and a list of them, as the laws on lists of pairs have them
+--     entry_of, dealt_pairs      an entry, and a list of them, as the laws on lists of pairs have them
 --     are_zero                   some rows are zero
 --     monic_leads                the leads of basis rows, from row k on
 --     rows_give                  the rows of a matrix with a name times another are given rows, from row k on
@@ -74,8 +74,8 @@ entry_of (Pair i j steps) = listed.Pair i j steps
 entry_of (Skip i j via) = listed.Skip i j via
 
 -- a list of entries, as these laws have it
-abbrev pub entries_of : List PairEntry → List (DealtPair rationals)
-entries_of es = map entry_of es
+abbrev pub dealt_pairs : List PairEntry → List (DealtPair rationals)
+dealt_pairs es = map entry_of es
 
 -- ---- lists of places
 
@@ -170,7 +170,7 @@ module _ (l : Limits) (s : Signature) where
   -- the inside rows
   unfoldable pub check_inside : RowMatrix → RowMatrix → List Term → Section → RowMatrix → RowMatrix → List PairEntry → RowMatrix → Checked (Unit {0})
   check_inside a m leads at from to pairs inside = do
-    _ ← required (place.Header at Inside) reason.Shape (nat_eq (length inside.rows) (length a.rows + treated_count (entries_of pairs)) && nat_eq inside.cols (length m.rows))
+    _ ← required (place.Header at Inside) reason.Shape (nat_eq (length inside.rows) (length a.rows + treated_count (dealt_pairs pairs)) && nat_eq inside.cols (length m.rows))
     _ ← rows_inside (length a.rows) to.rows m.rows at 0 from.rows inside.rows
     pairs_inside (length a.rows) leads to.rows m.rows at (length a.rows) pairs (drop (length a.rows) inside.rows)
 

@@ -25,7 +25,7 @@ use Rattle.ore_monomial.specs.declared.order.Order.{Order}
 use Rattle.ore_leads.specs.FirstDivisor.{first_divisor}
 use Rattle.ore_rows.specs.Rows.{Row, unit_row}
 use Rattle.ore_rows.specs.RowLead.{coefficient_at, row_lead}
-use Rattle.ore_rows.specs.RowsWithin.{difference_within, combine_within}
+use Rattle.ore_rows.specs.RowsWithin.{row_difference_within, combine_within}
 use Rattle.ore_rows.specs.Arithmetic.{within}
 use Rattle.ore_rows.specs.Reduction.{Step, step_operator, row_at, less_multiple}
 use Rattle.ore_pairs.specs.Steps.{lead_at, s_row_within}
@@ -104,7 +104,7 @@ module _ (l : Limits) (s : Signature) where
   unfoldable pub row_inside : ℕ → List (Row rationals) → List (Row rationals) → Place → ℕ → Row rationals → Row rationals → Checked (Unit {0})
   row_inside q to m place i f r = do
     product ← formed place (combine_within l s q f to)
-    left ← formed place (difference_within l (unit_row rationals q i) product)
+    left ← formed place (row_difference_within l (unit_row rationals q i) product)
     right ← formed place (combine_within l s q r m)
     required place reason.Inside (same_row left right)
 

@@ -9,15 +9,15 @@ use Rattle.ore_rows.specs.Stored.{sums_of, rows_of}
 use Rattle.ore_pairs.specs.Blocks as blocks
 use Rattle.ore_parts.specs.declared.block.ExactBlock.{ExactBlock}
 use Rattle.ore_parts.specs.declared.block.OutsideBlock.{OutsideBlock}
-use Rattle.ore_blocks.specs.CheckBlock.{RowMatrix, entries_of}
+use Rattle.ore_blocks.specs.CheckBlock.{RowMatrix, dealt_pairs}
 
 -- the matrices of an exact block as rows alone, and its pairs
 abbrev pub exact_of : ExactBlock → blocks.ExactBlock rationals
-exact_of b = record { basis = rows_of b.basis; from = rows_of b.from; to = rows_of b.to; entries = entries_of b.pairs; inside = rows_of b.inside }
+exact_of b = record { basis = rows_of b.basis; from = rows_of b.from; to = rows_of b.to; entries = dealt_pairs b.pairs; inside = rows_of b.inside }
 
 -- the matrices of an outside block as rows alone, its pairs, its steps and its rest
 abbrev pub outside_of : OutsideBlock → blocks.OutsideBlock rationals
-outside_of b = record { basis = rows_of b.basis; from = rows_of b.from; entries = entries_of b.pairs; steps = b.quotients; rest = sums_of b.rest }
+outside_of b = record { basis = rows_of b.basis; from = rows_of b.from; entries = dealt_pairs b.pairs; steps = b.quotients; rest = sums_of b.rest }
 
 module _ (s : Signature) where
   -- each matrix has the columns that its products ask, and the block shows that what takes a to zeros is the row module

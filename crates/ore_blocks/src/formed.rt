@@ -11,7 +11,7 @@ ghost use Rattle.ore_monomial.specs.declared.stop.RingStop.TheVariants.{Memory};
 ghost use Rattle.ore_ring.specs.Belongs.{AllBelong, Belongs};
 ghost use Rattle.ore_rows.specs.Arithmetic.{within};
 ghost use Rattle.ore_rows.specs.Reduction.{step_operator};
-ghost use Rattle.ore_rows.specs.RowsWithin.{combine_within, difference_within, matrix_times_within};
+ghost use Rattle.ore_rows.specs.RowsWithin.{combine_within, row_difference_within, matrix_times_within};
 ghost use Rattle.ore_rows.specs.Stored.{rows_of, sums_of};
 ghost use Rattle.ore_pairs.specs.Steps.{lcm_of_leads, s_row_within};
 ghost use Rattle.ore_parts.specs.OfSignature.{AreStoredStepsOf};
@@ -87,7 +87,7 @@ pub fn difference<R: OreRing>(
     requires lengths { length a.now ≡ length b.now }
     requires a_of { AllBelong (R.sig ring.now) a.now }
     requires b_of { AllBelong (R.sig ring.now) b.now }
-    ensures judges { Judges sums_of result (formed place (difference_within program (sums_of a.now) (sums_of b.now))) }
+    ensures judges { Judges sums_of result (formed place (row_difference_within program (sums_of a.now) (sums_of b.now))) }
     ensures of { IfOk result (AllBelong (R.sig ring.now)) }
 {
     at_place(place, row_sub(ring, alloc, a, b))

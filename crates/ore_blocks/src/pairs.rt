@@ -13,7 +13,7 @@ ghost use Rattle.ore_pairs.specs.PairList.{pair_count, treated_count};
 ghost use Rattle.ore_pairs.specs.PairRule.{HaveSamePairs, may_skip, may_treat};
 ghost use Rattle.ore_pairs.specs.Steps.{common_fits, lcm_of_leads};
 ghost use Rattle.ore_parts.specs.OfSignature.{IsEntryOf};
-ghost use Rattle.ore_blocks.specs.CheckBlock.{check_entry, check_pairs, entries_of, pair_of, rows_taken};
+ghost use Rattle.ore_blocks.specs.CheckBlock.{check_entry, check_pairs, dealt_pairs, pair_of, rows_taken};
 ghost use Rattle.ore_blocks.specs.Conditions.{formed, required};
 ghost use Rattle.ore_blocks.specs.Judging.{Judges};
 ghost use Rattle.ore_blocks.specs.InnerContracts.{IsTreatable};
@@ -92,7 +92,7 @@ fn list_pair(leads: &Leads, listed: &mut Listed, entry: &PairEntry) -> Result<()
 
 /// How many of some pairs are treated.
 pub fn treated_count(pairs: &Pairs) -> usize
-    ensures { result ≡ treated_count (entries_of pairs.now) }
+    ensures { result ≡ treated_count (dealt_pairs pairs.now) }
 {
     let mut treated = 0;
     for k in 0..pairs.len() {

@@ -4,7 +4,7 @@
 
 ghost use Rattle.std.specs.Prelude.{◌≡◌, slice_get};
 ghost use Rattle.std.specs.List.{All};
-ghost use Rattle.ore_ring.specs.Terms.{Term, falling};
+ghost use Rattle.ore_ring.specs.Terms.{Summand, falling};
 ghost use Rattle.ore_text.specs.Printable.{IsStorableTerm, IsStorable};
 ghost use Rattle.ore_cert.specs.Storable.{IsStorableStep, AreStorableSteps, IsStorableEntry, AreStorablePairs, IsStorableRow, IsStorableMatrix, IsStorableExact, IsStorableOutside, IsStorableLink, IsStorableCertificate};
 
@@ -206,7 +206,7 @@ fn operator_is_storable(op: &Op)
 
 // The term at place `k`, if there is one.
 fn term_at(op: &Op, k: usize)
-    ensures { (t : Term) → slice_get (falling op.now.by op.now.sum) k ≡ Some t → IsStorableTerm t }
+    ensures { (t : Summand) → slice_get (falling op.now.by op.now.sum) k ≡ Some t → IsStorableTerm t }
 {
     if let Some(term) = op.get(k) {
         term_is_storable(&term.0, &term.1);

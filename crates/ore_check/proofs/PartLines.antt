@@ -31,7 +31,7 @@ use Rattle.ore_blocks.specs.declared.place.Name.TheVariants.{Generators, Element
 use Rattle.ore_blocks.specs.declared.place.Place.{Place}
 use Rattle.ore_blocks.specs.declared.place.Place.TheVariants as place
 use Rattle.ore_check.specs.Check.{IsNoReport}
-use Rattle.ore_check.specs.Layout.{behind, exact_layout, outside_layout, link_layout, behind_links, link_line, linked_line, line_of, line_in, section_of}
+use Rattle.ore_check.specs.Layout.{line_behind, exact_layout, outside_layout, link_layout, behind_links, link_line, linked_line, line_of, line_in, section_of}
 use Rattle.ore_check.specs.Parts.{Part, matrix_at, part_at_row, exact_parts, outside_parts, link_parts, parts_of, FollowOn}
 use Rattle.ore_check.proofs.TextLines.{Spans, spans_line, matrix_spans, row_spans, pairs_span, quotients_span}
 
@@ -84,8 +84,8 @@ module _ (s : Signature) (names : List (List ℕ)) (are : AreNames names) (fit :
       let first = matrix_at names s.order (section.Link i) Generators (codes "L") k.l in
       let behind_block = links_follow at (suc i) (link_layout a k).end ks parts (All-tail (IsWrittenLink s names) k ks h) later rest in
       subst (FollowOn at a) (sym (append_assoc (first ∷ exact_parts names s.order (section.Link i) k.block) more parts))
-      (follow at a (behind a k.l) first (exact_parts names s.order (section.Link i) k.block ++ (more ++ parts)) (here (place.Header (section.Link i) Generators) refl) (matrix_spans s names are fit (codes "L") k.l a refl)
-      (exact_follow at (section.Link i) a (behind a k.l) k.block (more ++ parts) written.block here behind_block))
+      (follow at a (line_behind a k.l) first (exact_parts names s.order (section.Link i) k.block ++ (more ++ parts)) (here (place.Header (section.Link i) Generators) refl) (matrix_spans s names are fit (codes "L") k.l a refl)
+      (exact_follow at (section.Link i) a (line_behind a k.l) k.block (more ++ parts) written.block here behind_block))
     where
       here : LinesOf at (section.Link i) (line_of (link_layout a k) k.block.pairs)
       here p e = lines 0 p (e ∙ ap section.Link (let n : i ≡ i + 0 = omega arith in n))
@@ -98,15 +98,15 @@ module _ (s : Signature) (names : List (List ℕ)) (are : AreNames names) (fit :
   parts_follow : (c : Certificate) → IsWrittenCertificate s names c → IsNoReport c → FollowOn (line_in c) 3 (parts_of names s.order c)
   parts_follow (Controllable q block) h claims =
       let c = Controllable q block in
-      follow (line_in c) 3 (behind 3 q) _ _ refl (matrix_spans s names are fit (codes "Q") q 3 refl) (exact_follow (line_in c) section.Body 3 (behind 3 q) block [] h.1 (λ p e. refl) (ends (line_in c) _ refl))
+      follow (line_in c) 3 (line_behind 3 q) _ _ refl (matrix_spans s names are fit (codes "Q") q 3 refl) (exact_follow (line_in c) section.Body 3 (line_behind 3 q) block [] h.1 (λ p e. refl) (ends (line_in c) _ refl))
   parts_follow (AutonomousElement element operator cofactor block) h claims =
       let c = AutonomousElement element operator cofactor block in
       follow (line_in c) 3 5 _ _ refl (row_spans s names are fit (codes "element") element 3 refl)
       (follow (line_in c) 5 6 _ _ refl (spans_line (operator_words s names (codes "operator") operator) 5 ((operator_words_are s names are fit (codes "operator") refl).lacks operator h.1))
       (follow (line_in c) 6 8 _ _ refl (row_spans s names are fit (codes "cofactor") cofactor 6 refl)
       (outside_follow (line_in c) 3 8 block h.3 (λ p e. refl))))
-  parts_follow (LeftInverse m) h claims = let c = LeftInverse m in follow (line_in c) 3 (behind 3 m) _ _ refl (matrix_spans s names are fit (codes "S") m 3 refl) (ends (line_in c) _ refl)
-  parts_follow (RightInverse m) h claims = let c = RightInverse m in follow (line_in c) 3 (behind 3 m) _ _ refl (matrix_spans s names are fit (codes "S") m 3 refl) (ends (line_in c) _ refl)
+  parts_follow (LeftInverse m) h claims = let c = LeftInverse m in follow (line_in c) 3 (line_behind 3 m) _ _ refl (matrix_spans s names are fit (codes "S") m 3 refl) (ends (line_in c) _ refl)
+  parts_follow (RightInverse m) h claims = let c = RightInverse m in follow (line_in c) 3 (line_behind 3 m) _ _ refl (matrix_spans s names are fit (codes "S") m 3 refl) (ends (line_in c) _ refl)
   parts_follow (NoLeftInverse unit block) h claims =
       let c = NoLeftInverse unit block in
       follow (line_in c) 3 4 _ _ refl (spans_line (codes "unit " ++ place_text unit) 3 (unit_words_are.lacks unit h.0)) (outside_follow (line_in c) 3 4 block h.1 (λ p e. refl))
@@ -115,10 +115,10 @@ module _ (s : Signature) (names : List (List ℕ)) (are : AreNames names) (fit :
       follow (line_in c) 3 4 _ _ refl (spans_line (codes "unit " ++ place_text unit) 3 (unit_words_are.lacks unit h.0)) (outside_follow (line_in c) 3 4 block h.1 (λ p e. refl))
   parts_follow (Kernel Left m block) h claims =
       let c = Kernel Left m block in
-      follow (line_in c) 3 (behind 3 m) _ _ refl (matrix_spans s names are fit (codes "L") m 3 refl) (exact_follow (line_in c) section.Body 3 (behind 3 m) block [] h.1 (λ p e. refl) (ends (line_in c) _ refl))
+      follow (line_in c) 3 (line_behind 3 m) _ _ refl (matrix_spans s names are fit (codes "L") m 3 refl) (exact_follow (line_in c) section.Body 3 (line_behind 3 m) block [] h.1 (λ p e. refl) (ends (line_in c) _ refl))
   parts_follow (Kernel Right m block) h claims =
       let c = Kernel Right m block in
-      follow (line_in c) 3 (behind 3 m) _ _ refl (matrix_spans s names are fit (codes "Q") m 3 refl) (exact_follow (line_in c) section.Body 3 (behind 3 m) block [] h.1 (λ p e. refl) (ends (line_in c) _ refl))
+      follow (line_in c) 3 (line_behind 3 m) _ _ refl (matrix_spans s names are fit (codes "Q") m 3 refl) (exact_follow (line_in c) section.Body 3 (line_behind 3 m) block [] h.1 (λ p e. refl) (ends (line_in c) _ refl))
   parts_follow (Resolution links) h claims =
       let c = Resolution links in
       subst (FollowOn (line_in c) 3) (append-nil (link_parts names s.order 0 links))

@@ -45,7 +45,7 @@ use Rattle.ore_cert.proofs.KindLaws.{kind_line}
 use Rattle.ore_cert.proofs.WholeLaws.{unit_words_are, operator_words_are}
 use Rattle.ore_blocks.specs.declared.place.Place.TheVariants.{End}
 use Rattle.ore_check.specs.Check.{IsNoReport}
-use Rattle.ore_check.specs.Layout.{entry_lines, lines_before, behind, exact_layout, outside_layout, link_layout, behind_links, line_in}
+use Rattle.ore_check.specs.Layout.{entry_lines, lines_before, line_behind, exact_layout, outside_layout, link_layout, behind_links, line_in}
 
 -- as many whole lines as lie between
 abbrev pub Spans : List ℕ → ℕ → ℕ → Type 0
@@ -61,7 +61,7 @@ pub spans_line : (words : List ℕ) (a : ℕ) → LacksByte 10 words → Spans (
 spans_line words a h = (1, whole_line (words ++ 10 ∷ []) (words, h, refl), omega arith)
 
 module _ (s : Signature) (names : List (List ℕ)) (are : AreNames names) (fit : length names ≡ length s.kinds) where
-  pub matrix_spans : (name : List ℕ) (m : OperatorMatrix) (a : ℕ) → LacksByte 10 name → Spans (matrix_part names s.order name m) a (behind a m)
+  pub matrix_spans : (name : List ℕ) (m : OperatorMatrix) (a : ℕ) → LacksByte 10 name → Spans (matrix_part names s.order name m) a (line_behind a m)
   matrix_spans name m a h = (1 + length (rows_of m), whole_matrix name names s.order are h m.cols (rows_of m), (let e = length-map m.rows sums_of in omega arith))
 
   pub row_spans : (name : List ℕ) (r : List Ordered) (a : ℕ) → LacksByte 10 name → Spans (row_part names s.order name r) a (a + 2)
@@ -127,7 +127,7 @@ module _ (s : Signature) (names : List (List ℕ)) (are : AreNames names) (fit :
       (row_spans (codes "rest") b.rest l.rest refl)))))
 
   link_spans : (k : Link) (a : ℕ) → IsWrittenLink s names k → Spans (link_text names s.order k) a (link_layout a k).end
-  link_spans k a h = spans_append (matrix_part names s.order (codes "L") k.l) (exact_text names s.order k.block) a (behind a k.l) (link_layout a k).end (matrix_spans (codes "L") k.l a refl) (exact_spans a (behind a k.l) k.block h.block)
+  link_spans k a h = spans_append (matrix_part names s.order (codes "L") k.l) (exact_text names s.order k.block) a (line_behind a k.l) (link_layout a k).end (matrix_spans (codes "L") k.l a refl) (exact_spans a (line_behind a k.l) k.block h.block)
 
   links_span : (ks : List Link) (a : ℕ) → All (IsWrittenLink s names) ks → Spans (flat_map (link_text names s.order) ks) a (behind_links a ks)
   unfolding behind_links
@@ -154,8 +154,8 @@ module _ (s : Signature) (names : List (List ℕ)) (are : AreNames names) (fit :
   kind_is_line (Halted report) h claims = absurd claims
 
   generated_spans : (name : List ℕ) (m : OperatorMatrix) (block : ExactBlock) → LacksByte 10 name → IsWrittenExact s names block
-      → Spans (matrix_part names s.order name m ++ exact_text names s.order block) 3 (exact_layout 3 (behind 3 m) block).end
-  generated_spans name m block named h = spans_append (matrix_part names s.order name m) (exact_text names s.order block) 3 (behind 3 m) (exact_layout 3 (behind 3 m) block).end (matrix_spans name m 3 named) (exact_spans 3 (behind 3 m) block h)
+      → Spans (matrix_part names s.order name m ++ exact_text names s.order block) 3 (exact_layout 3 (line_behind 3 m) block).end
+  generated_spans name m block named h = spans_append (matrix_part names s.order name m) (exact_text names s.order block) 3 (line_behind 3 m) (exact_layout 3 (line_behind 3 m) block).end (matrix_spans name m 3 named) (exact_spans 3 (line_behind 3 m) block h)
 
   unit_spans : (unit : ℕ) (block : OutsideBlock) → is_place unit → IsWrittenOutside s names block
       → Spans (line (codes "unit" ∷ place unit ∷ []) ++ outside_text names s.order block) 3 (outside_layout 3 4 block).end

@@ -45,7 +45,7 @@ use Rattle.ore_cert.specs.declared.certificate.Certificate.TheVariants.{Controll
 use Rattle.ore_cert.specs.CertificateOf.{IsCertificateOf}
 use Rattle.ore_cert.specs.Storable.{IsStorableStep, AreStorableSteps, IsStorableEntry, IsStorableRow, IsStorableMatrix, IsStorableExact, IsStorableOutside, IsStorableLink, IsStorableCertificate}
 use Rattle.ore_cert.specs.WholeText.{IsWrittenOperator, IsWrittenLink, IsWrittenCertificate}
-use Rattle.ore_blocks.specs.CheckBlock.{RowMatrix, plain, entries_of}
+use Rattle.ore_blocks.specs.CheckBlock.{RowMatrix, plain, dealt_pairs}
 use Rattle.ore_blocks.specs.Valid.{IsValidExactFor, IsValidOutsideFor}
 use Rattle.ore_check.specs.Meaning.{transposed_adjoint}
 use Rattle.ore_check.specs.NonZeroSteps.{IsNonZeroStep, IsNonZeroEntry, nonzero, HasNonZeroSteps}
@@ -121,7 +121,7 @@ module _ (s : Signature) (names : List (List ℕ)) (are : AreNames names) (fit :
     steps_written : (steps : List (Step rationals)) → AllByRecursion IsWithin steps → AreStoredStepsOf s steps → AllByRecursion IsNonZeroStep steps → AreStorableSteps steps → IsWrittenSteps s names steps
     steps_written steps low of number h = record { few = h.few; all = each_written steps low of number h.all }
 
-    entries_written : (n : ℕ) (basis : List (Row rationals)) (before : List (DealtPair rationals)) (pairs : List PairEntry) → AreLawful rationals s s.order n basis leads before (entries_of pairs) → All (IsEntryOf s) pairs → AllByRecursion IsNonZeroEntry pairs → All IsStorableEntry pairs → All (IsWrittenEntry s names) pairs
+    entries_written : (n : ℕ) (basis : List (Row rationals)) (before : List (DealtPair rationals)) (pairs : List PairEntry) → AreLawful rationals s s.order n basis leads before (dealt_pairs pairs) → All (IsEntryOf s) pairs → AllByRecursion IsNonZeroEntry pairs → All IsStorableEntry pairs → All (IsWrittenEntry s names) pairs
     entries_written n basis before [] lawful of number h = All-nil (IsWrittenEntry s names)
     entries_written n basis before (Pair i j steps ∷ pairs) lawful of number h =
         let both = treat_within leads (pairs_of before) i j lawful.0.0 in

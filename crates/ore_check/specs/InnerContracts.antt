@@ -1,7 +1,7 @@
 -- What the contracts of inner functions speak of, beside the conditions and the lines.
 --     IsLow         the lines of a layout are so low that sums of a few of them fit into 128 bits
 --     place_of      the place that a refusal names
---     stop_of       the stop that an answer tells of
+--     answer_stop   the stop that an answer tells of
 --     matrix_before, last_two      the matrix before a link; the last two matrices of a resolution
 --     check_link    the conditions of one link
 --     AreSameLine   two lines are the same, or the answer has 2^64 - 1 for both
@@ -49,12 +49,12 @@ place_of (refusal.Degree place) = place
 place_of refusal.Memory = End
 
 -- none where each place is right, or a condition fails
-abbrev pub stop_of : Answer → Result (Unit {0}) RingStop
-stop_of answer.Valid = Ok tt
-stop_of (answer.Invalid line why) = Ok tt
-stop_of (answer.Overflow line) = Err stop.Overflow
-stop_of (answer.Degree line) = Err stop.Degree
-stop_of answer.Memory = Err stop.Memory
+abbrev pub answer_stop : Answer → Result (Unit {0}) RingStop
+answer_stop answer.Valid = Ok tt
+answer_stop (answer.Invalid line why) = Ok tt
+answer_stop (answer.Overflow line) = Err stop.Overflow
+answer_stop (answer.Degree line) = Err stop.Degree
+answer_stop answer.Memory = Err stop.Memory
 
 -- the matrix r of the problem before the first link, else that of the link before
 unfoldable pub matrix_before : OperatorMatrix → List Link → ℕ → OperatorMatrix

@@ -1,6 +1,6 @@
 -- The lines at which the places of a certificate stand in its text, from 1. Conditions are said of places.
 --     entry_lines, lines_before        how many lines an entry of a list of pairs has, and how many the first k have
---     behind                           the line behind a matrix that begins at a line
+--     line_behind                      the line behind a matrix that begins at a line
 --     exact_layout, outside_layout     where the parts of a section begin whose block is exact, or outside
 --     inverse_layout                   where those of an inverse begin, which has no block
 --     start_of                         the line that names a matrix
@@ -39,32 +39,32 @@ lines_before (e ∷ es) zero = 0
 lines_before (e ∷ es) (suc k) = entry_lines e + lines_before es k
 
 -- a matrix has a line of its own, and one for each row
-abbrev pub behind : ℕ → OperatorMatrix → ℕ
-behind line m = line + suc (length m.rows)
+abbrev pub line_behind : ℕ → OperatorMatrix → ℕ
+line_behind line m = line + suc (length m.rows)
 
 -- ---- layouts
 
 -- the claim, and an exact block behind it: the basis, `from`, `to`, the pairs and `inside`
 abbrev pub exact_layout : ℕ → ℕ → ExactBlock → Layout
 exact_layout claim block b =
-    let from = behind (suc block) b.basis in
-    let to = behind from b.from in
-    let pairs = behind to b.to in
+    let from = line_behind (suc block) b.basis in
+    let to = line_behind from b.from in
+    let pairs = line_behind to b.to in
     let inside = pairs + suc (lines_before b.pairs (length b.pairs)) in
-    record { claim = claim; block = block; from = from; to = to; pairs = pairs; inside = inside; steps = 0; rest = 0; end = behind inside b.inside }
+    record { claim = claim; block = block; from = from; to = to; pairs = pairs; inside = inside; steps = 0; rest = 0; end = line_behind inside b.inside }
 
 -- the claim, and an outside block behind it: the basis, `from`, the pairs, the steps and `rest`, which has one row
 abbrev pub outside_layout : ℕ → ℕ → OutsideBlock → Layout
 outside_layout claim block b =
-    let from = behind (suc block) b.basis in
-    let pairs = behind from b.from in
+    let from = line_behind (suc block) b.basis in
+    let pairs = line_behind from b.from in
     let steps = pairs + suc (lines_before b.pairs (length b.pairs)) in
     let rest = steps + suc (length b.quotients) in
     record { claim = claim; block = block; from = from; to = 0; pairs = pairs; inside = 0; steps = steps; rest = rest; end = rest + 2 }
 
 -- an inverse alone, behind the line of the kind
 abbrev pub inverse_layout : OperatorMatrix → Layout
-inverse_layout m = record { claim = 3; block = 0; from = 0; to = 0; pairs = 0; inside = 0; steps = 0; rest = 0; end = behind 3 m }
+inverse_layout m = record { claim = 3; block = 0; from = 0; to = 0; pairs = 0; inside = 0; steps = 0; rest = 0; end = line_behind 3 m }
 
 -- ---- lines
 
@@ -105,7 +105,7 @@ section_of other = section.Body
 
 -- the matrix of a link, and its block
 abbrev pub link_layout : ℕ → Link → Layout
-link_layout line k = exact_layout line (behind line k.l) k.block
+link_layout line k = exact_layout line (line_behind line k.l) k.block
 
 -- the links stand one behind the other from a line on
 unfoldable pub behind_links : ℕ → List Link → ℕ
@@ -135,13 +135,13 @@ outside_line first b p = line_of (outside_layout 3 first b) b.pairs p
 
 -- line 1 begins the certificate, and line 2 names its kind; a report has no place
 abbrev pub line_in : Certificate → Place → ℕ
-line_in (Controllable q block) p = exact_line (behind 3 q) block p
+line_in (Controllable q block) p = exact_line (line_behind 3 q) block p
 line_in (AutonomousElement element operator cofactor block) p = outside_line 8 block p
 line_in (LeftInverse m) p = line_of (inverse_layout m) [] p
 line_in (RightInverse m) p = line_of (inverse_layout m) [] p
 line_in (NoLeftInverse unit block) p = outside_line 4 block p
 line_in (NoRightInverse unit block) p = outside_line 4 block p
-line_in (Kernel side generators block) p = exact_line (behind 3 generators) block p
+line_in (Kernel side generators block) p = exact_line (line_behind 3 generators) block p
 line_in (Resolution links) p = linked_line links (behind_links 3 links) p (section_of p)
 line_in (ExtZero links block) p = linked_line links (line_of (exact_layout 0 (behind_links 3 links) block) block.pairs p) p (section_of p)
 line_in (ExtNonzero links element block) p = linked_line links (line_of (outside_layout (behind_links 3 links) (behind_links 3 links + 2) block) block.pairs p) p (section_of p)

@@ -8,7 +8,7 @@ ghost use Rattle.ore_ring.specs.Belongs.{AllBelong};
 ghost use Rattle.ore_cert.specs.CertificateOf.{IsCertificateOf};
 ghost use Rattle.ore_blocks.specs.CheckBlock.{plain};
 ghost use Rattle.ore_check.specs.Check.{IsNoReport, check};
-ghost use Rattle.ore_check.specs.InnerContracts.{stop_of};
+ghost use Rattle.ore_check.specs.InnerContracts.{answer_stop};
 ghost use Rattle.ore_check.specs.Plans.{IsFormed, formed_as};
 
 use crate::answer::Checked;
@@ -54,12 +54,12 @@ fn form_identities<R: OreRing>(
     requires claims { IsNoReport cert.now }
     ensures formed { (claims : IsNoReport cert.now) → Gives (λ _. cert.now) result (formed_as cert.now (check program (R.sig ring.now) (plain r.now) cert.now claims)) }
 {
-    stop_of(check(ring, alloc, r, cert))
+    answer_stop(check(ring, alloc, r, cert))
 }
 
 // Why an operation stopped, where one did.
-fn stop_of(answer: Checked) -> Result<(), RingStop>
-    ensures { result ≡ stop_of answer }
+fn answer_stop(answer: Checked) -> Result<(), RingStop>
+    ensures { result ≡ answer_stop answer }
 {
     match answer {
         Checked::Valid | Checked::Invalid { .. } => Ok(()),

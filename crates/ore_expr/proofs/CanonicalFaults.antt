@@ -18,7 +18,7 @@ use Rattle.std.specs.Str.{bytes_eq}
 use Rattle.std.proofs.lemmas.Slice.Eq.{bytes_eq-Decides}
 use Rattle.std.proofs.lemmas.Bool.Decides.{nat_tests}
 use Rattle.ore_rational.specs.Fraction.{Fraction}
-use Rattle.ore_ring.specs.Terms.{Term as OneTerm, Terms}
+use Rattle.ore_ring.specs.Terms.{Summand as OneTerm, Terms}
 use Rattle.ore_expr.specs.Tokens.{Token, Number, Name, Plus, Minus, Star, Slash, Caret, Lexeme, tokens_of}
 use Rattle.ore_expr.specs.Grammar.{Alone, Factor, Bare, Power, Whole, Quotient, Variable, expression_tokens, term_tokens, factor_tokens, atom_tokens}
 use Rattle.ore_expr.specs.declared.fault.TextFault.{TextFault}

@@ -14,7 +14,7 @@ use Rattle.ore_monomial.specs.Signature.{Signature}
 use Rattle.ore_monomial.specs.declared.order.Order.{Order}
 use Rattle.ore_monomial.specs.LetterRule.{Operator}
 use Rattle.ore_ring.specs.Belongs.{OperatorOf}
-use Rattle.ore_ring.specs.Terms.{Term, Terms, falling, AreApart}
+use Rattle.ore_ring.specs.Terms.{Summand, Terms, falling, AreApart}
 use Rattle.ore_ring.proofs.TermLaws.{collect-falling}
 use Rattle.ore_ring.proofs.AllTerms.{falls-falling, all_terms}
 use Rattle.ore_ring.proofs.Falls.{left_true, right_true}
@@ -28,14 +28,14 @@ use Rattle.ore_expr.proofs.CanonicalValue.{TermGives, falling_own, own_terms, ca
 
 -- ---- the terms are in range
 
-storable_test : Term → Bool
+storable_test : Summand → Bool
 storable_test t = nat_lt (nat_abs t.1.num) (2 ^ 127) && (nat_lt t.1.den (2 ^ 127) && nat_le (degree t.0) 32767)
 
-passes : (t : Term) → IsStorableTerm t → storable_test t ≡ true
+passes : (t : Summand) → IsStorableTerm t → storable_test t ≡ true
 unfolding storable_test
 passes t h = λ i. (Decides-ltb (nat_abs t.1.num) (2 ^ 127)).1 h.numerator i && ((Decides-ltb t.1.den (2 ^ 127)).1 h.denominator i && le-leb (degree t.0) 32767 h.degree i)
 
-storable : (t : Term) → storable_test t ≡ true → IsStorableTerm t
+storable : (t : Summand) → storable_test t ≡ true → IsStorableTerm t
 unfolding storable_test
 storable t h = record {
   numerator = (Decides-ltb (nat_abs t.1.num) (2 ^ 127)).0 (left_true _ _ h);
@@ -61,7 +61,7 @@ storable_falling o f h =
 -- ---- the terms have values
 
 module _ (s : Signature) (names : List (List ℕ)) (indexed : IsIndexed names 0 names) (count : length names ≡ length s.kinds) where
-  terms_give : (f : Operator rationals) → OperatorOf rationals s f → (ts : Terms) → AllByRecursion IsStorableTerm ts → AreApart ts → AllByRecursion (λ (u : Term). coefficient rationals plain_cmp f u.0 ≡ u.1) ts → AllByRecursion (TermGives s names) ts
+  terms_give : (f : Operator rationals) → OperatorOf rationals s f → (ts : Terms) → AllByRecursion IsStorableTerm ts → AreApart ts → AllByRecursion (λ (u : Summand). coefficient rationals plain_cmp f u.0 ≡ u.1) ts → AllByRecursion (TermGives s names) ts
   terms_give f of [] h a c = tt
   terms_give f of (t ∷ ts) h a c = (term_gives s names indexed count t h.0 (of t.0 (λ e. a.0 (sym c.0 ∙ e))) a.0, terms_give f of ts h.1 a.1 c.1)
 
@@ -74,7 +74,7 @@ canonical_is_read s names f p =
     let stored = storable_falling s.order f p.storable in
     let indexed = names_indexed names p.names_fit.distinct in
     let spelled = canonical_tokens names p.names_fit.form ts stored in
-    let owns = subst (λ g. AllByRecursion (λ (u : Term). coefficient rationals plain_cmp g u.0 ≡ u.1) ts) (collect-falling s.order f) (own_terms ts own) in (
+    let owns = subst (λ g. AllByRecursion (λ (u : Summand). coefficient rationals plain_cmp g u.0 ≡ u.1) ts) (collect-falling s.order f) (own_terms ts own) in (
       canonical_tree names ts,
       record {
         spelled = spelled;

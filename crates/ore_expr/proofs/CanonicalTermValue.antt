@@ -20,7 +20,7 @@ use Rattle.ore_monomial.specs.Monomial.{Monomial, exponent, degree, unit, with_e
 use Rattle.ore_monomial.specs.Signature.{Signature, MonomialOf}
 use Rattle.ore_monomial.specs.LetterRule.{Operator}
 use Rattle.ore_monomial.proofs.Monomials.{exponent_past, product-unit}
-use Rattle.ore_ring.specs.Terms.{Term as OneTerm}
+use Rattle.ore_ring.specs.Terms.{Summand as OneTerm}
 use Rattle.ore_ring.specs.Within.{times_within}
 use Rattle.ore_ring.proofs.Falls.{left_true, right_true}
 use Rattle.ore_expr.specs.Grammar.{Term, Alone, Product, Factor, Bare, Power, Whole, Quotient, Variable}

@@ -21,7 +21,7 @@ use Rattle.std.proofs.lemmas.List.Sums.{sum_by-cons}
 use Rattle.std.proofs.lemmas.Fmt.{decimal_is_IsNumeral_wide}
 use Rattle.ore_rational.specs.Fraction.{Fraction}
 use Rattle.ore_monomial.specs.Monomial.{degree}
-use Rattle.ore_ring.specs.Terms.{Term as OneTerm, Terms}
+use Rattle.ore_ring.specs.Terms.{Summand as OneTerm, Terms}
 use Rattle.ore_expr.specs.Tokens.{IsName, Token, Number, Name, Plus, Minus, Star, Slash, Caret, token_at, more_bytes, lexemes_from, lexemes, tokens_of}
 use Rattle.ore_expr.specs.Grammar.{Expression, Single, Negated, Sum, Difference, Term, Alone, Product, Factor, Bare, Power, Atom, Whole, Quotient, Variable, expression_tokens, term_tokens, factor_tokens, atom_tokens}
 use Rattle.ore_text.specs.CanonicalText.{factor_texts, magnitude_text, is_one, with_factors, sign_text, term_text, later_text, terms_text}

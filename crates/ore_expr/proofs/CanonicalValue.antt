@@ -30,7 +30,7 @@ use Rattle.ore_monomial.specs.Signature.{Signature}
 use Rattle.ore_monomial.specs.LetterRule.{Operator}
 use Rattle.ore_monomial.proofs.Monomials.{plain_cmp_total, plain_cmp_apart, order_total}
 use Rattle.ore_monomial.proofs.Operators
-use Rattle.ore_ring.specs.Terms.{Term as OneTerm, Terms, IsFalling}
+use Rattle.ore_ring.specs.Terms.{Summand as OneTerm, Terms, IsFalling}
 use Rattle.ore_ring.specs.Within.{shared_fits, all_shared_fit, plus_within, opposite, minus_within}
 use Rattle.ore_ring.proofs.AllTerms.{all_of_passes, distinct-terms, apart-terms}
 use Rattle.ore_ring.proofs.Falls.{first, second, less_of}

@@ -36,7 +36,7 @@ use Rattle.ore_monomial.proofs.Monomials.{plain_cmp_total, plain_cmp_apart, same
 use Rattle.ore_monomial.proofs.Operators
 use Rattle.ore_ring.specs.Belongs.{Belongs}
 use Rattle.ore_ring.specs.Ordered.{Ordered}
-use Rattle.ore_ring.specs.Terms.{Term, Terms, falling, AreApart, IsFalling}
+use Rattle.ore_ring.specs.Terms.{Summand, Terms, falling, AreApart, IsFalling}
 use Rattle.ore_ring.specs.Within.{shared_fits, all_shared_fit, plus_within, add_term_within}
 use Rattle.ore_ring.proofs.AllTerms.{AreDistinct, sorted_distinct, falls-falling, at_skip, at_own, distinct-terms, apart-terms, passes_of_all, all_of_passes}
 use Rattle.ore_monomial.proofs.FallingTerms.{back_order, back_apart}
@@ -89,7 +89,7 @@ module _ (l : Limits) where
   terms_at : (f : Operator rationals) (q : Monomial) → sum_at rationals plain_cmp q (terms rationals plain_cmp f) ≡ at f q
   terms_at f q = FreeLaws.sum_at-terms rationals plain_cmp_total plain_cmp_apart f q
 
-  abbrev test : Operator rationals → Term → Bool
+  abbrev test : Operator rationals → Summand → Bool
   test g t = shared_fits l t.1 (at g t.0)
 
   all_passes : (f g : Operator rationals) → all_shared_fit l g (terms rationals plain_cmp f) ≡ true → PassesWith f g
@@ -106,23 +106,23 @@ module _ (l : Limits) where
 
   -- ---- one term more
 
-  abbrev with_term : Operator rationals → Term → Operator rationals
+  abbrev with_term : Operator rationals → Summand → Operator rationals
   with_term f t = plus rationals plain_cmp f (single rationals plain_cmp t.0 t.1)
 
   -- the fractions of all terms, at the first monomial and elsewhere
-  here : (t : Term) (ts : Terms) → AreDistinct (t ∷ ts) → at (C (t ∷ ts)) t.0 ≡ t.1
+  here : (t : Summand) (ts : Terms) → AreDistinct (t ∷ ts) → at (C (t ∷ ts)) t.0 ≡ t.1
   here t ts d = Operators.coefficient-collect rationals (t ∷ ts) t.0 ∙ at_own t.0 t ts (own_key t.0) d.0
 
-  elsewhere : (t : Term) (ts : Terms) (q : Monomial) → eq_by_cmp plain_cmp q t.0 ≡ false → at (C (t ∷ ts)) q ≡ at (C ts) q
+  elsewhere : (t : Summand) (ts : Terms) (q : Monomial) → eq_by_cmp plain_cmp q t.0 ≡ false → at (C (t ∷ ts)) q ≡ at (C ts) q
   elsewhere t ts q e = Operators.coefficient-collect rationals (t ∷ ts) q ∙ at_skip q t ts e ∙ sym (Operators.coefficient-collect rationals ts q)
 
-  kept_elsewhere : (f : Operator rationals) (t : Term) (q : Monomial) → eq_by_cmp plain_cmp q t.0 ≡ false → at (with_term f t) q ≡ at f q
+  kept_elsewhere : (f : Operator rationals) (t : Summand) (q : Monomial) → eq_by_cmp plain_cmp q t.0 ≡ false → at (with_term f t) q ≡ at f q
   kept_elsewhere f t q e =
       Operators.coefficient-plus rationals f (single rationals plain_cmp t.0 t.1) q
       ∙ ap (add (at f q)) (Operators.coefficient-other rationals t.0 t.1 q (λ same. true≢false (sym (ap (λ m. eq_by_cmp plain_cmp m t.0) same ∙ own_key t.0) ∙ e)))
       ∙ rationals.plus_zero (at f q)
 
-  module _ (f : Operator rationals) (t : Term) (ts : Terms) (d : AreDistinct (t ∷ ts)) (n : t.1 ≢ whole (pos 0)) where
+  module _ (f : Operator rationals) (t : Summand) (ts : Terms) (d : AreDistinct (t ∷ ts)) (n : t.1 ≢ whole (pos 0)) where
     later_passes : PassesWith f (C (t ∷ ts)) → PassesWith (with_term f t) (C ts)
     unfolding PassesWith
     later_passes h q k = by (eq_by_cmp plain_cmp q t.0) refl
@@ -177,7 +177,7 @@ module _ (l : Limits) where
             absurd (true≢false (sym p ∙ ap (shared_fits l (at f t.0)) (here t ts d) ∙ shared_some l DegLex (at f t.0) t.1 n ∙ fit))
 
   -- what adding the first term does to the sum
-  module _ (f : Operator rationals) (t : Term) (ts : Terms) (d : AreDistinct (t ∷ ts)) (n : t.1 ≢ whole (pos 0)) (alone : sum_fits l (whole (pos 0)) t.1 ≡ true) where
+  module _ (f : Operator rationals) (t : Summand) (ts : Terms) (d : AreDistinct (t ∷ ts)) (n : t.1 ≢ whole (pos 0)) (alone : sum_fits l (whole (pos 0)) t.1 ≡ true) where
     first_step : (b : Bool) → sum_fits l (at f t.0) t.1 ≡ b → add_term_within l f t.0 t.1 ≡ guard b (with_term f t) Overflow
     unfolding add_term_within sum_within
     first_step true e = ap (λ b. guard b (add (at f t.0) t.1) Overflow >>= λ s. Ok (with_term f t)) e
@@ -203,7 +203,7 @@ module _ (l : Limits) where
 
 -- ---- the terms of a stored operator, from a place on
 
-first_left : (ts : Terms) (k : ℕ) (t : Term) → Some t ≡ slice_get ts k → drop k ts ≡ t ∷ drop (k + 1) ts
+first_left : (ts : Terms) (k : ℕ) (t : Summand) → Some t ≡ slice_get ts k → drop k ts ≡ t ∷ drop (k + 1) ts
 first_left [] k t e = cc
 first_left (u ∷ ts) zero t e = let same : u ≡ t = cc in ap (λ v. v ∷ ts) same
 first_left (u ∷ ts) (suc k) t e = let s : suc (k + 1) ≡ suc k + 1 = omega arith in first_left ts k t e ∙ ap (λ n. t ∷ drop n (u ∷ ts)) s
@@ -223,7 +223,7 @@ drop_apart ts zero d = d
 drop_apart [] (suc k) d = tt
 drop_apart (t ∷ ts) (suc k) d = drop_apart ts k d.1
 
-module _ (v : Ordered) (k : ℕ) (t : Term) (e : Some t ≡ slice_get (falling v.by v.sum) k) (alone : sum_fits program (whole (pos 0)) t.1 ≡ true) (f given : Operator rationals)
+module _ (v : Ordered) (k : ℕ) (t : Summand) (e : Some t ≡ slice_get (falling v.by v.sum) k) (alone : sum_fits program (whole (pos 0)) t.1 ≡ true) (f given : Operator rationals)
     (told : plus_within program f (C (drop k (falling v.by v.sum))) ≡ plus_within program given v.sum) where
   stored : IsFalling v.by (falling v.by v.sum)
   stored = falls-falling v.by v.sum

@@ -2,7 +2,7 @@
 --     fault_in_text    a fault, but for want of memory
 --     FaultReads       the fault that a call answers is that which is given
 --     Reads            a call answered what a reading function gives, unless memory ran out
---     stop_of          a cause of a stop as a fault of a text
+--     stop_fault       a cause of a stop as a fault of a text
 --     IsValue          the text is an expression, and its value is this, or it stops with this cause
 --     IsRead           what a text of an operator is read as, or its fault
 use Rattle.std.specs.Prelude.{◌≡◌, ℕ, List}
@@ -37,9 +37,9 @@ abbrev pub Reads : {X Y : Type 0} → (X → Y) → Result X TextFault → Resul
 Reads = GivesBy FaultReads
 
 -- the stop of an operation that has the same cause
-abbrev pub stop_of : Cause → TextFault
-stop_of cause.Overflow = fault.Stop stop.Overflow
-stop_of cause.Degree = fault.Stop stop.Degree
+abbrev pub stop_fault : Cause → TextFault
+stop_fault cause.Overflow = fault.Stop stop.Overflow
+stop_fault cause.Degree = fault.Stop stop.Degree
 
 -- some expression is spelled by the text and has, within the limits of the program, this value or this cause
 abbrev pub IsValue : Signature → List (List ℕ) → List ℕ → Result (Operator rationals) Cause → Type 0

@@ -5,7 +5,7 @@ ghost use Rattle.std.specs.List.{All};
 ghost use Rattle.ore_ring.specs.Belongs.{Belongs};
 ghost use Rattle.ore_expr.specs.Evaluation.{IsOf};
 ghost use Rattle.ore_expr.specs.Parsing.{parse as parse_of};
-ghost use Rattle.ore_expr.specs.ParserState.{state_of};
+ghost use Rattle.ore_expr.specs.ParserState.{parser_state};
 ghost use Rattle.ore_expr.specs.ReadStep.{IsStep};
 ghost use Rattle.ore_expr.specs.Reading.{Reads, IsRead};
 
@@ -44,7 +44,7 @@ fn step(
     skipped: usize,
 ) -> Result<usize, TextFault>
     requires { place < length text.now }
-    ensures { IsStep names.now text.now place skipped (state_of parser.old) (state_of parser.new) result }
+    ensures { IsStep names.now text.now place skipped (parser_state parser.old) (parser_state parser.new) result }
 {
     if skipped > 0 {
         return Ok(skipped - 1);

@@ -14,7 +14,7 @@ use Rattle.ore_pairs.specs.PairRule.{is_listed, HaveSamePairs, is_lawful}
 use Rattle.ore_course.specs.Choices as course
 use Rattle.ore_groebner.specs.Choosing.{first_of, second_of, treated_pair_count, treated_pair_count_in, with_choice, IsWithinBudget}
 use Rattle.ore_groebner.specs.Following.{IsFollowed}
-use Rattle.ore_groebner.specs.RunProgress.{state_of}
+use Rattle.ore_groebner.specs.RunProgress.{run_state}
 use Rattle.ore_groebner.specs.declared.progress.Progress.{Progress}
 use Rattle.ore_pairs.proofs.PairRuleLaws.{listed_first, listed_later}
 use Rattle.ore_groebner.proofs.LawfulSteps.{lawful_treat}
@@ -38,7 +38,7 @@ rows_fewer (Skip i j via) given budget m n t h k e = omega arith
 
 rows_longer : (s : Signature) (p q : Progress) (c : Choice) → IsFollowed s p c q → length q.basis.items ≤ length p.basis.items + treated_pair_count (c ∷ [])
 rows_longer s p q c f =
-    let g = step_longer s (state_of p) (state_of q) c f.made in
+    let g = step_longer s (run_state p) (run_state q) c f.made in
     counts (length q.basis.items) (length p.basis.items) (length (monics q.basis)) (length (monics p.basis)) (length g.0) (treated_pair_count (c ∷ [])) (length-map q.basis.items monic_of) (length-map p.basis.items monic_of) (ap (λ bs. length bs) g.1 ∙ length-append (monics p.basis) g.0) g.2
   where
     counts : (a b x y r t : ℕ) → x ≡ a → y ≡ b → x ≡ y + r → r ≤ t → a ≤ b + t

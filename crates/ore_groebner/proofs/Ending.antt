@@ -27,7 +27,7 @@ use Rattle.ore_rows.specs.declared.choices.Choice.{Choice}
 use Rattle.ore_groebner.specs.Choosing.{present, chosen_pairs, Settings, IsChooserAnswer}
 use Rattle.ore_groebner.specs.Following.{state_after_choice, IsChooserRefusal, IsRefusalAllowed, IsStopIn, IsStopOf, IsLed}
 use Rattle.ore_groebner.specs.Honest.{first_state, IsHonestRun, IsStoppedAt, IsHalted, MayBeSpent, HasOneMoreRun, HasRunsAfter}
-use Rattle.ore_groebner.specs.RunProgress.{state_of, entries_from, new_rows, choices_of, IsProgressOf}
+use Rattle.ore_groebner.specs.RunProgress.{run_state, entries_from, new_rows, choices_of, IsProgressOf}
 use Rattle.ore_groebner.specs.BasisLeads.{BasisLeads, basis_leads}
 use Rattle.ore_groebner.specs.declared.chooser.Next.{Next}
 use Rattle.ore_groebner.specs.declared.chooser.Next.TheVariants as next
@@ -46,22 +46,22 @@ stop_not_spent s st c h stops e = subst (IsStopOf s st c) e stops
 
 module _ (s : Signature) (a : OperatorMatrix) (allows : BasisLeads → List (ℕ × ℕ) → Choice → Bool) (p : Progress) where
   module _ (runs : List (List Choice)) (settings : Settings) where
-    answered_in : IsLed s a allows (present runs) p → (x : Next) → IsChooserAnswer (leads_of p.basis.items) p.listed runs settings x → IsChooserAnswer (leads_of (state_of p).basis) (pairs_of (state_of p).listed) runs settings x
-    answered_in led x h = subst (λ leads. IsChooserAnswer leads (pairs_of (state_of p).listed) runs settings x) (sym (leads_monics p.basis.items))
-        (answer_same (leads_of p.basis.items) p.listed (pairs_of (state_of p).listed) led.kept.listed runs settings x h)
+    answered_in : IsLed s a allows (present runs) p → (x : Next) → IsChooserAnswer (leads_of p.basis.items) p.listed runs settings x → IsChooserAnswer (leads_of (run_state p).basis) (pairs_of (run_state p).listed) runs settings x
+    answered_in led x h = subst (λ leads. IsChooserAnswer leads (pairs_of (run_state p).listed) runs settings x) (sym (leads_monics p.basis.items))
+        (answer_same (leads_of p.basis.items) p.listed (pairs_of (run_state p).listed) led.kept.listed runs settings x h)
 
     pub refusal_halts : IsLed s a allows (present runs) p → (h : Halt) → IsChooserRefusal (leads_of p.basis.items) p.listed runs settings h → IsHalted s a runs settings h
-    refusal_halts led halt.Spent r = record { last = state_of p; reached = led_reached s a allows (present runs) p led; answered = answered_in led next.Spent r }
-    refusal_halts led halt.NoLawful r = record { last = state_of p; reached = led_reached s a allows (present runs) p led; answered = answered_in led next.NoLawful r }
+    refusal_halts led halt.Spent r = record { last = run_state p; reached = led_reached s a allows (present runs) p led; answered = answered_in led next.Spent r }
+    refusal_halts led halt.NoLawful r = record { last = run_state p; reached = led_reached s a allows (present runs) p led; answered = answered_in led next.NoLawful r }
     refusal_halts led halt.Memory r = tt
     refusal_halts led (halt.Overflow place) r = absurd r
     refusal_halts led (halt.Degree place) r = absurd r
 
-    stop_in : (cs : List Choice) (c : Choice) → IsLed s a allows cs p → present runs ≡ cs ++ c ∷ [] → (k : Cause) (place : StopAt) → IsStopIn s (state_of p) c k place → IsStoppedAt s a (present runs) k place
+    stop_in : (cs : List Choice) (c : Choice) → IsLed s a allows cs p → present runs ≡ cs ++ c ∷ [] → (k : Cause) (place : StopAt) → IsStopIn s (run_state p) c k place → IsStoppedAt s a (present runs) k place
     stop_in cs c led e k at.Forced h = absurd h
-    stop_in cs c led e k (at.Treat i j) h = record { before = cs; choices_are = e ∙ ap (λ c. cs ++ c ∷ []) h.0; state = state_of p; reached = led_reached s a allows cs p led; stopped = subst (λ c. state_after_choice s (state_of p) c ≡ Err (Stopped k)) h.0 h.1 }
+    stop_in cs c led e k (at.Treat i j) h = record { before = cs; choices_are = e ∙ ap (λ c. cs ++ c ∷ []) h.0; state = run_state p; reached = led_reached s a allows cs p led; stopped = subst (λ c. state_after_choice s (run_state p) c ≡ Err (Stopped k)) h.0 h.1 }
 
-    pub stop_halts : (cs : List Choice) (c : Choice) → IsLed s a allows cs p → present runs ≡ cs ++ c ∷ [] → (h : Halt) → IsStopOf s (state_of p) c h → IsHalted s a runs settings h
+    pub stop_halts : (cs : List Choice) (c : Choice) → IsLed s a allows cs p → present runs ≡ cs ++ c ∷ [] → (h : Halt) → IsStopOf s (run_state p) c h → IsHalted s a runs settings h
     stop_halts cs c led e (halt.Overflow place) h = stop_in cs c led e _ place h
     stop_halts cs c led e (halt.Degree place) h = stop_in cs c led e _ place h
     stop_halts cs c led e halt.Spent h = absurd h
@@ -81,8 +81,8 @@ module _ (s : Signature) (a : OperatorMatrix) (allows : BasisLeads → List (ℕ
   pub refusal_spent : (cs : List Choice) → IsLed s a allows cs p → HaveLeads p.basis.items → (allows_spent : BasisLeads → List (ℕ × ℕ) → Bool) (h : Halt) → IsRefusalAllowed allows_spent (basis_leads p.basis) (chosen_pairs cs) h → h ≡ halt.Spent → MayBeSpent s a allows_spent cs
   refusal_spent cs led have allows_spent h r e = spent_here s a allows cs p led have allows_spent (subst (IsRefusalAllowed allows_spent (basis_leads p.basis) (chosen_pairs cs)) e r)
 
-  pub all_complete : IsProgressOf s p → AreAllListed (leads_of p.basis.items) p.listed → IsComplete rationals (state_of p)
-  all_complete kept all = subst (λ leads. AreAllListed leads (pairs_of (state_of p).listed)) (sym (leads_monics p.basis.items)) (λ i j pair. sym (kept.listed i j) ∙ all i j pair)
+  pub all_complete : IsProgressOf s p → AreAllListed (leads_of p.basis.items) p.listed → IsComplete rationals (run_state p)
+  all_complete kept all = subst (λ leads. AreAllListed leads (pairs_of (run_state p).listed)) (sym (leads_monics p.basis.items)) (λ i j pair. sym (kept.listed i j) ∙ all i j pair)
 
   -- where the rows of the matrix are multiples of the n rows of the basis
   pub record IsEnded (n : ℕ) (f : Finished) : Type 0 where
@@ -97,7 +97,7 @@ module _ (s : Signature) (a : OperatorMatrix) (allows : BasisLeads → List (ℕ
   pub led_honest : (cs : List Choice) → IsLed s a allows cs p → AreAllListed (leads_of p.basis.items) p.listed → (n : ℕ) → n ≡ length p.basis.items → (f : Finished) → IsEnded n f → IsHonestRun s a cs f
   led_honest cs led all n size f e = record {
     start = led.start;
-    last = state_of p;
+    last = run_state p;
     begun = led.begun;
     led = led.led;
     complete = all_complete led.kept all;

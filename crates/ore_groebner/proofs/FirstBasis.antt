@@ -33,7 +33,7 @@ use Rattle.ore_pairs.specs.Run as run
 use Rattle.ore_rows.specs.Stored.{sums_of}
 use Rattle.ore_rows.specs.StoredBasis.{StoredBasis, BasisBelongs, monics}
 use Rattle.ore_rows.specs.declared.choices.Origin.TheVariants as origin
-use Rattle.ore_groebner.specs.RunProgress.{entries_from, new_rows, basis_with, with_basis_row, state_of, IsBegun, IsProgressOf}
+use Rattle.ore_groebner.specs.RunProgress.{entries_from, new_rows, basis_with, with_basis_row, run_state, IsBegun, IsProgressOf}
 use Rattle.ore_groebner.specs.declared.progress.Progress.{Progress}
 
 module _ (s : Signature) (q k : ℕ) (r : Row rationals) (st : RunState rationals) where
@@ -125,7 +125,7 @@ module _ (s : Signature) (rows : List (Row rationals)) where
   unfolding run.begin_rows
   rows_stop q k r st c e f = ap (λ rs. begin_at q k rs st) (drop_at rows k r e) ∙ (λ n. f n >>= λ st. begin_at q (suc k) (drop (suc k) rows) st)
 
-  pub rows_start : (p : Progress) → monics p.basis ≡ [] → IsBegun p → p.syzygies.items ≡ [] → p.origins.items ≡ [] → run.begin rationals rational_inverses s.order (within program s) rows ≡ begin_at (length rows) 0 (drop 0 rows) (state_of p)
+  pub rows_start : (p : Progress) → monics p.basis ≡ [] → IsBegun p → p.syzygies.items ≡ [] → p.origins.items ≡ [] → run.begin rationals rational_inverses s.order (within program s) rows ≡ begin_at (length rows) 0 (drop 0 rows) (run_state p)
   unfolding run.begin
   rows_start p basis begun syzygies origins = λ n. begin_at (length rows) 0 rows (record { basis = sym basis n; listed = sym (begun_entries p p.first begun) n; syzygies = map sums_of (sym syzygies n); origins = sym origins n })
 

@@ -28,7 +28,7 @@ use Rattle.ore_pairs.proofs.PairRuleLaws.{CanTreat, treat_from, lawful_same}
 use Rattle.ore_groebner.specs.Choosing.{first_of, second_of}
 use Rattle.ore_groebner.specs.Following.{state_after_choice, IsStopOf}
 use Rattle.ore_groebner.specs.Halting.{halt_of}
-use Rattle.ore_groebner.specs.RunProgress.{state_of, IsProgressOf}
+use Rattle.ore_groebner.specs.RunProgress.{run_state, IsProgressOf}
 use Rattle.ore_groebner.specs.declared.outcome.StopAt.TheVariants as at
 use Rattle.ore_groebner.specs.declared.progress.Progress.{Progress}
 
@@ -41,8 +41,8 @@ lawful_treat leads listed (Skip i j via) h = treat_from leads listed i j (and_pa
 abbrev pub IsLawfulIn : RunState rationals → Choice → Type 0
 IsLawfulIn st c = is_lawful (leads_of st.basis) (pairs_of st.listed) c ≡ true
 
-pub lawful_kept : (s : Signature) (p : Progress) (c : Choice) → IsProgressOf s p → is_lawful (leads_of p.basis.items) p.listed c ≡ true → IsLawfulIn (state_of p) c
-lawful_kept s p c kept h = ap (λ leads. is_lawful leads (pairs_of (state_of p).listed) c) (leads_monics p.basis.items) ∙ sym (lawful_same (leads_of p.basis.items) p.listed (pairs_of (state_of p).listed) kept.listed c) ∙ h
+pub lawful_kept : (s : Signature) (p : Progress) (c : Choice) → IsProgressOf s p → is_lawful (leads_of p.basis.items) p.listed c ≡ true → IsLawfulIn (run_state p) c
+lawful_kept s p c kept h = ap (λ leads. is_lawful leads (pairs_of (run_state p).listed) c) (leads_monics p.basis.items) ∙ sym (lawful_same (leads_of p.basis.items) p.listed (pairs_of (run_state p).listed) kept.listed c) ∙ h
 
 module _ (s : Signature) (st : RunState rationals) (c : Choice) (lawful : IsLawfulIn st c) where
   abbrev outcome : Result (RunState rationals) Cause

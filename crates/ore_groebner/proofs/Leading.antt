@@ -31,7 +31,7 @@ use Rattle.ore_pairs.specs.PairRule.{is_listed}
 use Rattle.ore_groebner.specs.Choosing.{chosen_pairs}
 use Rattle.ore_groebner.specs.Following.{state_after_choice, IsFollowed, IsLed}
 use Rattle.ore_groebner.specs.Honest.{first_state, state_after, IsReached, IsAllowedAt, RuleAllowsEach, MayBeSpent}
-use Rattle.ore_groebner.specs.RunProgress.{state_of, choices_of, IsProgressOf, IsBegun}
+use Rattle.ore_groebner.specs.RunProgress.{run_state, choices_of, IsProgressOf, IsBegun}
 use Rattle.ore_groebner.specs.BasisLeads.{BasisLeads, basis_leads}
 use Rattle.ore_groebner.specs.declared.progress.Progress.{Progress}
 use Rattle.ore_groebner.proofs.Given.{lists_next}
@@ -79,13 +79,13 @@ module _ (s : Signature) (a : OperatorMatrix) where
   -- ---- rules
 
   module _ (allows : BasisLeads → List (ℕ × ℕ) → Choice → Bool) where
-    pub led_reached : (cs : List Choice) (p : Progress) → IsLed s a allows cs p → IsReached s a cs (state_of p)
+    pub led_reached : (cs : List Choice) (p : Progress) → IsLed s a allows cs p → IsReached s a cs (run_state p)
     led_reached cs p led = record { start = led.start; begun = led.begun; led = led.led }
 
-    pub led_pairs : (cs : List Choice) (p : Progress) → IsLed s a allows cs p → pairs_of (state_of p).listed ≡ chosen_pairs cs
+    pub led_pairs : (cs : List Choice) (p : Progress) → IsLed s a allows cs p → pairs_of (run_state p).listed ≡ chosen_pairs cs
     led_pairs cs p led = pairs_of-entries_from p.first p.events.items ∙ ap chosen_pairs led.events
 
-    allowed_here : (cs : List Choice) (p : Progress) → IsLed s a allows cs p → HaveLeads p.basis.items → (allowed : BasisLeads → List (ℕ × ℕ) → Bool) → allowed (basis_leads p.basis) (chosen_pairs cs) ≡ true → IsAllowedAt s allowed (state_of p)
+    allowed_here : (cs : List Choice) (p : Progress) → IsLed s a allows cs p → HaveLeads p.basis.items → (allowed : BasisLeads → List (ℕ × ℕ) → Bool) → allowed (basis_leads p.basis) (chosen_pairs cs) ≡ true → IsAllowedAt s allowed (run_state p)
     allowed_here cs p led have allowed h = (λ k. allowed (state_leads-state s a p led.kept have k) (led_pairs cs p led k)) ∙ h
 
     pub allowed_push : (cs : List Choice) (c : Choice) (p : Progress) → IsLed s a allows cs p → HaveLeads p.basis.items → allows (basis_leads p.basis) (chosen_pairs cs) c ≡ true → RuleAllowsEach s a allows (cs ++ c ∷ [])
@@ -95,16 +95,16 @@ module _ (s : Signature) (a : OperatorMatrix) where
         by (inl h) = led.allowed k d st h.0 (subst (λ ds. IsReached s a ds st) (take_front cs c k (let l = h.1 in omega arith)) reached)
         by (inr h) =
             let there : IsReached s a cs st = subst (λ ds. IsReached s a ds st) (ap (λ n. take n (cs ++ c ∷ [])) h.0 ∙ take-append_seam cs (c ∷ [])) reached in
-            subst (λ d. IsAllowedAt s (λ shown ps. allows shown ps d) st) h.1 (subst (λ st. IsAllowedAt s (λ shown ps. allows shown ps c) st) (determined cs (state_of p) st (led_reached cs p led) there) (allowed_here cs p led have (λ shown ps. allows shown ps c) here))
+            subst (λ d. IsAllowedAt s (λ shown ps. allows shown ps d) st) h.1 (subst (λ st. IsAllowedAt s (λ shown ps. allows shown ps c) st) (determined cs (run_state p) st (led_reached cs p led) there) (allowed_here cs p led have (λ shown ps. allows shown ps c) here))
 
     pub spent_here : (cs : List Choice) (p : Progress) → IsLed s a allows cs p → HaveLeads p.basis.items → (allows_spent : BasisLeads → List (ℕ × ℕ) → Bool) → allows_spent (basis_leads p.basis) (chosen_pairs cs) ≡ true → MayBeSpent s a allows_spent cs
-    spent_here cs p led have allows_spent h st reached = subst (IsAllowedAt s allows_spent) (determined cs (state_of p) st (led_reached cs p led) reached) (allowed_here cs p led have allows_spent h)
+    spent_here cs p led have allows_spent h st reached = subst (IsAllowedAt s allows_spent) (determined cs (run_state p) st (led_reached cs p led) reached) (allowed_here cs p led have allows_spent h)
 
     pub led_next : (cs : List Choice) (c : Choice) (p q : Progress) → IsLed s a allows cs p → HaveLeads p.basis.items → allows (basis_leads p.basis) (chosen_pairs cs) c ≡ true → IsFollowed s p c q → IsLed s a allows (cs ++ c ∷ []) q
     led_next cs c p q led have here f = record {
       start = led.start;
       begun = led.begun;
-      led = state_after-push led.start (state_of p) (state_of q) cs c led.led f.made;
+      led = state_after-push led.start (run_state p) (run_state q) cs c led.led f.made;
       kept = f.kept;
       lists = lists_next p.listed q.listed cs c led.lists f.listed;
       events = f.shape.events ∙ ap (λ ds. ds ++ c ∷ []) led.events;
@@ -114,10 +114,10 @@ module _ (s : Signature) (a : OperatorMatrix) where
       allowed = allowed_push cs c p led have here;
     }
 
-    pub led_start : (p : Progress) → first_state s a ≡ Ok (state_of p) → IsProgressOf s p → IsBegun p → p.first ≡ length p.basis.items → p.basis.cols ≡ a.cols → p.basis.width ≡ length a.rows → IsLed s a allows [] p
+    pub led_start : (p : Progress) → first_state s a ≡ Ok (run_state p) → IsProgressOf s p → IsBegun p → p.first ≡ length p.basis.items → p.basis.cols ≡ a.cols → p.basis.width ≡ length a.rows → IsLed s a allows [] p
     unfolding course.run is_listed
     led_start p starts kept begun first cols width = record {
-      start = state_of p;
+      start = run_state p;
       begun = starts;
       led = refl;
       kept = kept;

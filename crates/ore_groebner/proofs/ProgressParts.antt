@@ -40,7 +40,7 @@ use Rattle.ore_rows.specs.declared.choices.Origin.TheVariants as origin
 use Rattle.ore_rows.proofs.GreatestTerms.{zero_from}
 use Rattle.ore_rows.proofs.StoredBases.{zeros_lead}
 use Rattle.ore_groebner.specs.Choosing.{chosen_pairs}
-use Rattle.ore_groebner.specs.RunProgress.{entries_from, new_rows, basis_with, state_of, choice_of, choices_of, IsProgressOf}
+use Rattle.ore_groebner.specs.RunProgress.{entries_from, new_rows, basis_with, run_state, choice_of, choices_of, IsProgressOf}
 use Rattle.ore_groebner.specs.declared.outcome.Event.{Event}
 use Rattle.ore_groebner.specs.declared.outcome.Event.TheVariants.{Treated, Skipped}
 use Rattle.ore_groebner.specs.declared.outcome.Outcome.TheVariants.{Zero, NewRow}
@@ -169,7 +169,7 @@ more_syzygies s p q r kept first basis listed events syzygies wide of = record {
 
 -- ---- the states of a run
 
-pub zero_state : (o : Order) (p q : Progress) (i j n : ℕ) (w : ReductionState rationals) → n ≡ length p.events.items → entries_from q.first q.events.items ≡ entries_from p.first p.events.items ++ pair.Pair i j w.steps ∷ [] → q.basis ≡ p.basis → map sums_of q.syzygies.items ≡ map sums_of p.syzygies.items ++ unless_zero rationals o w.cofactor → q.origins.items ≡ p.origins.items ++ map (λ _. origin.Event n) (unless_zero rationals o w.cofactor) → state_of q ≡ run.with_syzygy rationals o (state_of p) i j w
+pub zero_state : (o : Order) (p q : Progress) (i j n : ℕ) (w : ReductionState rationals) → n ≡ length p.events.items → entries_from q.first q.events.items ≡ entries_from p.first p.events.items ++ pair.Pair i j w.steps ∷ [] → q.basis ≡ p.basis → map sums_of q.syzygies.items ≡ map sums_of p.syzygies.items ++ unless_zero rationals o w.cofactor → q.origins.items ≡ p.origins.items ++ map (λ _. origin.Event n) (unless_zero rationals o w.cofactor) → run_state q ≡ run.with_syzygy rationals o (run_state p) i j w
 unfolding run.with_syzygy
 zero_state o p q i j n w place entries basis syzygies origins = λ k. record { basis = monics (basis k); listed = entries k; syzygies = syzygies k; origins = (origins ∙ ap (λ m. p.origins.items ++ map (λ _. origin.Event m) (unless_zero rationals o w.cofactor)) (place ∙ sym (length-entries_from p.first p.events.items))) k }
 
@@ -178,9 +178,9 @@ module _ (s : Signature) (p : Progress) (i j : ℕ) (w : ReductionState rational
   made = monic_multiple rationals rational_inverses (within program s) w.row w.cofactor t
 
   abbrev finish : BasisRow (Row rationals) → Result (RunState rationals) Cause
-  finish b = Ok (record { basis = monics p.basis ++ b ∷ []; listed = run.entries_with rationals (state_of p) (pair.Pair i j (w.steps ++ record { index = length (monics p.basis); monomial = unit; number = coefficient_at rationals w.row t } ∷ [])); syzygies = map sums_of p.syzygies.items; origins = p.origins.items })
+  finish b = Ok (record { basis = monics p.basis ++ b ∷ []; listed = run.entries_with rationals (run_state p) (pair.Pair i j (w.steps ++ record { index = length (monics p.basis); monomial = unit; number = coefficient_at rationals w.row t } ∷ [])); syzygies = map sums_of p.syzygies.items; origins = p.origins.items })
 
-  pub row_stops : (c : Cause) → basis_with (monics p.basis) made ≡ Err c → run.with_row rationals rational_inverses (within program s) (state_of p) i j w t ≡ Err c
+  pub row_stops : (c : Cause) → basis_with (monics p.basis) made ≡ Err c → run.with_row rationals rational_inverses (within program s) (run_state p) i j w t ≡ Err c
   unfolding run.with_row
   row_stops c e = by made refl e
     where
@@ -194,11 +194,11 @@ module _ (s : Signature) (p : Progress) (i j : ℕ) (w : ReductionState rational
           same_err : {A : Type 0} (x y : Cause) → ◌≡◌ {A = Result A Cause} (Err x) (Err y) → x ≡ y
           same_err x y e = cc
 
-  pub row_state : (q : Progress) (k : Fraction) → coefficient_at rationals w.row t ≡ k → length (monics p.basis) ≡ p.first + new_rows p.events.items → entries_from q.first q.events.items ≡ entries_from p.first p.events.items ++ pair.Pair i j (w.steps ++ record { index = p.first + new_rows p.events.items; monomial = unit; number = k } ∷ []) ∷ [] → q.syzygies.items ≡ p.syzygies.items → q.origins.items ≡ p.origins.items → basis_with (monics p.basis) made ≡ Ok (monics q.basis) → run.with_row rationals rational_inverses (within program s) (state_of p) i j w t ≡ Ok (state_of q)
+  pub row_state : (q : Progress) (k : Fraction) → coefficient_at rationals w.row t ≡ k → length (monics p.basis) ≡ p.first + new_rows p.events.items → entries_from q.first q.events.items ≡ entries_from p.first p.events.items ++ pair.Pair i j (w.steps ++ record { index = p.first + new_rows p.events.items; monomial = unit; number = k } ∷ []) ∷ [] → q.syzygies.items ≡ p.syzygies.items → q.origins.items ≡ p.origins.items → basis_with (monics p.basis) made ≡ Ok (monics q.basis) → run.with_row rationals rational_inverses (within program s) (run_state p) i j w t ≡ Ok (run_state q)
   unfolding run.with_row
   row_state q k stands place entries syzygies origins e = by made refl e
     where
-      by : (x : Result (BasisRow (Row rationals)) Cause) → made ≡ x → basis_with (monics p.basis) x ≡ Ok (monics q.basis) → (made >>= finish) ≡ Ok (state_of q)
+      by : (x : Result (BasisRow (Row rationals)) Cause) → made ≡ x → basis_with (monics p.basis) x ≡ Ok (monics q.basis) → (made >>= finish) ≡ Ok (run_state q)
       by (Err d) f e = absurd (err_is_ok e)
         where
           err_is_ok : {A : Type 0} {x : A} → ◌≡◌ {A = Result A Cause} (Err d) (Ok x) → ⊥
@@ -210,7 +210,7 @@ module _ (s : Signature) (p : Progress) (i j : ℕ) (w : ReductionState rational
           same_ok : (x y : List (BasisRow (Row rationals))) → ◌≡◌ {A = Result (List (BasisRow (Row rationals))) Cause} (Ok x) (Ok y) → x ≡ y
           same_ok x y e = cc
 
-          as_entries : run.entries_with rationals (state_of p) (pair.Pair i j (w.steps ++ record { index = length (monics p.basis); monomial = unit; number = coefficient_at rationals w.row t } ∷ [])) ≡ entries_from p.first p.events.items ++ pair.Pair i j (w.steps ++ record { index = p.first + new_rows p.events.items; monomial = unit; number = k } ∷ []) ∷ []
+          as_entries : run.entries_with rationals (run_state p) (pair.Pair i j (w.steps ++ record { index = length (monics p.basis); monomial = unit; number = coefficient_at rationals w.row t } ∷ [])) ≡ entries_from p.first p.events.items ++ pair.Pair i j (w.steps ++ record { index = p.first + new_rows p.events.items; monomial = unit; number = k } ∷ []) ∷ []
           as_entries = λ n. entries_from p.first p.events.items ++ pair.Pair i j (w.steps ++ record { index = place n; monomial = unit; number = stands n } ∷ []) ∷ []
 
 module _ (s : Signature) (st : RunState rationals) (i j : ℕ) (w : ReductionState rationals) where

@@ -42,7 +42,7 @@ use Rattle.ore_groebner.specs.Following.{IsLed}
 use Rattle.ore_groebner.specs.Courses.{last_of, place_in_course, FollowsTo, HaltsIn}
 use Rattle.ore_groebner.specs.Halting as halting
 use Rattle.ore_groebner.specs.Honest.{IsStoppedAt, IsHalted, HasOneMoreRun, HasRunsAt, HasRunsAfter}
-use Rattle.ore_groebner.specs.RunProgress.{state_of, entries_from, new_rows, IsProgressOf}
+use Rattle.ore_groebner.specs.RunProgress.{run_state, entries_from, new_rows, IsProgressOf}
 use Rattle.ore_groebner.specs.declared.outcome.Finished.{Finished}
 use Rattle.ore_groebner.specs.declared.outcome.Halt.{Halt}
 use Rattle.ore_groebner.specs.declared.outcome.Halt.TheVariants as halt
@@ -57,7 +57,7 @@ left_open : (leads : List Term) (listed : List (ℕ × ℕ)) → HasUnlisted lea
 left_open leads listed (i, j, h) = treatable_left leads listed i j h
 
 -- the parts of the answer are those of the progress
-pub last_led : (s : Signature) (p : Progress) (f : Finished) → IsProgressOf s p → f.basis ≡ p.basis → f.events ≡ p.events.items → rows_of f.syzygies ≡ map sums_of p.syzygies.items → f.origins ≡ p.origins.items → state_of p ≡ last_of f
+pub last_led : (s : Signature) (p : Progress) (f : Finished) → IsProgressOf s p → f.basis ≡ p.basis → f.events ≡ p.events.items → rows_of f.syzygies ≡ map sums_of p.syzygies.items → f.origins ≡ p.origins.items → run_state p ≡ last_of f
 last_led s p f kept basis events syzygies origins = λ k. record { basis = monics (sym basis k); listed = entries_from (first k) (sym events k); syzygies = sym syzygies k; origins = sym origins k }
   where
     taken : (m first rows : ℕ) → m ≡ first + rows → first ≡ m - rows
@@ -83,9 +83,9 @@ module _ (s : Signature) (allows : BasisLeads → List (ℕ × ℕ) → Choice �
   allowed start cs begun h = allowed_path R rule start cs (λ k c last g e. h k c last g (record { start = start; begun = begun; led = e }))
 
   module _ (before given : List (List Choice)) where
-    pub run_answered : (p : Progress) (f : Finished) → IsLed s a allows (present given) p → AreAllListed (leads_of p.basis.items) p.listed → state_of p ≡ last_of f → HasOneMoreRun before given → FollowsTo s allows allows_spent course before given (last_of f)
+    pub run_answered : (p : Progress) (f : Finished) → IsLed s a allows (present given) p → AreAllListed (leads_of p.basis.items) p.listed → run_state p ≡ last_of f → HasOneMoreRun before given → FollowsTo s allows allows_spent course before given (last_of f)
     run_answered p f led all same more = subst (λ last. Follows R rule course before given (Done last)) same
-        (one_run_answered R rule (first_state s a) led.start led.begun (present given) before given (state_of p) more led.led (tested rationals (state_of p) (all_complete s a allows p led.kept all)) (allowed led.start (present given) led.begun led.allowed))
+        (one_run_answered R rule (first_state s a) led.start led.begun (present given) before given (run_state p) more led.led (tested rationals (run_state p) (all_complete s a allows p led.kept all)) (allowed led.start (present given) led.begun led.allowed))
 
     -- the first basis stops, and no run is begun
     pub forced_halts : given ≡ before → (settings : Settings) (r : RingStop) (h : Halt) → h ≡ halting.halt_of r at.Forced → Fails r (first_state s a)

@@ -24,7 +24,7 @@ use Rattle.ore_rows.specs.StoredBasis.{BasisBelongs, HaveLeads, monic_of, monics
 use Rattle.ore_rows.proofs.BasisParts.{leads_monics}
 use Rattle.ore_rows.proofs.StoredBases.{are_monic, no_lead_of_zeros}
 use Rattle.ore_groebner.specs.Honest.{state_leads}
-use Rattle.ore_groebner.specs.RunProgress.{state_of, IsProgressOf}
+use Rattle.ore_groebner.specs.RunProgress.{run_state, IsProgressOf}
 use Rattle.ore_groebner.specs.BasisLeads.{order_in, basis_leads, BeginsWithLeads}
 use Rattle.ore_groebner.specs.declared.progress.Progress.{Progress}
 
@@ -61,5 +61,5 @@ module _ (s : Signature) where
       cons_nil : {X : Type 0} {x : X} {xs : List X} → x ∷ xs ≡ [] → ⊥
       cons_nil e = cc
 
-  pub state_leads-state : (a : OperatorMatrix) (p : Progress) → IsProgressOf s p → HaveLeads p.basis.items → state_leads s (state_of p) ≡ basis_leads p.basis
+  pub state_leads-state : (a : OperatorMatrix) (p : Progress) → IsProgressOf s p → HaveLeads p.basis.items → state_leads s (run_state p) ≡ basis_leads p.basis
   state_leads-state a p kept have = λ n. record { order = order_of_state p.basis.items kept.belongs (are_monic s p.basis kept.belongs have) n; leads = leads_monics p.basis.items n }

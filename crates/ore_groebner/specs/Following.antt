@@ -28,7 +28,7 @@ use Rattle.ore_rows.specs.declared.choices.Choice.{Choice}
 use Rattle.ore_rows.specs.declared.choices.Choice.TheVariants as choice
 use Rattle.ore_groebner.specs.Choosing.{first_of, second_of, chosen_pairs, with_choice, Settings, IsWithinBudget, IsChooserAnswer}
 use Rattle.ore_groebner.specs.Honest.{first_state, state_after, RuleAllowsEach}
-use Rattle.ore_groebner.specs.RunProgress.{state_of, choices_of, IsProgressOf, HasShapeOf}
+use Rattle.ore_groebner.specs.RunProgress.{run_state, choices_of, IsProgressOf, HasShapeOf}
 use Rattle.ore_groebner.specs.BasisLeads.{BasisLeads}
 use Rattle.ore_groebner.specs.declared.chooser.Next.TheVariants as next
 use Rattle.ore_groebner.specs.declared.outcome.Halt.{Halt}
@@ -80,7 +80,7 @@ state_after_choice s st c = run.step rationals rational_inverses s.order (within
 
 -- the state is the one that the choice makes, and what is kept fits it; one pair is added, in one more event
 pub record IsFollowed (s : Signature) (p : Progress) (c : Choice) (q : Progress) : Type 0 where
-  pub made : state_after_choice s (state_of p) c ≡ Ok (state_of q)
+  pub made : state_after_choice s (run_state p) c ≡ Ok (run_state q)
   pub kept : IsProgressOf s q
   pub shape : HasShapeOf p c q
   pub listed : HaveSamePairs q.listed ((first_of c, second_of c) ∷ p.listed)
@@ -103,7 +103,7 @@ IsStopOf s st c halt.Memory = Unit {0}
 pub record IsLed (s : Signature) (a : OperatorMatrix) (allows : BasisLeads → List (ℕ × ℕ) → Choice → Bool) (choices : List Choice) (p : Progress) : Type 0 where
   pub start : RunState rationals
   pub begun : first_state s a ≡ Ok start
-  pub led : state_after s a start choices ≡ Ok (state_of p)
+  pub led : state_after s a start choices ≡ Ok (run_state p)
   pub kept : IsProgressOf s p
   pub lists : HaveSamePairs p.listed (chosen_pairs choices)
   pub events : choices_of p.events.items ≡ choices

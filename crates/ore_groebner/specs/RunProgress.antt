@@ -3,7 +3,7 @@
 --     basis_with          some basis rows, and one more that is made
 --     entries_from        the entries of events, where so many basis rows stood before the first
 --     new_rows            how many events made a basis row
---     state_of            the state that is kept
+--     run_state           the state that is kept
 --     IsProgressOf        the parts that are kept fit together
 --     choice_of, choices_of    the choice that an event follows, and those of some events
 --     HasShapeOf          the widths are the same, and one more choice was followed
@@ -56,8 +56,8 @@ new_rows (Treated i j steps Zero ∷ es) = new_rows es
 new_rows (Treated i j steps (NewRow k) ∷ es) = suc (new_rows es)
 new_rows (Skipped i j via ∷ es) = new_rows es
 
-abbrev pub state_of : Progress → RunState rationals
-state_of p = record { basis = monics p.basis; listed = entries_from p.first p.events.items; syzygies = map sums_of p.syzygies.items; origins = p.origins.items }
+abbrev pub run_state : Progress → RunState rationals
+run_state p = record { basis = monics p.basis; listed = entries_from p.first p.events.items; syzygies = map sums_of p.syzygies.items; origins = p.origins.items }
 
 pub record IsProgressOf (s : Signature) (p : Progress) : Type 0 where
   pub belongs : BasisBelongs s p.basis.items

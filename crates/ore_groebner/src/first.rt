@@ -13,7 +13,7 @@ ghost use Rattle.ore_rows.specs.Rows as rows;
 ghost use Rattle.ore_pairs.specs.Run as run;
 ghost use Rattle.ore_rows.specs.Stored.{IsZeroRow, rows_of, sums_of};
 ghost use Rattle.ore_rows.specs.declared.choices.Origin.TheVariants as origins;
-ghost use Rattle.ore_groebner.specs.RunProgress.{state_of, with_basis_row, IsBegun, IsProgressOf, HasWidthsOf};
+ghost use Rattle.ore_groebner.specs.RunProgress.{run_state, with_basis_row, IsBegun, IsProgressOf, HasWidthsOf};
 
 use crate::monic::push_monic;
 use crate::progress::Progress;
@@ -31,7 +31,7 @@ use std::alloc::Global;
 /// The stop of the first product that stops, and want of memory.
 pub fn begin<R: OreRing>(ring: &R, alloc: Global, a: &Matrix) -> Result<Progress, RingStop>
     requires { All (AllBelong (R.sig ring.now)) a.now.rows }
-    ensures gives { Gives state_of result (run.begin rationals rational_inverses (R.sig ring.now).order (within program (R.sig ring.now)) (rows_of a.now)) }
+    ensures gives { Gives run_state result (run.begin rationals rational_inverses (R.sig ring.now).order (within program (R.sig ring.now)) (rows_of a.now)) }
     ensures kept { IfOk result (IsProgressOf (R.sig ring.now)) }
     ensures begun { IfOk result IsBegun }
     ensures cols { IfOk result (λ p. p.basis.cols ≡ a.now.cols) }
@@ -64,7 +64,7 @@ fn begin_row<R: OreRing>(
     requires row_of { AllBelong (R.sig ring.now) row.now }
     requires kept { IsProgressOf (R.sig ring.now) progress }
     requires begun { IsBegun progress }
-    ensures gives { Gives state_of result (run.begin_row rationals rational_inverses (R.sig ring.now).order (within program (R.sig ring.now)) progress.basis.width k (sums_of row.now) (state_of progress)) }
+    ensures gives { Gives run_state result (run.begin_row rationals rational_inverses (R.sig ring.now).order (within program (R.sig ring.now)) progress.basis.width k (sums_of row.now) (run_state progress)) }
     ensures kept { IfOk result (IsProgressOf (R.sig ring.now)) }
     ensures begun { IfOk result IsBegun }
     ensures widths { IfOk result (HasWidthsOf progress) }
@@ -88,7 +88,7 @@ fn begin_zero(
     requires of { AllBelong sig.now unit }
     requires kept { IsProgressOf sig.now progress }
     requires begun { IsBegun progress }
-    ensures state { IfOk result (λ p. state_of p ≡ record (state_of progress) { syzygies = (state_of progress).syzygies ++ sums_of unit ∷ []; origins = (state_of progress).origins ++ origins.ZeroRow k ∷ [] }) }
+    ensures state { IfOk result (λ p. run_state p ≡ record (run_state progress) { syzygies = (run_state progress).syzygies ++ sums_of unit ∷ []; origins = (run_state progress).origins ++ origins.ZeroRow k ∷ [] }) }
     ensures kept { IfOk result (IsProgressOf sig.now) }
     ensures begun { IfOk result IsBegun }
     ensures widths { IfOk result (HasWidthsOf progress) }
@@ -117,7 +117,7 @@ fn begin_monic<R: OreRing>(
     requires unit_of { AllBelong (R.sig ring.now) unit.now }
     requires kept { IsProgressOf (R.sig ring.now) progress }
     requires begun { IsBegun progress }
-    ensures gives { (t : Term) → IsRowLead rationals (R.sig ring.now).order (sums_of row.now) t coef → Gives state_of result (with_basis_row (state_of progress) (run.monic_multiple rationals rational_inverses (within program (R.sig ring.now)) (sums_of row.now) (sums_of unit.now) t)) }
+    ensures gives { (t : Term) → IsRowLead rationals (R.sig ring.now).order (sums_of row.now) t coef → Gives run_state result (with_basis_row (run_state progress) (run.monic_multiple rationals rational_inverses (within program (R.sig ring.now)) (sums_of row.now) (sums_of unit.now) t)) }
     ensures kept { IfOk result (IsProgressOf (R.sig ring.now)) }
     ensures begun { IfOk result IsBegun }
     ensures widths { IfOk result (HasWidthsOf progress) }

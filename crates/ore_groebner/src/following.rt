@@ -4,7 +4,7 @@ ghost use Rattle.std.specs.Prelude.{◌≡◌, true, IfOk, IfErr};
 ghost use Rattle.ore_rows.specs.Reduction.{leads_of};
 ghost use Rattle.ore_pairs.specs.PairRule.{is_lawful};
 ghost use Rattle.ore_groebner.specs.Following.{IsFollowed, IsStopOf};
-ghost use Rattle.ore_groebner.specs.RunProgress.{state_of, IsProgressOf};
+ghost use Rattle.ore_groebner.specs.RunProgress.{run_state, IsProgressOf};
 ghost use Rattle.ore_rows.specs.declared.choices.Choice.TheVariants as choices;
 
 use crate::halting::halt_at;
@@ -25,7 +25,7 @@ pub(crate) fn follow<R: OreRing>(
     requires kept { IsProgressOf (R.sig ring.now) progress }
     requires lawful { is_lawful (leads_of progress.basis.items) progress.listed choice ≡ true }
     ensures followed { IfOk result (IsFollowed (R.sig ring.now) progress choice) }
-    ensures halted { IfErr result (IsStopOf (R.sig ring.now) (state_of progress) choice) }
+    ensures halted { IfErr result (IsStopOf (R.sig ring.now) (run_state progress) choice) }
 {
     match choice {
         Choice::Treat { i, j } => follow_treat(ring, alloc, progress, i, j),
@@ -47,7 +47,7 @@ fn follow_treat<R: OreRing>(
     requires kept { IsProgressOf (R.sig ring.now) progress }
     requires lawful { is_lawful (leads_of progress.basis.items) progress.listed (choices.Treat i j) ≡ true }
     ensures followed { IfOk result (IsFollowed (R.sig ring.now) progress (choices.Treat i j)) }
-    ensures halted { IfErr result (IsStopOf (R.sig ring.now) (state_of progress) (choices.Treat i j)) }
+    ensures halted { IfErr result (IsStopOf (R.sig ring.now) (run_state progress) (choices.Treat i j)) }
 {
     match treat(ring, alloc, progress, i, j) {
         Ok(next) => Ok(next),

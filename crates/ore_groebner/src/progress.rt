@@ -15,7 +15,7 @@ ghost use Rattle.ore_pairs.specs.Run as run;
 ghost use Rattle.ore_pairs.specs.PairList as pair;
 ghost use Rattle.ore_rows.specs.Stored.{IsZeroRow, sums_of};
 ghost use Rattle.ore_division.specs.StoredWork.{work_of};
-ghost use Rattle.ore_groebner.specs.RunProgress.{state_of, IsProgressOf, HasShapeOf};
+ghost use Rattle.ore_groebner.specs.RunProgress.{run_state, IsProgressOf, HasShapeOf};
 ghost use Rattle.ore_rows.specs.declared.choices.Choice.TheVariants as choices;
 
 use crate::monic::push_monic;
@@ -61,7 +61,7 @@ pub fn treat<R: OreRing>(
     requires inside { j < length progress.basis.items }
     requires columns { (basis_lead progress.basis.items i).column ≡ (basis_lead progress.basis.items j).column }
     requires kept { IsProgressOf (R.sig ring.now) progress }
-    ensures gives { Gives state_of result (run.treat rationals rational_inverses (R.sig ring.now).order (within program (R.sig ring.now)) (state_of progress) i j) }
+    ensures gives { Gives run_state result (run.treat rationals rational_inverses (R.sig ring.now).order (within program (R.sig ring.now)) (run_state progress) i j) }
     ensures kept { IfOk result (IsProgressOf (R.sig ring.now)) }
     ensures shape { IfOk result (HasShapeOf progress (choices.Treat i j)) }
     ensures listed { IfOk result (λ p. HaveSamePairs p.listed ((i, j) ∷ progress.listed)) }
@@ -77,7 +77,7 @@ pub fn treat<R: OreRing>(
 /// Want of memory.
 pub fn skip(progress: Progress, i: usize, j: usize, via: usize) -> Result<Progress, NoMemory>
     requires { i < j }
-    ensures state { IfOk result (λ p. state_of p ≡ record (state_of progress) { listed = run.entries_with rationals (state_of progress) (pair.Skip i j via) }) }
+    ensures state { IfOk result (λ p. run_state p ≡ record (run_state progress) { listed = run.entries_with rationals (run_state progress) (pair.Skip i j via) }) }
     ensures kept { IfOk result (λ p. (s : Lawful) → IsProgressOf s progress → IsProgressOf s p) }
     ensures shape { IfOk result (HasShapeOf progress (choices.Skip i j via)) }
     ensures listed { IfOk result (λ p. HaveSamePairs p.listed ((i, j) ∷ progress.listed)) }
@@ -103,7 +103,7 @@ fn add_remainder<R: OreRing>(
     requires cofactor_width { length work.cofactor ≡ progress.basis.width }
     requires row_of { AllBelong (R.sig ring.now) work.row }
     requires cofactor_of { AllBelong (R.sig ring.now) work.cofactor }
-    ensures gives { Gives state_of result (run.with_remainder rationals rational_inverses (R.sig ring.now).order (within program (R.sig ring.now)) (state_of progress) i j (work_of work)) }
+    ensures gives { Gives run_state result (run.with_remainder rationals rational_inverses (R.sig ring.now).order (within program (R.sig ring.now)) (run_state progress) i j (work_of work)) }
     ensures kept { IfOk result (IsProgressOf (R.sig ring.now)) }
     ensures shape { IfOk result (HasShapeOf progress (choices.Treat i j)) }
     ensures listed { IfOk result (λ p. HaveSamePairs p.listed ((i, j) ∷ progress.listed)) }
@@ -127,7 +127,7 @@ fn add_syzygy(
     requires kept { IsProgressOf sig.now progress }
     requires cofactor_width { length work.cofactor ≡ progress.basis.width }
     requires cofactor_of { AllBelong sig.now work.cofactor }
-    ensures state { IfOk result (λ p. state_of p ≡ run.with_syzygy rationals sig.now.order (state_of progress) i j (work_of work)) }
+    ensures state { IfOk result (λ p. run_state p ≡ run.with_syzygy rationals sig.now.order (run_state progress) i j (work_of work)) }
     ensures kept { IfOk result (IsProgressOf sig.now) }
     ensures shape { IfOk result (HasShapeOf progress (choices.Treat i j)) }
     ensures listed { IfOk result (λ p. HaveSamePairs p.listed ((i, j) ∷ progress.listed)) }
@@ -194,7 +194,7 @@ fn add_row<R: OreRing>(
     requires cofactor_width { length work.cofactor ≡ progress.basis.width }
     requires row_of { AllBelong (R.sig ring.now) work.row }
     requires cofactor_of { AllBelong (R.sig ring.now) work.cofactor }
-    ensures gives { (t : Term) → IsRowLead rationals (R.sig ring.now).order (sums_of work.row) t coef → Gives state_of result (run.with_row rationals rational_inverses (within program (R.sig ring.now)) (state_of progress) i j (work_of work) t) }
+    ensures gives { (t : Term) → IsRowLead rationals (R.sig ring.now).order (sums_of work.row) t coef → Gives run_state result (run.with_row rationals rational_inverses (within program (R.sig ring.now)) (run_state progress) i j (work_of work) t) }
     ensures kept { IfOk result (IsProgressOf (R.sig ring.now)) }
     ensures shape { IfOk result (HasShapeOf progress (choices.Treat i j)) }
     ensures listed { IfOk result (λ p. HaveSamePairs p.listed ((i, j) ∷ progress.listed)) }

@@ -19,7 +19,7 @@ use Rattle.ore_monomial.specs.declared.order.Order.TheVariants.{DegLex}
 use Rattle.ore_monomial.specs.Monomial.{plain_cmp}
 use Rattle.ore_monomial.specs.Signature.{Signature}
 use Rattle.ore_monomial.specs.LetterRule.{Operator}
-use Rattle.ore_ring.specs.Terms.{Term}
+use Rattle.ore_ring.specs.Terms.{Summand}
 use Rattle.ore_ring.proofs.AllTerms.{all_terms}
 use Rattle.ore_ring.proofs.Belonging.{of_none}
 use Rattle.ore_ring.proofs.Falls.{falls_none}
@@ -119,7 +119,7 @@ module _ (name : List ℕ) (names : List (List ℕ)) (o : Order) (are : AreNames
 
 -- ---- zeros
 
-empty : (ts : List Term) → list_all (λ _. false) ts ≡ true → ts ≡ []
+empty : (ts : List Summand) → list_all (λ _. false) ts ≡ true → ts ≡ []
 empty [] e = refl
 empty (t ∷ ts) e = absurd (true≢false (sym e))
 

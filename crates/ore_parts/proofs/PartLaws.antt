@@ -24,7 +24,7 @@ use Rattle.ore_rational.specs.Field.{rationals}
 use Rattle.ore_monomial.specs.Monomial.{Monomial, unit, degree, plain_cmp}
 use Rattle.ore_monomial.specs.Signature.{Signature}
 use Rattle.ore_monomial.proofs.Declared.{MonomialOf-unit}
-use Rattle.ore_ring.specs.Terms.{Term, falling}
+use Rattle.ore_ring.specs.Terms.{Summand, falling}
 use Rattle.ore_ring.proofs.Falls.{single_falling}
 use Rattle.ore_text.specs.CanonicalParts.{IsPrintableTerm}
 use Rattle.ore_text.specs.CanonicalText.{operator_text}
@@ -154,8 +154,8 @@ module _ (s : Signature) (names : List (List ℕ)) (are : AreNames names) (fit :
   pub same_term : (m q : Monomial) (x y : Fraction) → ¬ (x ≡ rationals.zero) → ¬ (y ≡ rationals.zero) → single rationals plain_cmp m x ≡ single rationals plain_cmp q y → (m ≡ q) × (x ≡ y)
   same_term m q x y h k e = first (m, x) (q, y) (sym (single_falling s.order m x h) ∙ ap (falling s.order) e ∙ single_falling s.order q y k)
     where
-      first : (t u : Term) → t ∷ [] ≡ u ∷ [] → (t.0 ≡ u.0) × (t.1 ≡ u.1)
-      first t u e = let h : t ≡ u = cc in (ap (λ (v : Term). v.0) h, ap (λ (v : Term). v.1) h)
+      first : (t u : Summand) → t ∷ [] ≡ u ∷ [] → (t.0 ≡ u.0) × (t.1 ≡ u.1)
+      first t u e = let h : t ≡ u = cc in (ap (λ (v : Summand). v.0) h, ap (λ (v : Summand). v.1) h)
 
   step_same : (t u : Step rationals) → IsWrittenStep s names t → IsWrittenStep s names u → step_words names s.order t ≡ step_words names s.order u → t ≡ u
   step_same t u h k e =

@@ -31,7 +31,7 @@ use Rattle.ore_expr.proofs.Machine.{value_of-expression_code}
 use Rattle.ore_rows.specs.Rows.{Row}
 use Rattle.ore_problem.specs.declared.fault.ProblemReason.TheVariants as reason
 use Rattle.ore_problem.specs.Lines.{Cursor, split_at}
-use Rattle.ore_problem.specs.Problems.{System, Frame, fault_at, accepted_where, is_space, begins_with_space, is_row, text_read, value_read, parsed, evaluated, entries_of, line_due, row_after, rows_after}
+use Rattle.ore_problem.specs.Problems.{System, Frame, fault_at, accepted_where, is_space, begins_with_space, is_row, text_read, value_read, parsed, evaluated, row_entries, line_due, row_after, rows_after}
 use Rattle.ore_algebra.specs.Results.{◌>>=◌}
 use Rattle.ore_problem.specs.Accepted.{AreEntries, IsRow}
 use Rattle.ore_problem.proofs.AcceptedLines.{GoesFrom, goes_same, due, due_back}
@@ -129,8 +129,8 @@ tests_same : (n m : ℕ) → n ≡ m → nat_eq n m ≡ true
 tests_same n m h = grind (arith, nat_tests)
 
 module _ (p : System) where
-  all_back : (cols line : ℕ) (rest : List ℕ) (row : Row rationals) → entries_of (frame_of p) cols line rest ≡ Ok row → AreEntries p cols rest row
-  unfolding entries_of
+  all_back : (cols line : ℕ) (rest : List ℕ) (row : Row rationals) → row_entries (frame_of p) cols line rest ≡ Ok row → AreEntries p cols rest row
+  unfolding row_entries
   all_back zero line rest row e = by (list_all is_space rest) e
     where
       by : (b : Bool) → cond b (Ok []) (fault_at line reason.WrongLength) ≡ Ok row → (b ≡ true) × (row ≡ [])
@@ -146,8 +146,8 @@ module _ (p : System) where
           (AllZip-long _ (split_at 44 rest) row all ∙ same_count (length (split_at 44 rest)) (suc n) c, all)
       by false c e = cc
 
-  all_due : (cols line : ℕ) (rest : List ℕ) (row : Row rationals) → AreEntries p cols rest row → entries_of (frame_of p) cols line rest ≡ Ok row
-  unfolding entries_of
+  all_due : (cols line : ℕ) (rest : List ℕ) (row : Row rationals) → AreEntries p cols rest row → row_entries (frame_of p) cols line rest ≡ Ok row
+  unfolding row_entries
   all_due zero line rest row h = λ i. cond (h.0 i) (Ok (sym h.1 i)) (fault_at line reason.WrongLength)
   all_due (suc n) line rest row h =
       let t = entries_due p.names p.signature line (split_at 44 rest) row h.1 in
@@ -165,9 +165,9 @@ module _ (p : System) where
   unfolding row_after
   row_back c x ls goal e g =
       let f = frame_of p in
-      let a = bound (line_due c) (λ y. accepted_where (is_row y.0) y.1 reason.BadRow (drop 3 y.0) >>= λ rest. entries_of f p.cols y.1.line rest >>= λ r. Ok (r, y.1)) x e in
-      let b = bound (accepted_where (is_row a.0.0) a.0.1 reason.BadRow (drop 3 a.0.0)) (λ rest. entries_of f p.cols a.0.1.line rest >>= λ r. Ok (r, a.0.1)) x a.2 in
-      let d = bound (entries_of f p.cols a.0.1.line b.0) (λ r. Ok (r, a.0.1)) x b.2 in
+      let a = bound (line_due c) (λ y. accepted_where (is_row y.0) y.1 reason.BadRow (drop 3 y.0) >>= λ rest. row_entries f p.cols y.1.line rest >>= λ r. Ok (r, y.1)) x e in
+      let b = bound (accepted_where (is_row a.0.0) a.0.1 reason.BadRow (drop 3 a.0.0)) (λ rest. row_entries f p.cols a.0.1.line rest >>= λ r. Ok (r, a.0.1)) x a.2 in
+      let d = bound (row_entries f p.cols a.0.1.line b.0) (λ r. Ok (r, a.0.1)) x b.2 in
       let same = same_ok (d.0, a.0.1) x d.2 in
       let test = passed_test (is_row a.0.0) a.0.1 reason.BadRow (drop 3 a.0.0) b.0 b.1 in
       let spelled = row_line a.0.0 b.0 test.0 test.1 in

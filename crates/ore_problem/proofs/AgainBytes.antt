@@ -24,7 +24,7 @@ use Rattle.ore_rational.specs.Fraction.{Fraction}
 use Rattle.ore_rational.specs.Field.{rationals}
 use Rattle.ore_monomial.specs.declared.order.Order.{Order}
 use Rattle.ore_monomial.specs.LetterRule.{Operator}
-use Rattle.ore_ring.specs.Terms.{Term, Terms, falling}
+use Rattle.ore_ring.specs.Terms.{Summand, Terms, falling}
 use Rattle.ore_expr.specs.Tokens.{IsName, is_name_byte}
 use Rattle.ore_text.specs.Names.{AreNames}
 use Rattle.ore_text.specs.CanonicalText.{power_text, factor_texts, magnitude_text, is_one, with_factors, term_text, sign_text, later_text, terms_text, operator_text}
@@ -172,7 +172,7 @@ plain_with_factors q [] h = plain_magnitude q
 plain_with_factors q (x ∷ factors) h =
     plain_product (if is_one q then x ∷ factors else magnitude_text q ∷ x ∷ factors) (either_all (is_one q) (x ∷ factors) (magnitude_text q ∷ x ∷ factors) h (plain_magnitude q, h))
 
-plain_term : (names : List (List ℕ)) (t : Term) → AllByRecursion IsName names → IsPlain (term_text names t)
+plain_term : (names : List (List ℕ)) (t : Summand) → AllByRecursion IsName names → IsPlain (term_text names t)
 plain_term names t h = plain_with_factors t.1 (factor_texts names t.0.exponents) (plain_factors names t.0.exponents h)
 
 plain_sign : (z : ℤ) (plus minus : List ℕ) → IsPlain plus → IsPlain minus → IsPlain (sign_text z plus minus)

@@ -17,7 +17,7 @@ use Rattle.ore_problem.specs.ProblemText.{order_word, declaration_text, matrix_t
 use Rattle.ore_problem.specs.Problems.{System}
 use Rattle.ore_problem.specs.Stored.{IsPrintableSystem}
 use Rattle.ore_problem.specs.Accepted.{counted, LastCounts, AllDeclare, IsRow, Accepted}
-use Rattle.ore_problem.specs.Laws.{behind, PrintedProblemIsRead}
+use Rattle.ore_problem.specs.Laws.{cursor_behind, PrintedProblemIsRead}
 use Rattle.ore_problem.proofs.AcceptedLines.{cursor, over}
 use Rattle.ore_problem.proofs.FrontReads.{byte_count, over-all, byte_count-raw_lines}
 use Rattle.ore_problem.proofs.AcceptedReads.{accepted_prefix, accepted_read}
@@ -115,7 +115,7 @@ module _ (p : System) (h : IsPrintableSystem p) where
 
 -- ---- the cursor behind the text
 
-over-behind : (p : System) (rest : List ℕ) → over 0 0 (raw_lines (problem_text p)) (raw_lines rest) ≡ behind p rest
+over-behind : (p : System) (rest : List ℕ) → over 0 0 (raw_lines (problem_text p)) (raw_lines rest) ≡ cursor_behind p rest
 over-behind p rest =
     over-all 0 0 (raw_lines (problem_text p)) (raw_lines rest)
     ∙ (let a : 0 + length (raw_lines (problem_text p)) ≡ length (raw_lines (problem_text p)) = omega arith in

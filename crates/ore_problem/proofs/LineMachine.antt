@@ -31,14 +31,14 @@ use Rattle.ore_expr.specs.Tokens.{lexemes_from}
 use Rattle.ore_expr.specs.Parsing.{parse}
 use Rattle.ore_expr.specs.Values.{constant}
 use Rattle.ore_expr.specs.Evaluation.{applied, value_of}
-use Rattle.ore_expr.specs.Reading.{stop_of}
+use Rattle.ore_expr.specs.Reading.{stop_fault}
 use Rattle.ore_rows.specs.Rows.{Row}
 use Rattle.ore_problem.specs.declared.fault.ProblemFault.{ProblemFault}
 use Rattle.ore_problem.specs.declared.fault.ProblemReason.{ProblemReason}
 use Rattle.ore_problem.specs.declared.fault.ProblemReason.TheVariants as reason
 use Rattle.ore_problem.specs.Lines.{split_at, is_comment, words}
 use Rattle.ore_problem.specs.Declarations.{declared_by, declaration_fault, is_count}
-use Rattle.ore_problem.specs.Problems.{System, Read, Frame, fault_at, found_or, fault_or, are_words, order_named, is_matrix, declared_frame, with_declared, sizes_of, is_space, is_row, text_read, value_read, parsed, evaluated, entries_of}
+use Rattle.ore_problem.specs.Problems.{System, Read, Frame, fault_at, found_or, fault_or, are_words, order_named, is_matrix, declared_frame, with_declared, sizes_of, is_space, is_row, text_read, value_read, parsed, evaluated, row_entries}
 use Rattle.ore_algebra.specs.Results.{◌>>=◌}
 use Rattle.ore_problem.proofs.AgainBytes.{Lacks}
 use Rattle.ore_problem.proofs.AcceptedReads.{header, system}
@@ -64,7 +64,7 @@ ended_read true f cols rows line = Ok (Ended (system f cols rows))
 ended_read false f cols rows line = fault_at line reason.NoEnd
 
 abbrev pub row_read : Bool → Frame → ℕ → ℕ → List (Row rationals) → ℕ → List ℕ → Read Stage
-row_read true f cols n rows line rest = entries_of f cols line rest >>= λ r. Ok (Due (InRows f cols n (rows ++ r ∷ [])))
+row_read true f cols n rows line rest = row_entries f cols line rest >>= λ r. Ok (Due (InRows f cols n (rows ++ r ∷ [])))
 row_read false f cols n rows line rest = fault_at line reason.BadRow
 
 abbrev pub header_read : Bool → ℕ → Read Stage
@@ -143,7 +143,7 @@ line_text {A} line (Err g) = line_at {A = A} line (reason.Text g)
 
 line_value : {A : Type 0} (line : ℕ) (r : Result A Cause) → HasLine (value_read line r) line
 line_value {A} line (Ok x) = line_ok x line
-line_value {A} line (Err g) = line_at {A = A} line (reason.Text (stop_of g))
+line_value {A} line (Err g) = line_at {A = A} line (reason.Text (stop_fault g))
 
 line_parsed : (names : List (List ℕ)) (line : ℕ) (parts : List (List ℕ)) → HasLine (parsed names line parts) line
 unfolding parsed
@@ -159,8 +159,8 @@ line_evaluated s line (p ∷ ps) = line_then (value_read line (value_of program 
     (line_value line (value_of program s p))
     (λ f. line_then (evaluated s line ps) (λ fs. Ok (f ∷ fs)) line (line_evaluated s line ps) (λ fs. line_ok (f ∷ fs) line))
 
-line_entries : (f : Frame) (cols line : ℕ) (rest : List ℕ) → HasLine (entries_of f cols line rest) line
-unfolding entries_of
+line_entries : (f : Frame) (cols line : ℕ) (rest : List ℕ) → HasLine (row_entries f cols line rest) line
+unfolding row_entries
 line_entries f zero line rest = line_cond (list_all is_space rest) (Ok []) (fault_at line reason.WrongLength) line (line_ok [] line) (line_at {A = Row rationals} line reason.WrongLength)
 line_entries f (suc p) line rest = line_if (nat_eq (length (split_at 44 rest)) (suc p)) _ _ line
     (line_then (parsed f.names line (split_at 44 rest)) (λ ps. evaluated f.signature line ps) line (line_parsed f.names line (split_at 44 rest)) (λ ps. line_evaluated f.signature line ps))
@@ -179,7 +179,7 @@ line_ended true f cols rows line = line_ok (Ended (system f cols rows)) line
 line_ended false f cols rows line = line_at {A = Stage} line reason.NoEnd
 
 line_row : (b : Bool) (f : Frame) (cols n : ℕ) (rows : List (Row rationals)) (line : ℕ) (rest : List ℕ) → HasLine (row_read b f cols n rows line rest) line
-line_row true f cols n rows line rest = line_then (entries_of f cols line rest) (λ r. Ok (Due (InRows f cols n (rows ++ r ∷ [])))) line (line_entries f cols line rest) (λ r. line_ok (Due (InRows f cols n (rows ++ r ∷ []))) line)
+line_row true f cols n rows line rest = line_then (row_entries f cols line rest) (λ r. Ok (Due (InRows f cols n (rows ++ r ∷ [])))) line (line_entries f cols line rest) (λ r. line_ok (Due (InRows f cols n (rows ++ r ∷ []))) line)
 line_row false f cols n rows line rest = line_at {A = Stage} line reason.BadRow
 
 step_line : (s : Need) (line : ℕ) (x : List ℕ) → HasLine (step s line x) line
@@ -254,8 +254,8 @@ parsed_zeros names line (suc n) =
 tests_equal : (n m : ℕ) → n ≡ m → nat_eq n m ≡ true
 tests_equal n m h = grind (arith, nat_tests)
 
-zero_entries : (f : Frame) (cols line : ℕ) → (row : Row rationals) × (entries_of f cols line (zero_rest cols) ≡ Ok row)
-unfolding entries_of
+zero_entries : (f : Frame) (cols line : ℕ) → (row : Row rationals) × (row_entries f cols line (zero_rest cols) ≡ Ok row)
+unfolding row_entries
 zero_entries f zero line = ([], refl)
 zero_entries f (suc n) line =
     let a = parsed_zeros f.names line n in

@@ -16,7 +16,7 @@ use Rattle.ore_monomial.specs.declared.order.Order.{Order}
 use Rattle.ore_rows.specs.Rows.{Row}
 use Rattle.ore_problem.specs.declared.fault.ProblemReason.TheVariants as reason
 use Rattle.ore_problem.specs.Lines.{Cursor, at_start, raw_lines, is_line_end, content, is_comment, words}
-use Rattle.ore_problem.specs.Problems.{System, Read, Frame, Declarations, found_or, accepted_where, line_due, are_words, header_after, order_named, order_after, is_matrix, declared_frame, declarations_of, sizes_of, is_row, entries_of, row_after, rows_after, end_after, prefix_of}
+use Rattle.ore_problem.specs.Problems.{System, Read, Frame, Declarations, found_or, accepted_where, line_due, are_words, header_after, order_named, order_after, is_matrix, declared_frame, declarations_of, sizes_of, is_row, row_entries, row_after, rows_after, end_after, prefix_of}
 use Rattle.ore_algebra.specs.Results.{◌>>=◌}
 use Rattle.ore_problem.proofs.AcceptedLines.{cursor}
 use Rattle.ore_problem.proofs.AcceptedReads.{header, system, end_read, rows_read, sizes_read, declarations_read, order_read}
@@ -94,7 +94,7 @@ module _ (K : Closing) (behind : System × Cursor → Read System) (Behind : (p 
   with_cursor c x = Ok (x, c)
 
   abbrev row_found : Frame → ℕ → List ℕ × Cursor → Read (Row rationals × Cursor)
-  row_found f cols x = accepted_where (is_row x.0) x.1 reason.BadRow (drop 3 x.0) >>= λ rest. entries_of f cols x.1.line rest >>= λ r. Ok (r, x.1)
+  row_found f cols x = accepted_where (is_row x.0) x.1 reason.BadRow (drop 3 x.0) >>= λ rest. row_entries f cols x.1.line rest >>= λ r. Ok (r, x.1)
 
   abbrev rows_found : Frame → ℕ → ℕ → Row rationals × Cursor → Read (List (Row rationals) × Cursor)
   rows_found f cols n r = rows_after f cols n r.1 >>= λ rs. Ok (r.0 ∷ rs.0, rs.1)
@@ -121,9 +121,9 @@ module _ (K : Closing) (behind : System × Cursor → Read System) (Behind : (p 
       entries (Err g) d more = refl
 
       by : (b : Bool) (rest : List ℕ) (d : Cursor) → ((r : Row rationals) → Runs (InRows f cols n (rows ++ r ∷ [])) d (rows_after f cols n d >>= rows_then f cols (rows ++ r ∷ [])))
-          → ((accepted_where b d reason.BadRow rest >>= λ rest. entries_of f cols d.line rest >>= λ r. with_cursor d r) >>= found_then f cols n rows)
+          → ((accepted_where b d reason.BadRow rest >>= λ rest. row_entries f cols d.line rest >>= λ r. with_cursor d r) >>= found_then f cols n rows)
           ≡ (row_read b f cols n rows d.line rest >>= λ t. run K t d.line (contents d))
-      by true rest d more = entries (entries_of f cols d.line rest) d more
+      by true rest d more = entries (row_entries f cols d.line rest) d more
       by false rest d more = refl
 
   -- ---- declarations

@@ -5,7 +5,7 @@
 --     lines_of         the lines of a text without their ends
 --     IsProblemText, BeginsWithProblem      a text is that of a problem; its front is
 --     FindsFirstFaultyLine                  the fault of a text names its faulty line, the only one
---     behind           the cursor behind the text of a problem, where some text follows
+--     cursor_behind    the cursor behind the text of a problem, where some text follows
 --     PrintedProblemIsRead  the text of a problem is read as the problem, alone and where some text follows
 use Rattle.std.specs.Prelude.{◌≡◌, ◌↔◌, ℕ, List, ◌++◌, length, map}
 use Rattle.std.specs.declared.result.Result.TheVariants.{Ok, Err}
@@ -50,10 +50,10 @@ pub record FindsFirstFaultyLine : Type 0 where
   pub front : (bytes : List ℕ) (f : ProblemFault) → prefix_sizes bytes ≡ Err f → IsFaultyLine lines_of BeginsWithProblem bytes f.line
 
 -- all lines and bytes of the text are passed
-abbrev pub behind : System → List ℕ → Cursor
-behind p rest = record { line = length (raw_lines (problem_text p)); used = length (problem_text p); left = raw_lines rest }
+abbrev pub cursor_behind : System → List ℕ → Cursor
+cursor_behind p rest = record { line = length (raw_lines (problem_text p)); used = length (problem_text p); left = raw_lines rest }
 
 -- a problem that can be printed is read from its text, and from the front of any text that begins with that
 pub record PrintedProblemIsRead : Type 0 where
   pub alone : (p : System) → IsPrintableSystem p → problem_of (problem_text p) ≡ Ok p
-  pub before : (p : System) → IsPrintableSystem p → (rest : List ℕ) → prefix_of (problem_text p ++ rest) ≡ Ok (p, behind p rest)
+  pub before : (p : System) → IsPrintableSystem p → (rest : List ℕ) → prefix_of (problem_text p ++ rest) ≡ Ok (p, cursor_behind p rest)

@@ -20,7 +20,7 @@
 --     is_space, begins_with_space         a byte is a space; a text is empty or begins with one
 --     is_row                              a line is a row line
 --     text_read, value_read               a fault of an entry, and the stop of one, as a fault of its line
---     parsed, evaluated, entries_of       the entries of a row line: each is parsed before any is evaluated
+--     parsed, evaluated, row_entries      the entries of a row line: each is parsed before any is evaluated
 --     row_after, rows_after, end_after    a row line; the row lines; the last line
 --     prefix_of                           the problem at the front of a text
 --     with_sizes                          a problem with the numbers of bytes and lines before a cursor
@@ -45,7 +45,7 @@ use Rattle.ore_expr.specs.declared.fault.TextFault.{TextFault}
 use Rattle.ore_expr.specs.declared.instruction.Instruction.{Instruction}
 use Rattle.ore_expr.specs.Parsing.{parse}
 use Rattle.ore_expr.specs.Evaluation.{value_of}
-use Rattle.ore_expr.specs.Reading.{stop_of}
+use Rattle.ore_expr.specs.Reading.{stop_fault}
 use Rattle.ore_rows.specs.Rows.{Row}
 use Rattle.ore_problem.specs.declared.fault.ProblemFault.{ProblemFault}
 use Rattle.ore_problem.specs.declared.fault.ProblemReason.{ProblemReason}
@@ -187,7 +187,7 @@ text_read line (Err f) = fault_at line (reason.Text f)
 -- the stop of an operation in an entry is a fault of this line
 abbrev pub value_read : {A : Type 0} → ℕ → Result A Cause → Read A
 value_read line (Ok x) = Ok x
-value_read line (Err e) = fault_at line (reason.Text (stop_of e))
+value_read line (Err e) = fault_at line (reason.Text (stop_fault e))
 
 -- the entries in order, up to the first that has a fault
 unfoldable pub parsed : List (List ℕ) → ℕ → List (List ℕ) → Read (List (List Instruction))
@@ -206,9 +206,9 @@ evaluated s line (p ∷ ps) = do
   Ok (f ∷ fs)
 
 -- the entries stand between commas; where there are no columns, only spaces may stand
-unfoldable pub entries_of : Frame → ℕ → ℕ → List ℕ → Read (Row rationals)
-entries_of f zero line rest = cond (list_all is_space rest) (Ok []) (fault_at line reason.WrongLength)
-entries_of f (suc p) line rest =
+unfoldable pub row_entries : Frame → ℕ → ℕ → List ℕ → Read (Row rationals)
+row_entries f zero line rest = cond (list_all is_space rest) (Ok []) (fault_at line reason.WrongLength)
+row_entries f (suc p) line rest =
     if nat_eq (length (split_at 44 rest)) (suc p) then (parsed f.names line (split_at 44 rest) >>= λ ps. evaluated f.signature line ps)
     else fault_at line reason.WrongLength
 
@@ -217,7 +217,7 @@ unfoldable pub row_after : Frame → ℕ → Cursor → Read (Row rationals × C
 row_after f p c = do
   x ← line_due c
   rest ← accepted_where (is_row x.0) x.1 reason.BadRow (drop 3 x.0)
-  r ← entries_of f p x.1.line rest
+  r ← row_entries f p x.1.line rest
   Ok (r, x.1)
 
 -- n rows of p entries, each in the next line

@@ -26,7 +26,7 @@ use Rattle.ore_problem.specs.declared.fault.ProblemFault.{ProblemFault}
 use Rattle.ore_problem.specs.declared.fault.ProblemReason.TheVariants.{Memory, Text}
 use Rattle.ore_problem.specs.declared.frame.Declaration.{Declaration}
 use Rattle.ore_problem.specs.Declarations.{Declared}
-use Rattle.ore_problem.specs.Problems.{System, Read, header_after, order_after, declarations_after, sizes_of, entries_of, rows_after, end_after}
+use Rattle.ore_problem.specs.Problems.{System, Read, header_after, order_after, declarations_after, sizes_of, row_entries, rows_after, end_after}
 use Rattle.ore_algebra.specs.Results.{◌>>=◌}
 use Rattle.ore_problem.specs.Lines.{Cursor, raw_lines}
 
@@ -60,7 +60,7 @@ size_pair line rows cols = sizes_of line (codes "matrix" ∷ rows ∷ cols ∷ [
 
 -- the entries of a row where there are no columns
 abbrev pub spaces_read : ℕ → List ℕ → Read (Row rationals)
-spaces_read line rest = entries_of (record { names = []; signature = signature_of [] DegLex }) 0 line rest
+spaces_read line rest = row_entries (record { names = []; signature = signature_of [] DegLex }) 0 line rest
 
 -- a fault of this line; but want of memory has line 0
 abbrev pub text_fault : ℕ → TextFault → ProblemFault

@@ -8,7 +8,7 @@ ghost use Rattle.ore_rows.specs.Stored.{HasColumns, sums_of};
 ghost use Rattle.ore_expr.specs.Evaluation.{IsOf, value_of};
 ghost use Rattle.ore_expr.specs.Parsing.{parse as parse_of};
 ghost use Rattle.ore_problem.specs.Lines.{split_at};
-ghost use Rattle.ore_problem.specs.Problems.{is_space, text_read, value_read, parsed, evaluated, is_row, entries_of, row_after, rows_after};
+ghost use Rattle.ore_problem.specs.Problems.{is_space, text_read, value_read, parsed, evaluated, is_row, row_entries, row_after, rows_after};
 ghost use Rattle.ore_problem.specs.Reader.{cursor_of, spaces_read, text_fault as text_fault_of};
 ghost use Rattle.ore_problem.specs.Stored.{ReadsProblem};
 
@@ -75,7 +75,7 @@ fn after_row(line: &[u8]) -> Option<&[u8]>
     }
 }
 
-#[tactic(auto, using(crate::proofs::ReadLemmas::fault_reads_on), unfolding(crate::specs::Problems::entries_of))]
+#[tactic(auto, using(crate::proofs::ReadLemmas::fault_reads_on), unfolding(crate::specs::Problems::row_entries))]
 fn entries(
     alloc: Global,
     frame: &Frame,
@@ -83,7 +83,7 @@ fn entries(
     line: usize,
     rest: &[u8],
 ) -> Result<Vec<Op>, ProblemFault>
-    ensures reads { ReadsProblem (λ es. sums_of es.items) result (entries_of frame.now cols line rest.now) }
+    ensures reads { ReadsProblem (λ es. sums_of es.items) result (row_entries frame.now cols line rest.now) }
     ensures of { IfOk result (λ es. AllBelong frame.now.signature es.items) }
     ensures wide { IfOk result (λ es. length es.items ≡ cols) }
 {
@@ -99,7 +99,7 @@ fn entries(
 }
 
 // The row without entries, where only spaces stand.
-#[tactic(auto, unfolding(crate::specs::Problems::entries_of))]
+#[tactic(auto, unfolding(crate::specs::Problems::row_entries))]
 fn no_entries(alloc: Global, line: usize, rest: &[u8]) -> Result<Vec<Op>, ProblemFault>
     ensures reads { ReadsProblem (λ es. sums_of es.items) result (spaces_read line rest.now) }
     ensures none { IfOk result (λ es. es.items ≡ []) }

@@ -7,7 +7,7 @@ use Rattle.std.proofs.lemmas.Int.{ints}
 use mathlib.Core.Bool.{beq}
 use native.Mathlib.Nat.{zero-div}
 use Rattle.ore_rational.specs.Gcd.{gcd}
-use Rattle.ore_rational.specs.Fraction.{reduce, quotient, abs-neg}
+use Rattle.ore_rational.specs.Fraction.{reduce, ratio, abs-neg}
 
 -- a size with a sign
 abbrev pub with_sign : Bool → ℕ → ℤ
@@ -29,13 +29,13 @@ nonzero (pos zero) h = absurd (h refl)
 nonzero (pos (suc d)) h = omega arith
 nonzero (negsuc d) h = omega arith
 
-pub quotient_den : (n d : ℤ) → d ≢ pos 0 → (quotient n d).den ≡ nat_abs d / gcd (nat_abs n) (nat_abs d)
+pub quotient_den : (n d : ℤ) → d ≢ pos 0 → (ratio n d).den ≡ nat_abs d / gcd (nat_abs n) (nat_abs d)
 unfolding reduce
 quotient_den n (pos zero) h = absurd (h refl)
 quotient_den n (pos (suc d)) h = refl
 quotient_den n (negsuc d) h = rw (abs-neg n) refl
 
-pub quotient_num : (n d : ℤ) → d ≢ pos 0 → (quotient n d).num ≡ with_sign (differ n d) (nat_abs n / gcd (nat_abs n) (nat_abs d))
+pub quotient_num : (n d : ℤ) → d ≢ pos 0 → (ratio n d).num ≡ with_sign (differ n d) (nat_abs n / gcd (nat_abs n) (nat_abs d))
 unfolding reduce
 quotient_num n (pos zero) h = absurd (h refl)
 quotient_num (pos a) (pos (suc d)) h = rw (above a, above (suc d)) refl

@@ -5,7 +5,7 @@
 --     reduce                     n / d in lowest terms
 --     add, mul, neg, sub         sums and products by the rules for n / d, reduced
 --     inverse, div               1 / p and p / q, for p and q that are not 0
---     quotient                   n / d for whole numbers of either sign
+--     ratio                      n / d for whole numbers of either sign
 --     unit_over                  d / n for whole numbers n of either sign
 --     abs-neg, abs-over          absolute values of a negative number, and of a quotient
 --     gcd-pos, den-pos, over-reduced  n and d over their greatest common divisor are in lowest terms
@@ -82,6 +82,6 @@ abbrev pub div : Fraction → Fraction → Fraction
 div p q = mul p (inverse q)
 
 -- n / d, for whole numbers, d not 0
-abbrev pub quotient : ℤ → ℤ → Fraction
-quotient n (pos d) = reduce n d
-quotient n (negsuc d) = reduce (neg_ℤ n) (suc d)
+abbrev pub ratio : ℤ → ℤ → Fraction
+ratio n (pos d) = reduce n d
+ratio n (negsuc d) = reduce (neg_ℤ n) (suc d)

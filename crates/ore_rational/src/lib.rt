@@ -25,7 +25,7 @@ ghost use Rattle.std.specs.Prelude.{◌≡◌, ◌≢◌, ◌<◌, ◌^◌, ℤ,
 ghost use Rattle.std.specs.Int.{IsGcd};
 ghost use Rattle.ore_algebra.specs.Limits.{program};
 ghost use Rattle.ore_rational.specs.Gcd.{gcd as gcd_of};
-ghost use Rattle.ore_rational.specs.Fraction.{Fraction, add as add_of, mul as mul_of, neg as neg_of, sub as sub_of, inverse as inverse_of, div as div_of, whole, quotient};
+ghost use Rattle.ore_rational.specs.Fraction.{Fraction, add as add_of, mul as mul_of, neg as neg_of, sub as sub_of, inverse as inverse_of, div as div_of, whole, ratio};
 ghost use Rattle.ore_rational.specs.Within.{sum_fits, fits};
 ghost use Rattle.ore_rational.specs.Range.{InRange};
 
@@ -252,7 +252,7 @@ impl Rational {
     /// `i128::MIN` itself may be given.
     pub fn new(num: i128, den: i128) -> Result<Rational, Passed>
         requires { den ≢ pos 0 }
-        ensures { OkIff result (IsTrue (fits program (quotient num den))) (quotient num den) }
+        ensures { OkIff result (IsTrue (fits program (ratio num den))) (ratio num den) }
     {
         let g = gcd(num.unsigned_abs(), den.unsigned_abs());
         let n = num.unsigned_abs() / g;

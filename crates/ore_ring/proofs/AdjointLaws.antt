@@ -16,14 +16,14 @@ use Rattle.ore_monomial.proofs.Operators
 use Rattle.ore_ring.specs.Adjoint.{adjoint_monomial, adjoint}
 use Rattle.ore_ring.specs.AdjointWithin.{letter_part, coordinate_part, sign_of, adjoint_term_within, adjoint_within}
 use Rattle.ore_monomial.specs.Numbers.{numbers}
-use Rattle.ore_ring.specs.Terms.{Term, Terms, falling}
+use Rattle.ore_ring.specs.Terms.{Summand, Terms, falling}
 use Rattle.ore_ring.proofs.AdjointParts.{adjoint_split}
 use Rattle.ore_ring.proofs.Adjoints.{adjoint-linear, adjoint_one}
 use Rattle.ore_ring.proofs.TermLaws.{C, ◌+◌, sc, collect-falling}
 use Rattle.ore_ring.proofs.WithinLaws.{product_contributed, contributions_at_most}
 
 module _ (s : Signature) where
-  term_is : (acc : Operator rationals) (t : Term) → adjoint_term_within unlimited s acc t ≡ Ok (acc + sc t.1 (adjoint_monomial rationals s t.0))
+  term_is : (acc : Operator rationals) (t : Summand) → adjoint_term_within unlimited s acc t ≡ Ok (acc + sc t.1 (adjoint_monomial rationals s t.0))
   unfolding adjoint_term_within
   term_is acc t =
       let k = sign_of rationals s t.0 in
@@ -46,7 +46,7 @@ module _ (s : Signature) where
   adjoint_unlimited f = terms_are (empty_sum rationals plain_cmp) (falling s.order f) ∙ ap Ok (Operators.zero-plus rationals _ ∙ ap (adjoint rationals s) (collect-falling s.order f))
 
 module _ (l : Limits) (s : Signature) where
-  term_at_most : (acc : Operator rationals) (t : Term) → IsAtMost (adjoint_term_within l s acc t) (adjoint_term_within unlimited s acc t)
+  term_at_most : (acc : Operator rationals) (t : Summand) → IsAtMost (adjoint_term_within l s acc t) (adjoint_term_within unlimited s acc t)
   unfolding adjoint_term_within
   term_at_most acc t = contributions_at_most l (mul (sign_of rationals s t.0) t.1) acc (numbers s (letter_part s t.0) (coordinate_part s t.0))
 

@@ -20,7 +20,7 @@ use Rattle.ore_monomial.specs.declared.order.Order.{Order}
 use Rattle.ore_monomial.specs.LetterRule.{Operator}
 use Rattle.ore_monomial.proofs.Monomials.{plain_cmp_total, plain_cmp_apart, same_key, own_key}
 use Rattle.ore_monomial.proofs.Operators
-use Rattle.ore_ring.specs.Terms.{Term, Terms, falling, AreApart, IsFalling}
+use Rattle.ore_ring.specs.Terms.{Summand, Terms, falling, AreApart, IsFalling}
 use Rattle.ore_monomial.specs.Numbers.{back, falling_over}
 use Rattle.ore_monomial.proofs.FallingTerms.{eq_either, back_order, back_apart}
 use Rattle.ore_ring.proofs.Falls.{first, second, less_of, left_true, right_true}
@@ -32,11 +32,11 @@ abbrev pub AreDistinct : Terms → Type 0
 AreDistinct [] = Unit {0}
 AreDistinct (t ∷ ts) = (sum_at rationals plain_cmp t.0 ts ≡ whole (pos 0)) × AreDistinct ts
 
-pub at_skip : (q : Monomial) (t : Term) (ts : Terms) → eq_by_cmp plain_cmp q t.0 ≡ false → at q (t ∷ ts) ≡ at q ts
+pub at_skip : (q : Monomial) (t : Summand) (ts : Terms) → eq_by_cmp plain_cmp q t.0 ≡ false → at q (t ∷ ts) ≡ at q ts
 unfolding sum_at
 at_skip q t ts e = ap (λ b. add (cond b t.1 (whole (pos 0))) (at q ts)) e ∙ zero_plus rationals _
 
-pub at_own : (q : Monomial) (t : Term) (ts : Terms) → eq_by_cmp plain_cmp q t.0 ≡ true → at q ts ≡ whole (pos 0) → at q (t ∷ ts) ≡ t.1
+pub at_own : (q : Monomial) (t : Summand) (ts : Terms) → eq_by_cmp plain_cmp q t.0 ≡ true → at q ts ≡ whole (pos 0) → at q (t ∷ ts) ≡ t.1
 unfolding sum_at
 at_own q t ts e z = ap (λ b. add (cond b t.1 (whole (pos 0))) (at q ts)) e ∙ ap (add t.1) z ∙ rationals.plus_zero t.1
 
@@ -86,7 +86,7 @@ falls-falling o f = record { falls = sorted-terms (back o) _; apart = apart-term
 
 -- ---- a test of all terms
 
-module _ (test : Term → Bool) where
+module _ (test : Summand → Bool) where
   abbrev pub PassesAt : Terms → Type 0
   PassesAt ts = (q : Monomial) → sum_at rationals plain_cmp q ts ≢ whole (pos 0) → test (q, sum_at rationals plain_cmp q ts) ≡ true
 
@@ -133,7 +133,7 @@ module _ (test : Term → Bool) where
       by false f true g = sym f ∙ all_of_passes ts d a (passes_like us ts (λ q. sym (e q)) (passes_of_all us c g))
 
 -- the terms that an operator stores, in whatever order they fall
-pub all_terms : (test : Term → Bool) (o : Order) (ts : Terms) → IsFalling o ts → list_all test (terms rationals plain_cmp (collect rationals plain_cmp ts)) ≡ list_all test ts
+pub all_terms : (test : Summand → Bool) (o : Order) (ts : Terms) → IsFalling o ts → list_all test (terms rationals plain_cmp (collect rationals plain_cmp ts)) ≡ list_all test ts
 all_terms test o ts h =
     let f = collect rationals plain_cmp ts in
     all_same test (terms rationals plain_cmp f) ts (distinct-terms f) (apart-terms plain_cmp f) (sorted_distinct (back_order o) (back_apart o) ts h.falls) h.apart

@@ -16,7 +16,7 @@ use Rattle.ore_monomial.specs.Monomial.{Monomial, plain_cmp}
 use Rattle.ore_monomial.specs.Signature.{Signature}
 use Rattle.ore_monomial.specs.LetterRule.{Operator}
 use Rattle.ore_monomial.specs.Numbers.{numbers, numbers_within}
-use Rattle.ore_ring.specs.Terms.{Term, Terms, falling}
+use Rattle.ore_ring.specs.Terms.{Summand, Terms, falling}
 use Rattle.ore_ring.specs.Within.{add_term_within, contribute, pair_within, row_within, plus_within, times_within, degrees_fit}
 use Rattle.ore_ring.specs.AdjointWithin.{adjoint_term_within, coordinate_part, letter_part, sign_of}
 use Rattle.ore_ring.specs.Contributions.{add_terms_within, push_number, push_product, push_pair, push_row, push_adjoint}
@@ -67,10 +67,10 @@ module _ (l : Limits) where
   unfolding numbers_within
   numbers_overflow ks = test_overflows _ ks
 
-  abbrev step : Operator rationals → Term → Result (Operator rationals) Cause
+  abbrev step : Operator rationals → Summand → Result (Operator rationals) Cause
   step f t = add_term_within l f t.0 t.1
 
-  step_overflows : (f : Operator rationals) (t : Term) → Overflows (step f t)
+  step_overflows : (f : Operator rationals) (t : Summand) → Overflows (step f t)
   unfolding add_term_within
   step_overflows f t = bind_overflows (sum_within l _ t.1) _ (sum_overflows _ t.1) (λ s e h. let no : ⊥ = cc in absurd no)
 
@@ -82,11 +82,11 @@ module _ (l : Limits) where
   unfolding add_terms_within
   made_overflows ts = fold_overflows step step_overflows (empty_sum rationals plain_cmp) ts
 
-  fold_snoc : (f : Operator rationals) (ts : Terms) (t : Term) → fold_within step f (ts ++ t ∷ []) ≡ (fold_within step f ts >>= λ g. step g t)
+  fold_snoc : (f : Operator rationals) (ts : Terms) (t : Summand) → fold_within step f (ts ++ t ∷ []) ≡ (fold_within step f ts >>= λ g. step g t)
   fold_snoc f [] t = bind_ok (step f t)
   fold_snoc f (u ∷ ts) t = bind_like (step f u) _ _ (λ g. fold_snoc g ts t) ∙ sym (bind_assoc (step f u) (λ g. fold_within step g ts) (λ g. step g t))
 
-  made_snoc : (ts : Terms) (t : Term) → made (ts ++ t ∷ []) ≡ (made ts >>= λ g. step g t)
+  made_snoc : (ts : Terms) (t : Summand) → made (ts ++ t ∷ []) ≡ (made ts >>= λ g. step g t)
   unfolding add_terms_within
   made_snoc ts t = fold_snoc (empty_sum rationals plain_cmp) ts t
 
@@ -113,7 +113,7 @@ module _ (l : Limits) where
   plus_overflows f g = test_overflows _ _
 
   module _ (s : Signature) where
-    pair_made : (t : Term) (out : Terms) (u : Term) → (push_pair l s t out u >>= made) ≡ (made out >>= λ f. pair_within l s t f u)
+    pair_made : (t : Summand) (out : Terms) (u : Summand) → (push_pair l s t out u >>= made) ≡ (made out >>= λ f. pair_within l s t f u)
     unfolding push_pair push_product pair_within
     pair_made t out u =
         let uv = product_within l t.1 u.1 in
@@ -121,7 +121,7 @@ module _ (l : Limits) where
         ∙ bind_like uv _ _ (λ x. product_made x out (numbers s t.0 u.0))
         ∙ swap uv (made out) (λ x f. numbers_within l (numbers s t.0 u.0) >>= λ ks. fold_within (contribute l x) f ks) (product_overflows t.1 u.1) (made_overflows out)
 
-    row_made : (us : Terms) (out : Terms) (t : Term) → (push_row l s us out t >>= made) ≡ (made out >>= λ f. row_within l s us f t)
+    row_made : (us : Terms) (out : Terms) (t : Summand) → (push_row l s us out t >>= made) ≡ (made out >>= λ f. row_within l s us f t)
     unfolding push_row row_within
     row_made us out t = fold_through (push_pair l s t) (pair_within l s t) made (pair_made t) out us
 
@@ -129,13 +129,13 @@ module _ (l : Limits) where
     unfolding contribute
     contribute_overflows uv f k = bind_overflows (product_within l uv (whole k.1)) _ (product_overflows uv (whole k.1)) (λ x. step_overflows f (k.0, x))
 
-    pair_overflows : (t : Term) (f : Operator rationals) (u : Term) → Overflows (pair_within l s t f u)
+    pair_overflows : (t : Summand) (f : Operator rationals) (u : Summand) → Overflows (pair_within l s t f u)
     unfolding pair_within
     pair_overflows t f u =
         bind_overflows (product_within l t.1 u.1) _ (product_overflows t.1 u.1)
         (λ x. bind_overflows (numbers_within l (numbers s t.0 u.0)) _ (numbers_overflow (numbers s t.0 u.0)) (λ ks. fold_overflows (contribute l x) (contribute_overflows x) f ks))
 
-    row_overflows : (us : Terms) (f : Operator rationals) (t : Term) → Overflows (row_within l s us f t)
+    row_overflows : (us : Terms) (f : Operator rationals) (t : Summand) → Overflows (row_within l s us f t)
     unfolding row_within
     row_overflows us f t = fold_overflows (pair_within l s t) (pair_overflows t) f us
 
@@ -149,7 +149,7 @@ module _ (l : Limits) where
     unfolding add_terms_within
     product_collected ts us = fold_through (push_row l s us) (row_within l s us) made (row_made us) [] ts
 
-    adjoint_made : (out : Terms) (t : Term) → (push_adjoint l s out t >>= made) ≡ (made out >>= λ f. adjoint_term_within l s f t)
+    adjoint_made : (out : Terms) (t : Summand) → (push_adjoint l s out t >>= made) ≡ (made out >>= λ f. adjoint_term_within l s f t)
     unfolding push_adjoint push_product adjoint_term_within
     adjoint_made out t = product_made (mul (sign_of rationals s t.0) t.1) out (numbers s (letter_part s t.0) (coordinate_part s t.0))
 

@@ -26,7 +26,7 @@ use Rattle.ore_monomial.specs.declared.order.Order.{Order}
 use Rattle.ore_monomial.specs.LetterRule.{Operator}
 use Rattle.ore_monomial.specs.Numbers.{back}
 use Rattle.ore_monomial.proofs.Operators
-use Rattle.ore_ring.specs.Terms.{Term, Terms, IsFalling, IsBelowLast}
+use Rattle.ore_ring.specs.Terms.{Summand, Terms, IsFalling, IsBelowLast}
 use Rattle.ore_ring.specs.Within.{add_term_within}
 use Rattle.ore_ring.specs.Contributions.{add_terms_within, IsInRange, AreInRange}
 use Rattle.ore_ring.proofs.Falls.{first, second, less_of}
@@ -63,20 +63,20 @@ module _ (c : Fraction) where
 
 -- ---- terms that fall
 
-below_in : (o : Order) (m : Monomial) (ds : Terms) (t : Term) (rest : Terms) → T (below_all (back o) m (ds ++ t ∷ rest)) → order_cmp o t.0 m ≡ Less
+below_in : (o : Order) (m : Monomial) (ds : Terms) (t : Summand) (rest : Terms) → T (below_all (back o) m (ds ++ t ∷ rest)) → order_cmp o t.0 m ≡ Less
 below_in o m [] t rest h = less_of _ (first _ _ h)
 below_in o m (d ∷ ds) t rest h = below_in o m ds t rest (second _ _ h)
 
 -- a term below all before it has no number there yet
-nothing_yet : (o : Order) (ds : Terms) (t : Term) (rest : Terms) → T (is_sorted (back o) (ds ++ t ∷ rest)) → at t.0 ds ≡ whole (pos 0)
+nothing_yet : (o : Order) (ds : Terms) (t : Summand) (rest : Terms) → T (is_sorted (back o) (ds ++ t ∷ rest)) → at t.0 ds ≡ whole (pos 0)
 unfolding sum_at
 nothing_yet o [] t rest h = refl
 nothing_yet o (d ∷ ds) t rest h = at_skip t.0 d ds (eq_order program o t.0 d.0 Less (below_in o d.0 ds t rest (first _ _ h))) ∙ nothing_yet o ds t rest (second _ _ h)
 
-abbrev step : Operator rationals → Term → Rattle.std.specs.declared.result.Result.Result (Operator rationals) Rattle.ore_algebra.specs.Limits.Cause
+abbrev step : Operator rationals → Summand → Rattle.std.specs.declared.result.Result.Result (Operator rationals) Rattle.ore_algebra.specs.Limits.Cause
 step f t = add_term_within program f t.0 t.1
 
-added_below : (o : Order) (ds : Terms) (t : Term) (rest : Terms) → T (is_sorted (back o) (ds ++ t ∷ rest)) → IsInRange t → step (collect rationals plain_cmp ds) t ≡ Ok (collect rationals plain_cmp (ds ++ t ∷ []))
+added_below : (o : Order) (ds : Terms) (t : Summand) (rest : Terms) → T (is_sorted (back o) (ds ++ t ∷ rest)) → IsInRange t → step (collect rationals plain_cmp ds) t ≡ Ok (collect rationals plain_cmp (ds ++ t ∷ []))
 unfolding add_term_within
 added_below o ds t rest h r =
     ap (λ x. sum_within program x t.1 >>= λ s. Ok (plus rationals plain_cmp (collect rationals plain_cmp ds) (single rationals plain_cmp t.0 t.1))) (Operators.coefficient-collect rationals ds t.0 ∙ nothing_yet o ds t rest h)
@@ -97,13 +97,13 @@ falling_sum o ts h r = falling_from o [] ts h.falls r
 
 -- ---- one more term
 
-pub below_last : (o : Order) (ts : Terms) (k : ℕ) (m : Monomial) (t : Term) → k + 1 ≡ length ts → t ≡ get_or ts k t → order_cmp o m t.0 ≡ Less → IsBelowLast o ts m
+pub below_last : (o : Order) (ts : Terms) (k : ℕ) (m : Monomial) (t : Summand) → k + 1 ≡ length ts → t ≡ get_or ts k t → order_cmp o m t.0 ≡ Less → IsBelowLast o ts m
 below_last o [] k m t h e b = tt
 below_last o (u ∷ []) zero m t h e b = ap (λ v. order_cmp o m v.0) (sym e) ∙ b
 below_last o (u ∷ []) (suc k) m t h e b = absurd (omega (arith, h))
 below_last o (u ∷ v ∷ us) zero m t h e b = absurd (omega (arith, h))
 below_last o (u ∷ v ∷ us) (suc k) m t h e b = below_last o (v ∷ us) k m t (omega (arith, h)) e b
 
-pub range_snoc : (ts : Terms) (t : Term) → AreInRange ts → IsInRange t → AreInRange (ts ++ t ∷ [])
+pub range_snoc : (ts : Terms) (t : Summand) → AreInRange ts → IsInRange t → AreInRange (ts ++ t ∷ [])
 range_snoc [] t h r = (r, tt)
 range_snoc (u ∷ ts) t h r = (h.0, range_snoc ts t h.1 r)

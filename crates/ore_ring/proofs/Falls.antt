@@ -17,7 +17,7 @@ use Rattle.ore_monomial.specs.declared.order.Order.{Order}
 use Rattle.ore_algebra.specs.Free.{empty_sum, single}
 use Rattle.ore_monomial.proofs.Monomials.{order_total}
 use Rattle.ore_rational.specs.Field.{rationals}
-use Rattle.ore_ring.specs.Terms.{Term, Terms, falling, AreApart, IsFalling, IsBelowLast}
+use Rattle.ore_ring.specs.Terms.{Summand, Terms, falling, AreApart, IsFalling, IsBelowLast}
 use Rattle.ore_monomial.specs.Numbers.{back}
 use Rattle.ore_ring.proofs.TermLaws.{falling-collect}
 
@@ -52,7 +52,7 @@ of_less r e = subst (λ r. T (is_lt r)) (sym e) tt
 pub falls_none : (o : Order) → IsFalling o []
 falls_none o = record { falls = tt; apart = tt }
 
-pub falls_tail : (o : Order) (t : Term) (ts : Terms) → IsFalling o (t ∷ ts) → IsFalling o ts
+pub falls_tail : (o : Order) (t : Summand) (ts : Terms) → IsFalling o (t ∷ ts) → IsFalling o ts
 falls_tail o t ts h = record { falls = second (below_all (back o) t.0 ts) _ h.falls; apart = h.apart.1 }
 
 -- what is below a term is below what is above it
@@ -60,24 +60,24 @@ pub below_more : (o : Order) (m n : Monomial) (ts : Terms) → order_cmp o n m �
 below_more o m n [] e h = tt
 below_more o m n (t ∷ ts) e h = both _ _ (of_less _ ((order_total o).trans t.0 n m (less_of _ (first _ _ h)) e)) (below_more o m n ts e (second _ _ h))
 
-pub below_snoc : (o : Order) (m : Monomial) (ts : Terms) (t : Term) → T (below_all (back o) m ts) → order_cmp o t.0 m ≡ Less → T (below_all (back o) m (ts ++ t ∷ []))
+pub below_snoc : (o : Order) (m : Monomial) (ts : Terms) (t : Summand) → T (below_all (back o) m ts) → order_cmp o t.0 m ≡ Less → T (below_all (back o) m (ts ++ t ∷ []))
 below_snoc o m [] t h e = both _ _ (of_less _ e) tt
 below_snoc o m (u ∷ ts) t h e = both _ _ (first _ _ h) (below_snoc o m ts t (second _ _ h) e)
 
-last_below : (o : Order) (t : Term) (ts : Terms) (m : Monomial) → T (is_sorted (back o) (t ∷ ts)) → IsBelowLast o (t ∷ ts) m → order_cmp o m t.0 ≡ Less
+last_below : (o : Order) (t : Summand) (ts : Terms) (m : Monomial) → T (is_sorted (back o) (t ∷ ts)) → IsBelowLast o (t ∷ ts) m → order_cmp o m t.0 ≡ Less
 last_below o t [] m h b = b
 last_below o t (u ∷ ts) m h b = (order_total o).trans m u.0 t.0 (last_below o u ts m (second _ _ h) b) (less_of _ (first _ _ (first _ _ h)))
 
-sorted_snoc : (o : Order) (ts : Terms) (t : Term) → T (is_sorted (back o) ts) → IsBelowLast o ts t.0 → T (is_sorted (back o) (ts ++ t ∷ []))
+sorted_snoc : (o : Order) (ts : Terms) (t : Summand) → T (is_sorted (back o) ts) → IsBelowLast o ts t.0 → T (is_sorted (back o) (ts ++ t ∷ []))
 sorted_snoc o [] t h b = tt
 sorted_snoc o (u ∷ []) t h b = both _ _ (both _ _ (of_less _ b) tt) tt
 sorted_snoc o (u ∷ v ∷ ts) t h b = both _ _ (below_snoc o u.0 (v ∷ ts) t (first _ _ h) (last_below o u (v ∷ ts) t.0 h b)) (sorted_snoc o (v ∷ ts) t (second _ _ h) b)
 
-apart_snoc : (ts : Terms) (t : Term) → AreApart ts → t.1 ≢ whole (pos 0) → AreApart (ts ++ t ∷ [])
+apart_snoc : (ts : Terms) (t : Summand) → AreApart ts → t.1 ≢ whole (pos 0) → AreApart (ts ++ t ∷ [])
 apart_snoc [] t h n = (n, tt)
 apart_snoc (u ∷ ts) t h n = (h.0, apart_snoc ts t h.1 n)
 
-pub falls_snoc : (o : Order) (ts : Terms) (t : Term) → IsFalling o ts → IsBelowLast o ts t.0 → t.1 ≢ whole (pos 0) → IsFalling o (ts ++ t ∷ [])
+pub falls_snoc : (o : Order) (ts : Terms) (t : Summand) → IsFalling o ts → IsBelowLast o ts t.0 → t.1 ≢ whole (pos 0) → IsFalling o (ts ++ t ∷ [])
 falls_snoc o ts t h b n = record { falls = sorted_snoc o ts t h.falls b; apart = apart_snoc ts t h.apart n }
 
 pub falling-none : (o : Order) → falling o (empty_sum rationals plain_cmp) ≡ []

@@ -26,7 +26,7 @@ use Rattle.ore_monomial.proofs.Monomials.{order_total, order_apart}
 use Rattle.ore_monomial.proofs.Operators
 use Rattle.ore_monomial.proofs.Seen.{rank_cmp}
 use Rattle.ore_algebra.specs.Limits.{unlimited}
-use Rattle.ore_ring.specs.Terms.{Term, Terms, IsFalling, IsBelowLast}
+use Rattle.ore_ring.specs.Terms.{Summand, Terms, IsFalling, IsBelowLast}
 use Rattle.ore_ring.specs.Merge.{kept}
 use Rattle.ore_ring.specs.Gathered.{keyed, drained}
 use Rattle.ore_ring.specs.IsGathered.{number_of}
@@ -42,7 +42,7 @@ module _ (o : Order) where
   at_below q [] h = refl
   at_below q (u ∷ us) h = at_skip q u us (eq_order unlimited o q u.0 Less (less_of _ (first _ _ h))) ∙ at_below q us (second _ _ h)
 
-  found_is : (m : Monomial) (t : Term) (b : Bool) (r : Ordering) → order_cmp o m t.0 ≡ r → is_at (slice_cmp nat_cmp (rank o m)) (rank o t.0) ≡ is_eq r
+  found_is : (m : Monomial) (t : Summand) (b : Bool) (r : Ordering) → order_cmp o m t.0 ≡ r → is_at (slice_cmp nat_cmp (rank o m)) (rank o t.0) ≡ is_eq r
   found_is m t b r e = ap is_eq (rank_cmp o m t.0 ∙ e)
 
   pub lookup_is : (m : Monomial) (ts : Terms) → T (is_sorted (order_cmp o) ts) → number_of (lookup (is_at (slice_cmp nat_cmp (rank o m))) (keyed o ts)) ≡ at m ts
@@ -50,7 +50,7 @@ module _ (o : Order) where
   lookup_is m [] h = refl
   lookup_is m (t ∷ ts) h = by (order_cmp o m t.0) refl (lookup_is m ts (second _ _ h))
     where
-      rest : Option Term
+      rest : Option Summand
       rest = lookup (is_at (slice_cmp nat_cmp (rank o m))) (keyed o ts)
 
       by : (r : Ordering) → order_cmp o m t.0 ≡ r → number_of rest ≡ at m ts → number_of (cond (is_at (slice_cmp nat_cmp (rank o m)) (rank o t.0)) (Some t) rest) ≡ at m (t ∷ ts)
@@ -109,7 +109,7 @@ module _ (o : Order) where
 
   -- ---- draining
 
-  pub drained-snoc : (ts : Terms) (t : Term) → drained (ts ++ t ∷ []) ≡ kept t.0 t.1 [] ++ drained ts
+  pub drained-snoc : (ts : Terms) (t : Summand) → drained (ts ++ t ∷ []) ≡ kept t.0 t.1 [] ++ drained ts
   drained-snoc [] t = sym (Rattle.std.proofs.Common.append-nil (kept t.0 t.1 []))
   drained-snoc (u ∷ ts) t = ap (λ us. us ++ kept u.0 u.1 []) (drained-snoc ts t) ∙ append_assoc (kept t.0 t.1 []) (drained ts) (kept u.0 u.1 [])
 
@@ -132,7 +132,7 @@ module _ (o : Order) where
   above-append m [] ys h k = k
   above-append m (x ∷ xs) ys h k = (h.0, above-append m xs ys h.1 k)
 
-  above_kept : (m : Monomial) (t : Term) → order_cmp o m t.0 ≡ Less → AllAbove m (kept t.0 t.1 [])
+  above_kept : (m : Monomial) (t : Summand) → order_cmp o m t.0 ≡ Less → AllAbove m (kept t.0 t.1 [])
   above_kept m t e = by (fraction_discrete t.1 zero)
     where
       by : (d : Dec (t.1 ≡ zero)) → AllAbove m (elim d [ yes e ↦ [] | no n ↦ (t.0, t.1) ∷ [] ])

@@ -17,7 +17,7 @@ use Rattle.ore_monomial.specs.LetterRule.{Operator}
 use Rattle.ore_monomial.proofs.Monomials.{plain_cmp_total, order_total, same_key}
 use Rattle.ore_monomial.proofs.Operators
 use Rattle.ore_ring.specs.Lead.{IsLead}
-use Rattle.ore_ring.specs.Terms.{Term, Terms, falling, IsFalling}
+use Rattle.ore_ring.specs.Terms.{Summand, Terms, falling, IsFalling}
 use Rattle.ore_monomial.specs.Numbers.{back}
 use Rattle.ore_ring.proofs.TermLaws.{collect-falling}
 use Rattle.ore_monomial.proofs.FallingTerms.{back_order, back_apart}
@@ -34,7 +34,7 @@ below_at o m (t ∷ ts) h q n = by (below_at o m ts (second _ _ h) q) (eq_by_cmp
     by ih true e = ap (λ p. order_cmp o p m) (same_key q t.0 e) ∙ less_of _ (first _ _ h)
     by ih false e = ih (λ z. n (at_skip q t ts e ∙ z))
 
-module _ (o : Order) (t : Term) (ts : Terms) (h : IsFalling o (t ∷ ts)) where
+module _ (o : Order) (t : Summand) (ts : Terms) (h : IsFalling o (t ∷ ts)) where
   own : at t.0 (t ∷ ts) ≡ t.1
   own = at_own t.0 t ts (ap is_eq (tied_itself plain_cmp_total t.0)) (sorted_distinct (back_order o) (back_apart o) (t ∷ ts) h.falls).0
 

@@ -23,7 +23,7 @@ use Rattle.ore_monomial.proofs.Monomials.{plain_cmp_total, plain_cmp_apart, orde
 use Rattle.ore_monomial.proofs.Operators
 use Rattle.ore_algebra.specs.Limits.{Limits, Cause, Overflow, ◌>>=◌, guard}
 use Rattle.ore_rational.specs.Within.{sum_fits, sum_within}
-use Rattle.ore_ring.specs.Terms.{Term, Terms, IsFalling}
+use Rattle.ore_ring.specs.Terms.{Summand, Terms, IsFalling}
 use Rattle.ore_monomial.specs.Numbers.{back}
 use Rattle.ore_ring.specs.Within.{shared_fits, all_shared_fit, plus_within}
 use Rattle.ore_ring.specs.Merge.{kept, step_within, into_within, merge_within}
@@ -52,7 +52,7 @@ module _ (l : Limits) (o : Order) where
   at_above q [] h = refl
   at_above q (u ∷ us) h = at_skip q u us (eq_order q u.0 Greater (turn q u.0 Less (less_of _ (first _ _ h)))) ∙ at_above q us (second _ _ h)
 
-  fits_skip : (u : Term) (us ts : Terms) → T (below_all (back o) u.0 ts) → fits ts (u ∷ us) ≡ fits ts us
+  fits_skip : (u : Summand) (us ts : Terms) → T (below_all (back o) u.0 ts) → fits ts (u ∷ us) ≡ fits ts us
   unfolding fits
   fits_skip u us [] h = refl
   fits_skip u us (t ∷ ts) h = λ i. shared_fits l t.1 (at_skip t.0 u us (eq_order t.0 u.0 Less (less_of _ (first _ _ h))) i) && fits_skip u us ts (second _ _ h) i
@@ -88,10 +88,10 @@ module _ (l : Limits) (o : Order) where
   Meets ts us (Ok rs) = Sums ts us rs
   Meets ts us (Err e) = (e ≡ Overflow) × (fits ts us ≡ false)
 
-  one : Term → Operator rationals
+  one : Summand → Operator rationals
   one t = single rationals plain_cmp t.0 t.1
 
-  more : (t : Term) (ts : Terms) → C (t ∷ ts) ≡ one t + C ts
+  more : (t : Summand) (ts : Terms) → C (t ∷ ts) ≡ one t + C ts
   unfolding one
   more t ts = Operators.collect_more rationals t.0 t.1 ts
 
@@ -112,11 +112,11 @@ module _ (l : Limits) (o : Order) where
   unfolding empty_sum
   none_right ts = sym (Operators.plus_zero rationals (C ts))
 
-  pub add_front : (t : Term) (ts : Terms) → t.1 ≢ zero → T (below_all (back o) t.0 ts) → IsFalling o ts → IsFalling o (t ∷ ts)
+  pub add_front : (t : Summand) (ts : Terms) → t.1 ≢ zero → T (below_all (back o) t.0 ts) → IsFalling o ts → IsFalling o (t ∷ ts)
   add_front t ts n b h = record { falls = both _ _ b h.falls; apart = (n, h.apart) }
 
   -- the greater term is of the second list
-  second_first : (t u : Term) (ts us : Terms) → order_cmp o t.0 u.0 ≡ Less → IsFalling o (t ∷ ts) → IsFalling o (u ∷ us) → (r : Result Terms Cause) → Meets (t ∷ ts) us r → Meets (t ∷ ts) (u ∷ us) (r >>= λ rs. Ok (u ∷ rs))
+  second_first : (t u : Summand) (ts us : Terms) → order_cmp o t.0 u.0 ≡ Less → IsFalling o (t ∷ ts) → IsFalling o (u ∷ us) → (r : Result Terms Cause) → Meets (t ∷ ts) us r → Meets (t ∷ ts) (u ∷ us) (r >>= λ rs. Ok (u ∷ rs))
   second_first t u ts us e h k (Ok rs) m =
       let above : T (below_all (back o) u.0 (t ∷ ts)) = both _ _ (of_less _ e) (below_more o u.0 t.0 ts e (first _ _ h.falls)) in
       record {
@@ -127,12 +127,12 @@ module _ (l : Limits) (o : Order) where
       }
   second_first t u ts us e h k (Err c) m = (m.0, fits_skip u us (t ∷ ts) (both _ _ (of_less _ e) (below_more o u.0 t.0 ts e (first _ _ h.falls))) ∙ m.1)
 
-  fits_cons : (t : Term) (ts us : Terms) (b : Bool) → shared_fits l t.1 (at t.0 us) ≡ b → fits (t ∷ ts) us ≡ (b && fits ts us)
+  fits_cons : (t : Summand) (ts us : Terms) (b : Bool) → shared_fits l t.1 (at t.0 us) ≡ b → fits (t ∷ ts) us ≡ (b && fits ts us)
   unfolding fits
   fits_cons t ts us b e = ap (λ c. c && fits ts us) e
 
   -- the greater term is of the first list
-  first_first : (t u : Term) (ts us : Terms) → order_cmp o t.0 u.0 ≡ Greater → IsFalling o (t ∷ ts) → IsFalling o (u ∷ us) → (r : Result Terms Cause) → Meets ts (u ∷ us) r → Meets (t ∷ ts) (u ∷ us) (r >>= λ rs. Ok (t ∷ rs))
+  first_first : (t u : Summand) (ts us : Terms) → order_cmp o t.0 u.0 ≡ Greater → IsFalling o (t ∷ ts) → IsFalling o (u ∷ us) → (r : Result Terms Cause) → Meets ts (u ∷ us) r → Meets (t ∷ ts) (u ∷ us) (r >>= λ rs. Ok (t ∷ rs))
   first_first t u ts us e h k r m = by r m
     where
       less : order_cmp o u.0 t.0 ≡ Less
@@ -175,7 +175,7 @@ module _ (l : Limits) (o : Order) where
       by (no k) = both _ _ a b
 
   -- both have the monomial
-  shared : (t u : Term) (ts us : Terms) → order_cmp o t.0 u.0 ≡ Equal → IsFalling o (t ∷ ts) → IsFalling o (u ∷ us) → (r : Result Terms Cause) → Meets ts us r → Meets (t ∷ ts) (u ∷ us) (sum_within l t.1 u.1 >>= λ s. r >>= λ rs. Ok (kept t.0 s rs))
+  shared : (t u : Summand) (ts us : Terms) → order_cmp o t.0 u.0 ≡ Equal → IsFalling o (t ∷ ts) → IsFalling o (u ∷ us) → (r : Result Terms Cause) → Meets ts us r → Meets (t ∷ ts) (u ∷ us) (sum_within l t.1 u.1 >>= λ s. r >>= λ rs. Ok (kept t.0 s rs))
   unfolding sum_within one
   shared t u ts us e h k r m = by (sum_fits l t.1 u.1) refl r m
     where
@@ -204,7 +204,7 @@ module _ (l : Limits) (o : Order) where
       by true f (Err c) m = (m.0, fit ∙ ap (λ b. b && fits ts us) f ∙ m.1)
       by false f r m = (refl, fit ∙ ap (λ b. b && fits ts us) f)
 
-  into_meets : (t : Term) (ts : Terms) → IsFalling o (t ∷ ts) → ((us : Terms) → IsFalling o us → Meets ts us (merge_within l o ts us)) → (us : Terms) → IsFalling o us → Meets (t ∷ ts) us (into_within l o t ts (merge_within l o ts) us)
+  into_meets : (t : Summand) (ts : Terms) → IsFalling o (t ∷ ts) → ((us : Terms) → IsFalling o us → Meets ts us (merge_within l o ts us)) → (us : Terms) → IsFalling o us → Meets (t ∷ ts) us (into_within l o t ts (merge_within l o ts) us)
   unfolding into_within
   into_meets t ts h rest [] k = record { falls = h; value = none_right (t ∷ ts); fit = fits_none (t ∷ ts); below = λ n a b. a }
   into_meets t ts h rest (u ∷ us) k = by (order_cmp o t.0 u.0) refl (into_meets t ts h rest us (falls_tail o u us k))

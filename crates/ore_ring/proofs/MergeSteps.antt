@@ -18,7 +18,7 @@ use Rattle.ore_algebra.specs.Results.{◌>>=◌, fronted}
 use Rattle.ore_algebra.proofs.ResultLaws.{front_more}
 use Rattle.ore_algebra.proofs.ListLaws.{drop_item}
 use Rattle.ore_rational.specs.Within.{sum_within}
-use Rattle.ore_ring.specs.Terms.{Term, Terms}
+use Rattle.ore_ring.specs.Terms.{Summand, Terms}
 use Rattle.ore_ring.specs.Merge.{kept, step_within, into_within, merge_within, opposite_terms}
 
 pub kept-append : (m : Monomial) (x : Fraction) (ts : Terms) → kept m x [] ++ ts ≡ kept m x ts
@@ -48,7 +48,7 @@ front_kept front m x (Err e) = refl
 
 module _ (l : Limits) (o : Order) where
   -- the step at the heads of two lists
-  pub heads : (t u : Term) (ts us : Terms) → merge_within l o (t ∷ ts) (u ∷ us) ≡ step_within l (order_cmp o t.0 u.0) t u (merge_within l o ts (u ∷ us)) (merge_within l o ts us) (merge_within l o (t ∷ ts) us)
+  pub heads : (t u : Summand) (ts us : Terms) → merge_within l o (t ∷ ts) (u ∷ us) ≡ step_within l (order_cmp o t.0 u.0) t u (merge_within l o ts (u ∷ us)) (merge_within l o ts us) (merge_within l o (t ∷ ts) us)
   unfolding merge_within into_within
   heads t u ts us = refl
 
@@ -61,7 +61,7 @@ module _ (l : Limits) (o : Order) where
   unfolding merge_within
   nil_merge us = refl
 
-  module _ (front : Terms) (t u : Term) (a b : Terms) (i j : ℕ) (ti : t ≡ get_or a i t) (il : i < length a) (uj : u ≡ get_or b j u) (jl : j < length b) where
+  module _ (front : Terms) (t u : Summand) (a b : Terms) (i j : ℕ) (ti : t ≡ get_or a i t) (il : i < length a) (uj : u ≡ get_or b j u) (jl : j < length b) where
     abbrev W : Result Terms Cause
     W = fronted front (merge_within l o (drop i a) (drop j b))
 
@@ -112,11 +112,11 @@ both_ends front xs ys one two i j e f = sym (e ∙ ap₂ ◌++◌ (f ∙ ap (λ 
 
 -- ---- the second list with each fraction negated
 
-pub opposite_at : (us : Terms) (j : ℕ) (x u : Term) → u ≡ (x.0, neg x.1) → x ≡ get_or us j x → j < length us → (u ≡ get_or (opposite_terms us) j u) × (j < length (opposite_terms us))
+pub opposite_at : (us : Terms) (j : ℕ) (x u : Summand) → u ≡ (x.0, neg x.1) → x ≡ get_or us j x → j < length us → (u ≡ get_or (opposite_terms us) j u) × (j < length (opposite_terms us))
 opposite_at us j x u e h l = (
-  e ∙ ap (λ (t : Term). (t.0, neg t.1)) h ∙ sym (get_or-map (λ (t : Term). (t.0, neg t.1)) us j x u l),
-  subst (λ n. j < n) (sym (length-map us (λ (t : Term). (t.0, neg t.1)))) l,
+  e ∙ ap (λ (t : Summand). (t.0, neg t.1)) h ∙ sym (get_or-map (λ (t : Summand). (t.0, neg t.1)) us j x u l),
+  subst (λ n. j < n) (sym (length-map us (λ (t : Summand). (t.0, neg t.1)))) l,
 )
 
 pub less_ends : (front xs ys one two : Terms) (i j : ℕ) → two ≡ one ++ opposite_terms (take (length ys - j) (drop j ys)) → one ≡ front ++ take (length xs - i) (drop i xs) → (front ++ drop i xs) ++ drop j (opposite_terms ys) ≡ two
-less_ends front xs ys one two i j e f = sym (e ∙ ap₂ ◌++◌ (f ∙ ap (λ zs. front ++ zs) (from_there xs i)) (ap opposite_terms (from_there ys j) ∙ sym (drop-map (λ (t : Term). (t.0, neg t.1)) j ys)))
+less_ends front xs ys one two i j e f = sym (e ∙ ap₂ ◌++◌ (f ∙ ap (λ zs. front ++ zs) (from_there xs i)) (ap opposite_terms (from_there ys j) ∙ sym (drop-map (λ (t : Summand). (t.0, neg t.1)) j ys)))

@@ -11,7 +11,7 @@ use Rattle.ore_monomial.specs.Signature.{Signature}
 use Rattle.ore_monomial.proofs.Monomials.{exponent-unit, product-unit}
 use Rattle.ore_ring.specs.Belongs.{Belongs}
 use Rattle.ore_ring.specs.Ordered.{Ordered}
-use Rattle.ore_ring.specs.Terms.{Term, Terms, IsFalling, falling}
+use Rattle.ore_ring.specs.Terms.{Summand, Terms, IsFalling, falling}
 use Rattle.ore_ring.specs.Within.{times_within, degrees_fit}
 use Rattle.ore_ring.specs.Contributions.{IsInRange, AreInRange, push_number, push_product, push_pair, push_row}
 use Rattle.ore_ring.specs.Meets.{MeetsNone}
@@ -22,20 +22,20 @@ use Rattle.ore_ring.proofs.ProductSteps.{times_made}
 use Rattle.ore_ring.proofs.TermLaws.{C, collect-falling}
 
 -- the term 1
-abbrev pub one_term : Term
+abbrev pub one_term : Summand
 one_term = (unit, whole (pos 1))
 
 module _ (s : Signature) where
-  one_meets_none : (u : Term) → MeetsNone s unit u.0
+  one_meets_none : (u : Summand) → MeetsNone s unit u.0
   one_meets_none u x a n = absurd (n (exponent-unit _))
 
-  one_number : (out : Terms) (u : Term) → IsInRange u → push_number program u.1 out (product unit u.0, pos 1) ≡ Ok (out ++ u ∷ [])
+  one_number : (out : Terms) (u : Summand) → IsInRange u → push_number program u.1 out (product unit u.0, pos 1) ≡ Ok (out ++ u ∷ [])
   unfolding push_number
   one_number out u h =
       ap (λ r. r >>= λ c. Ok (out ++ (product unit u.0, c) ∷ [])) (product_one u.1 (fits_from u.1 h.0 h.1))
       ∙ ap (λ m. Ok (out ++ (m, u.1) ∷ [])) (product-unit u.0)
 
-  one_pair : (out : Terms) (u : Term) → IsInRange u → push_pair program s one_term out u ≡ Ok (out ++ u ∷ [])
+  one_pair : (out : Terms) (u : Summand) → IsInRange u → push_pair program s one_term out u ≡ Ok (out ++ u ∷ [])
   unfolding push_pair
   one_pair out u h =
       ap (λ r. r >>= λ uv. push_product program s uv out unit u.0) (one_product u.1 (fits_from u.1 h.0 h.1))

@@ -9,7 +9,7 @@ use Rattle.ore_monomial.specs.Monomial.{plain_cmp}
 use Rattle.ore_monomial.specs.declared.order.Order.{Order}
 use Rattle.ore_monomial.proofs.Operators
 use Rattle.ore_rational.specs.Field.{rationals}
-use Rattle.ore_ring.specs.Terms.{Terms, Term, falling, IsFalling}
+use Rattle.ore_ring.specs.Terms.{Terms, Summand, falling, IsFalling}
 use Rattle.ore_ring.proofs.TermLaws.{falling-collect}
 use Rattle.ore_ring.specs.Ordered.{Ordered}
 use Rattle.ore_monomial.specs.MonomialCode.{monomial_eq}
@@ -38,14 +38,14 @@ pub none_of : (ts : Terms) → ts ≡ [] → collect rationals plain_cmp ts ≡ 
 unfolding empty_sum
 none_of ts e = ap (collect rationals plain_cmp) e
 
-pub collect_snoc : (ts : Terms) (t : Term) → collect rationals plain_cmp (ts ++ t ∷ []) ≡ plus rationals plain_cmp (collect rationals plain_cmp ts) (single rationals plain_cmp t.0 t.1)
+pub collect_snoc : (ts : Terms) (t : Summand) → collect rationals plain_cmp (ts ++ t ∷ []) ≡ plus rationals plain_cmp (collect rationals plain_cmp ts) (single rationals plain_cmp t.0 t.1)
 unfolding single
 collect_snoc ts t = Operators.collect-append rationals ts (t ∷ [])
 
 pub Decides-monomial : (m n : Monomial) → Decides (monomial_eq m n) (m ≡ n)
 Decides-monomial m n = (FreeLaws.same_key rationals plain_cmp_total plain_cmp_apart m n, λ e. ap (λ p. monomial_eq m p) (sym e) ∙ ap is_eq (tied_itself plain_cmp_total m))
 
-pub Decides-term : (t u : Term) → Decides (monomial_eq t.0 u.0 && fraction_eq t.1 u.1) (t ≡ u)
+pub Decides-term : (t u : Summand) → Decides (monomial_eq t.0 u.0 && fraction_eq t.1 u.1) (t ≡ u)
 Decides-term t u = Decides-like _ (λ p i. (p.0 i, p.1 i)) (λ e. (ap (λ v. v.0) e, ap (λ v. v.1) e)) (Decides-and _ _ (Decides-monomial t.0 u.0) (Decides-fraction_eq t.1 u.1))
 
 pub Decides-terms : (ts us : Terms) → Decides (pointwise (λ t u. monomial_eq t.0 u.0 && fraction_eq t.1 u.1) ts us) (ts ≡ us)

@@ -27,7 +27,7 @@ use Rattle.ore_monomial.specs.LetterRule.{Operator}
 use Rattle.ore_monomial.specs.Numbers.{back}
 use Rattle.ore_monomial.proofs.Monomials.{order_total, order_apart, plain_cmp_total, plain_cmp_apart, own_key}
 use Rattle.ore_monomial.proofs.Operators
-use Rattle.ore_ring.specs.Terms.{Term, Terms}
+use Rattle.ore_ring.specs.Terms.{Summand, Terms}
 use Rattle.ore_ring.specs.Place.{IsOver}
 use Rattle.ore_ring.specs.Within.{add_term_within, plus_within, all_shared_fit, shared_fits}
 use Rattle.ore_ring.specs.Contributions.{add_terms_within, falls_before}
@@ -165,13 +165,13 @@ module _ (o : Order) (m : Monomial) where
       by Equal e = absurd (n e)
       by Greater e = eq_order program o m q Greater e
 
-  pub number_absent : (ts : Terms) → ((i : ℕ) (d : Term) → i < length ts → IsElse (get_or ts i d).0) → at m ts ≡ whole (pos 0)
+  pub number_absent : (ts : Terms) → ((i : ℕ) (d : Summand) → i < length ts → IsElse (get_or ts i d).0) → at m ts ≡ whole (pos 0)
   unfolding sum_at
   number_absent [] h = refl
   number_absent (t ∷ ts) h =
       at_skip m t ts (not_eq t.0 (h 0 t (omega arith))) ∙ number_absent ts (λ i d k. h (suc i) d (omega arith))
 
-  pub number_there : (ts : Terms) (k : ℕ) (t : Term) → k < length ts → t ≡ get_or ts k t → Equal ≡ order_cmp o m t.0 → ((i : ℕ) (d : Term) → i < length ts → i ≢ k → IsElse (get_or ts i d).0) → at m ts ≡ t.1
+  pub number_there : (ts : Terms) (k : ℕ) (t : Summand) → k < length ts → t ≡ get_or ts k t → Equal ≡ order_cmp o m t.0 → ((i : ℕ) (d : Summand) → i < length ts → i ≢ k → IsElse (get_or ts i d).0) → at m ts ≡ t.1
   number_there [] k t h e f n = absurd (omega arith)
   number_there (u ∷ us) zero t h e f n =
       let g : order_cmp o m u.0 ≡ Equal = ap (λ v. order_cmp o m v.0) (sym e) ∙ sym f in
@@ -190,26 +190,26 @@ from_on : (i k : ℕ) → k ≤ i → (k < i) ⊎ (k ≡ i)
 from_on i k h = grind arith
 
 module _ (o : Order) (m : Monomial) (ts : Terms) (k : ℕ) (falls : T (is_sorted (back o) ts)) (over : IsOver o m ts k) where
-  else_before : (i : ℕ) (d : Term) → i < k → i < length ts → IsElse o m (get_or ts i d).0
+  else_before : (i : ℕ) (d : Summand) → i < k → i < length ts → IsElse o m (get_or ts i d).0
   else_before i d h l e = let w : ◌≡◌ {A = Ordering} Less Equal = sym (over i d h l) ∙ e in let no : ⊥ = cc in no
 
   -- a later term that has the monomial would put it below the term at k
-  else_after : (i : ℕ) (d t : Term) (r : Ordering) → k < i → i < length ts → t ≡ get_or ts k t → r ≡ order_cmp o m t.0 → r ≢ Less → IsElse o m (get_or ts i d).0
+  else_after : (i : ℕ) (d t : Summand) (r : Ordering) → k < i → i < length ts → t ≡ get_or ts k t → r ≡ order_cmp o m t.0 → r ≢ Less → IsElse o m (get_or ts i d).0
   else_after i d t r h l e f n g =
       n (f ∙ ap (λ q. order_cmp o q t.0) (order_apart o m (get_or ts i d).0 g) ∙ ap (λ u. order_cmp o (get_or ts i d).0 u.0) e ∙ later_less o ts falls k i t d h l)
 
-  pub term_there : (t : Term) → k < length ts → t ≡ get_or ts k t → Equal ≡ order_cmp o m t.0 → at m ts ≡ t.1
+  pub term_there : (t : Summand) → k < length ts → t ≡ get_or ts k t → Equal ≡ order_cmp o m t.0 → at m ts ≡ t.1
   term_there t h e f =
       number_there o m ts k t h e f (λ i d l n.
       ⊎_elim (λ a. else_before i d a l) (λ a. else_after i d t Equal a l e f (λ w. let no : ⊥ = cc in no)) (two_sides i k n))
 
-  pub term_absent : (t : Term) → t ≡ get_or ts k t → Greater ≡ order_cmp o m t.0 → at m ts ≡ whole (pos 0)
+  pub term_absent : (t : Summand) → t ≡ get_or ts k t → Greater ≡ order_cmp o m t.0 → at m ts ≡ whole (pos 0)
   term_absent t e f =
       number_absent o m ts (λ i d l.
       ⊎_elim (λ a. else_before i d a l)
       (λ a. ⊎_elim (λ b. else_after i d t Greater b l e f (λ w. let no : ⊥ = cc in no)) (λ b g. same_place i d l b g) (from_on i k a)) (up_to i k))
     where
-      same_place : (i : ℕ) (d : Term) → i < length ts → k ≡ i → IsElse o m (get_or ts i d).0
+      same_place : (i : ℕ) (d : Summand) → i < length ts → k ≡ i → IsElse o m (get_or ts i d).0
       same_place i d l b g =
           let w : ◌≡◌ {A = Ordering} Greater Equal = f ∙ ap (λ u. order_cmp o m u.0) (e ∙ ap (λ j. get_or ts j t) b ∙ get_or_default ts i t d l) ∙ g in
           let no : ⊥ = cc in no

@@ -22,7 +22,7 @@ use Rattle.ore_algebra.specs.Limits.{Limits, Cause, Overflow, Degree, unlimited,
 use Rattle.ore_algebra.proofs.LimitLaws.{most_test, most_bind, most_fold, value_from}
 use Rattle.ore_rational.specs.Within.{sum_fits, sum_within, fits, product_within}
 use Rattle.ore_rational.proofs.WithinLaws.{sum_unlimited, product_unlimited}
-use Rattle.ore_ring.specs.Terms.{Term, Terms, falling}
+use Rattle.ore_ring.specs.Terms.{Summand, Terms, falling}
 use Rattle.ore_ring.specs.Within.{add_term_within, shared_fits, all_shared_fit, plus_within, degrees_fit, contribute, pair_within, row_within, times_within}
 use Rattle.ore_monomial.specs.Numbers.{numbers, numbers_within}
 use Rattle.ore_ring.proofs.TermLaws.{C, ◌+◌, sc, collect-falling}
@@ -76,11 +76,11 @@ module _ (s : Signature) where
   pub product_contributed : (uv : Fraction) (m n : Monomial) (acc : Operator rationals) → (numbers_within unlimited (numbers s m n) >>= λ ks. fold_within (contribute unlimited uv) acc ks) ≡ Ok (acc + sc uv (H m (one_of n (whole (pos 1)))))
   product_contributed uv m n acc = ap (λ r. r >>= λ ks. fold_within (contribute unlimited uv) acc ks) (numbers_unlimited (numbers s m n)) ∙ contributions uv acc (numbers s m n) ∙ ap (λ f. Ok (acc + sc uv f)) (numbers_are s m n)
 
-  pair_is : (t u : Term) (acc : Operator rationals) → pair_within unlimited s t acc u ≡ Ok (acc + sc t.1 (sc u.1 (H t.0 (one_of u.0 (whole (pos 1))))))
+  pair_is : (t u : Summand) (acc : Operator rationals) → pair_within unlimited s t acc u ≡ Ok (acc + sc t.1 (sc u.1 (H t.0 (one_of u.0 (whole (pos 1))))))
   unfolding pair_within product_within fits
   pair_is t u acc = product_contributed (mul t.1 u.1) t.0 u.0 acc ∙ ap (λ f. Ok (acc + f)) (sym (Operators.scale-scale rationals t.1 u.1 _))
 
-  row_is : (t : Term) (us : Terms) (acc : Operator rationals) → fold_within (pair_within unlimited s t) acc us ≡ Ok (acc + sc t.1 (H t.0 (C us)))
+  row_is : (t : Summand) (us : Terms) (acc : Operator rationals) → fold_within (pair_within unlimited s t) acc us ≡ Ok (acc + sc t.1 (H t.0 (C us)))
   unfolding empty_sum
   row_is t [] acc = ap Ok (sym (ap (λ f. acc + sc t.1 f) (Operators.linear-empty_sum rationals (monomial-linear rationals s t.0)) ∙ ap (λ f. acc + f) (Operators.scale-empty_sum rationals t.1) ∙ Operators.plus_zero rationals acc))
   row_is t (u ∷ us) acc =
@@ -149,11 +149,11 @@ module _ (l : Limits) where
   contributions_at_most uv acc ks = most_bind _ _ _ _ (numbers_at_most ks) (λ ks. most_fold _ _ (contribute_at_most uv) acc ks)
 
   module _ (s : Signature) where
-    pub pair_at_most : (t : Term) (acc : Operator rationals) (u : Term) → IsAtMost (pair_within l s t acc u) (pair_within unlimited s t acc u)
+    pub pair_at_most : (t : Summand) (acc : Operator rationals) (u : Summand) → IsAtMost (pair_within l s t acc u) (pair_within unlimited s t acc u)
     unfolding pair_within
     pair_at_most t acc u = most_bind _ _ _ _ (product_at_most t.1 u.1) (λ uv. contributions_at_most uv acc (numbers s t.0 u.0))
 
-    pub row_at_most : (us : Terms) (acc : Operator rationals) (t : Term) → IsAtMost (row_within l s us acc t) (row_within unlimited s us acc t)
+    pub row_at_most : (us : Terms) (acc : Operator rationals) (t : Summand) → IsAtMost (row_within l s us acc t) (row_within unlimited s us acc t)
     unfolding row_within
     row_at_most us acc t = most_fold _ _ (pair_at_most t) acc us
 

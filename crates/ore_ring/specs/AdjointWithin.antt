@@ -17,7 +17,7 @@ use Rattle.ore_rational.specs.Field.{rationals}
 use Rattle.ore_monomial.specs.Monomial.{Monomial, monomial_of, degree, plain_cmp}
 use Rattle.ore_monomial.specs.Signature.{Signature, kind_at, is_coordinate}
 use Rattle.ore_monomial.specs.LetterRule.{Operator}
-use Rattle.ore_ring.specs.Terms.{Term, falling}
+use Rattle.ore_ring.specs.Terms.{Summand, falling}
 use Rattle.ore_monomial.specs.Numbers.{numbers, numbers_within}
 use Rattle.ore_ring.specs.Within.{contribute}
 
@@ -42,7 +42,7 @@ sign_of K s m = power K.ring (K.minus K.one) (degree (coordinate_part s m))
 
 module _ (l : Limits) (s : Signature) where
   -- a term gives its letters times its coordinates, which reverses the monomial, with the sign and its fraction
-  unfoldable pub adjoint_term_within : Operator rationals → Term → Result (Operator rationals) Cause
+  unfoldable pub adjoint_term_within : Operator rationals → Summand → Result (Operator rationals) Cause
   adjoint_term_within acc t = do
     ks ← numbers_within l (numbers s (letter_part s t.0) (coordinate_part s t.0))
     fold_within (contribute l (mul (sign_of rationals s t.0) t.1)) acc ks

@@ -20,7 +20,7 @@ use Rattle.ore_monomial.specs.declared.order.Order.{Order}
 use Rattle.ore_monomial.specs.Signature.{Signature}
 use Rattle.ore_monomial.specs.LetterRule.{Operator}
 use Rattle.ore_monomial.specs.Numbers.{numbers, numbers_within}
-use Rattle.ore_ring.specs.Terms.{Term, Terms}
+use Rattle.ore_ring.specs.Terms.{Summand, Terms}
 use Rattle.ore_ring.specs.Within.{add_term_within}
 use Rattle.ore_ring.specs.AdjointWithin.{coordinate_part, letter_part, sign_of}
 
@@ -29,7 +29,7 @@ unfoldable pub add_terms_within : Limits → Operator rationals → Terms → Re
 add_terms_within l f ts = fold_within (λ g t. add_term_within l g t.0 t.1) f ts
 
 -- both parts of a term's fraction are in the range
-abbrev pub IsInRange : Term → Type 0
+abbrev pub IsInRange : Summand → Type 0
 IsInRange t = InRange t.1.num × (t.1.den < 2 ^ 127)
 
 abbrev pub AreInRange : Terms → Type 0
@@ -37,7 +37,7 @@ AreInRange [] = Unit {0}
 AreInRange (t ∷ ts) = IsInRange t × AreInRange ts
 
 -- the monomial of the first term is the greater one
-abbrev pub falls_before : Order → Term → Term → Bool
+abbrev pub falls_before : Order → Summand → Summand → Bool
 falls_before o t u = is_lt (order_cmp o u.0 t.0)
 
 -- the contribution of one whole number of a product of monomials
@@ -54,15 +54,15 @@ module _ (l : Limits) (s : Signature) where
     fold_within (push_number l uv) out ks
 
   -- two terms contribute those of their monomials, with the product of their fractions
-  unfoldable pub push_pair : Term → Terms → Term → Result Terms Cause
+  unfoldable pub push_pair : Summand → Terms → Summand → Result Terms Cause
   push_pair t out u = do
     uv ← product_within l t.1 u.1
     push_product uv out t.0 u.0
 
   -- a term meets those of the second operator in turn
-  unfoldable pub push_row : Terms → Terms → Term → Result Terms Cause
+  unfoldable pub push_row : Terms → Terms → Summand → Result Terms Cause
   push_row us out t = fold_within (push_pair t) out us
 
   -- a term gives its letters times its coordinates, with the sign and its fraction
-  unfoldable pub push_adjoint : Terms → Term → Result Terms Cause
+  unfoldable pub push_adjoint : Terms → Summand → Result Terms Cause
   push_adjoint out t = push_product (mul (sign_of rationals s t.0) t.1) out (letter_part s t.0) (coordinate_part s t.0)

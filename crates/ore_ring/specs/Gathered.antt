@@ -4,10 +4,10 @@
 use Rattle.std.specs.Prelude.{ℕ, List, [], ◌∷◌, ◌++◌, map}
 use Rattle.ore_monomial.specs.declared.order.Order.{Order}
 use Rattle.ore_monomial.specs.Monomial.{rank}
-use Rattle.ore_ring.specs.Terms.{Term, Terms}
+use Rattle.ore_ring.specs.Terms.{Summand, Terms}
 use Rattle.ore_ring.specs.Merge.{kept}
 
-abbrev pub keyed : Order → Terms → List (List ℕ × Term)
+abbrev pub keyed : Order → Terms → List (List ℕ × Summand)
 keyed o ts = map (λ t. (rank o t.0, t)) ts
 
 abbrev pub drained : Terms → Terms

@@ -15,12 +15,12 @@ use Rattle.ore_monomial.specs.Monomial.{Monomial, order_cmp}
 use Rattle.ore_monomial.specs.declared.order.Order.{Order}
 use Rattle.ore_algebra.specs.Limits.{Limits, Cause, ◌>>=◌}
 use Rattle.ore_rational.specs.Within.{sum_within}
-use Rattle.ore_ring.specs.Terms.{Term, Terms}
+use Rattle.ore_ring.specs.Terms.{Summand, Terms}
 
 abbrev pub kept : Monomial → Fraction → Terms → Terms
 kept m x ts = elim (fraction_discrete x (whole (pos 0))) [ yes e ↦ ts | no n ↦ (m, x) ∷ ts ]
 
-abbrev pub step_within : Limits → Ordering → Term → Term → Result Terms Cause → Result Terms Cause → Result Terms Cause → Result Terms Cause
+abbrev pub step_within : Limits → Ordering → Summand → Summand → Result Terms Cause → Result Terms Cause → Result Terms Cause → Result Terms Cause
 step_within l r t u left both right =
     match_ordering r
     (right >>= λ ts. Ok (u ∷ ts))
@@ -28,7 +28,7 @@ step_within l r t u left both right =
     (left >>= λ ts. Ok (t ∷ ts))
 
 -- t ∷ ts with us, where rest merges ts with a list
-unfoldable pub into_within : Limits → Order → Term → Terms → (Terms → Result Terms Cause) → Terms → Result Terms Cause
+unfoldable pub into_within : Limits → Order → Summand → Terms → (Terms → Result Terms Cause) → Terms → Result Terms Cause
 into_within l o t ts rest [] = Ok (t ∷ ts)
 into_within l o t ts rest (u ∷ us) = step_within l (order_cmp o t.0 u.0) t u (rest (u ∷ us)) (rest us) (into_within l o t ts rest us)
 

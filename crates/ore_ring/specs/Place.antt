@@ -5,12 +5,12 @@ use Rattle.std.specs.Prelude.{◌≡◌, ◌≢◌, ℕ, ◌<◌, ◌≤◌, len
 use Rattle.std.specs.declared.cmp.Ordering.TheVariants.{Less}
 use Rattle.ore_monomial.specs.Monomial.{Monomial, order_cmp}
 use Rattle.ore_monomial.specs.declared.order.Order.{Order}
-use Rattle.ore_ring.specs.Terms.{Term, Terms}
+use Rattle.ore_ring.specs.Terms.{Summand, Terms}
 
 -- every term before k is above m
 abbrev pub IsOver : Order → Monomial → Terms → ℕ → Type 0
-IsOver o m ts k = (i : ℕ) (d : Term) → i < k → i < length ts → order_cmp o m (get_or ts i d).0 ≡ Less
+IsOver o m ts k = (i : ℕ) (d : Summand) → i < k → i < length ts → order_cmp o m (get_or ts i d).0 ≡ Less
 
 -- no term from k on is above m
 abbrev pub IsNotOver : Order → Monomial → Terms → ℕ → Type 0
-IsNotOver o m ts k = (i : ℕ) (d : Term) → k ≤ i → i < length ts → order_cmp o m (get_or ts i d).0 ≢ Less
+IsNotOver o m ts k = (i : ℕ) (d : Summand) → k ≤ i → i < length ts → order_cmp o m (get_or ts i d).0 ≢ Less

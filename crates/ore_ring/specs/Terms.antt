@@ -1,5 +1,5 @@
 -- The terms of an operator in falling order.
---     Term, Terms      a monomial with its coefficient; a list of them
+--     Summand, Terms   a monomial with its coefficient; a list of them
 --     falling          the terms of an operator over the fractions, the greatest first
 --     AreApart         no coefficient of a list of terms is none
 --     IsBelowLast      a monomial may be appended
@@ -14,8 +14,8 @@ use Rattle.ore_monomial.specs.LetterRule.{Operator}
 use Rattle.ore_monomial.specs.Numbers.{back, falling_over, AreNonZero}
 use Rattle.ore_rational.specs.Field.{rationals}
 
-abbrev pub Term : Type 0
-Term = Monomial × Fraction
+abbrev pub Summand : Type 0
+Summand = Monomial × Fraction
 
 abbrev pub Terms : Type 0
 Terms = List (Monomial × Fraction)

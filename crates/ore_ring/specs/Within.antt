@@ -19,7 +19,7 @@ use Rattle.ore_rational.specs.FractionRing.{fraction_discrete}
 use Rattle.ore_monomial.specs.Monomial.{Monomial, degree, plain_cmp}
 use Rattle.ore_monomial.specs.Signature.{Signature}
 use Rattle.ore_monomial.specs.LetterRule.{Operator}
-use Rattle.ore_ring.specs.Terms.{Term, Terms, falling}
+use Rattle.ore_ring.specs.Terms.{Summand, Terms, falling}
 use Rattle.ore_monomial.specs.Numbers.{numbers, numbers_within}
 
 -- ---- sums
@@ -64,14 +64,14 @@ contribute l uv acc k = do
 
 module _ (l : Limits) (s : Signature) where
   -- two terms contribute the whole numbers of the product of their monomials, times the product of their fractions
-  unfoldable pub pair_within : Term → Operator rationals → Term → Result (Operator rationals) Cause
+  unfoldable pub pair_within : Summand → Operator rationals → Summand → Result (Operator rationals) Cause
   pair_within t acc u = do
     uv ← product_within l t.1 u.1
     ks ← numbers_within l (numbers s t.0 u.0)
     fold_within (contribute l uv) acc ks
 
   -- a term meets those of the second operator in turn
-  unfoldable pub row_within : Terms → Operator rationals → Term → Result (Operator rationals) Cause
+  unfoldable pub row_within : Terms → Operator rationals → Summand → Result (Operator rationals) Cause
   row_within us acc t = fold_within (pair_within t) acc us
 
   -- the terms of the first operator in turn, once all degrees are seen to fit

@@ -41,9 +41,9 @@ impl Model for Gather {
     ghost use Rattle.ore_algebra.specs.Free.{collect};
     ghost use Rattle.ore_monomial.specs.Monomial.{plain_cmp};
     ghost use Rattle.ore_rational.specs.Field.{rationals};
-    ghost use Rattle.ore_ring.specs.IsGathered.{IsGathered, terms_of};
+    ghost use Rattle.ore_ring.specs.IsGathered.{IsGathered, keyed_terms};
 
-    ghost view = { λ a. record { by = a.order; sum = collect rationals plain_cmp (terms_of a.map.entries) } };
+    ghost view = { λ a. record { by = a.order; sum = collect rationals plain_cmp (keyed_terms a.map.entries) } };
 
     ghost invariant = { λ a. IsGathered a.order a.map.entries };
 }

@@ -24,7 +24,7 @@ use Rattle.ore_ring.specs.Product.{times}
 use Rattle.ore_ring.specs.Within.{plus_within, times_within, opposite}
 use Rattle.ore_ring.proofs.WithinLaws as Ring
 use Rattle.ore_rows.specs.Rows.{Row, AreLong, row_plus, row_minus, row_scale, dot, combine, matrix_times, column}
-use Rattle.ore_rows.specs.RowsWithin.{sum_within, difference_within, scale_within, product_added, dot_within, combine_from, combine_within, matrix_times_within}
+use Rattle.ore_rows.specs.RowsWithin.{row_sum_within, row_difference_within, scale_within, product_added, dot_within, combine_from, combine_within, matrix_times_within}
 use Rattle.ore_rows.proofs.RowLaws.{length-combine, entry-combine}
 
 -- ---- lists
@@ -35,30 +35,30 @@ map_unlimited f g h (x ∷ xs) = (λ i. h x i >>= λ y. map_unlimited f g h xs i
 
 -- ---- sums and differences
 
-pub sum_unlimited : (r q : Row rationals) → sum_within unlimited r q ≡ Ok (row_plus rationals r q)
+pub sum_unlimited : (r q : Row rationals) → row_sum_within unlimited r q ≡ Ok (row_plus rationals r q)
 unfolding row_plus
 sum_unlimited [] q = refl
 sum_unlimited (a ∷ r) [] = refl
 sum_unlimited (a ∷ r) (b ∷ q) = λ i. Ring.plus_unlimited a b i >>= λ y. sum_unlimited r q i >>= λ ys. Ok (y ∷ ys)
 
-pub difference_unlimited : (r q : Row rationals) → difference_within unlimited r q ≡ Ok (row_minus rationals r q)
+pub difference_unlimited : (r q : Row rationals) → row_difference_within unlimited r q ≡ Ok (row_minus rationals r q)
 unfolding row_minus row_plus opposite
 difference_unlimited [] q = refl
 difference_unlimited (a ∷ r) [] = refl
 difference_unlimited (a ∷ r) (b ∷ q) = λ i. Ring.plus_unlimited a (opposite b) i >>= λ y. difference_unlimited r q i >>= λ ys. Ok (y ∷ ys)
 
 module _ (l : Limits) where
-  pub sum_at_most : (r q : Row rationals) → IsAtMost (sum_within l r q) (sum_within unlimited r q)
+  pub sum_at_most : (r q : Row rationals) → IsAtMost (row_sum_within l r q) (row_sum_within unlimited r q)
   sum_at_most r q = most_map _ _ (λ p. Ring.plus_at_most l p.0 p.1) (zip r q)
 
-  pub sum_value : (r q x : Row rationals) → sum_within l r q ≡ Ok x → x ≡ row_plus rationals r q
-  sum_value r q x = value_from (sum_within l r q) (sum_within unlimited r q) x (row_plus rationals r q) (sum_at_most r q) (sum_unlimited r q)
+  pub sum_value : (r q x : Row rationals) → row_sum_within l r q ≡ Ok x → x ≡ row_plus rationals r q
+  sum_value r q x = value_from (row_sum_within l r q) (row_sum_within unlimited r q) x (row_plus rationals r q) (sum_at_most r q) (sum_unlimited r q)
 
-  pub difference_at_most : (r q : Row rationals) → IsAtMost (difference_within l r q) (difference_within unlimited r q)
+  pub difference_at_most : (r q : Row rationals) → IsAtMost (row_difference_within l r q) (row_difference_within unlimited r q)
   difference_at_most r q = most_map _ _ (λ p. Ring.plus_at_most l p.0 (opposite p.1)) (zip r q)
 
-  pub difference_value : (r q x : Row rationals) → difference_within l r q ≡ Ok x → x ≡ row_minus rationals r q
-  difference_value r q x = value_from (difference_within l r q) (difference_within unlimited r q) x (row_minus rationals r q) (difference_at_most r q) (difference_unlimited r q)
+  pub difference_value : (r q x : Row rationals) → row_difference_within l r q ≡ Ok x → x ≡ row_minus rationals r q
+  difference_value r q x = value_from (row_difference_within l r q) (row_difference_within unlimited r q) x (row_minus rationals r q) (difference_at_most r q) (difference_unlimited r q)
 
 -- ---- products, without limits
 

@@ -19,17 +19,17 @@ use Rattle.ore_monomial.specs.LetterRule.{Operator}
 use Rattle.ore_ring.specs.AdjointWithin.{adjoint_within}
 use Rattle.ore_ring.specs.Within.{plus_within, minus_within, times_within}
 use Rattle.ore_rows.specs.Rows.{Row, AreLong, row_plus, row_minus, row_scale, dot, combine, matrix_times}
-use Rattle.ore_rows.specs.RowsWithin.{sum_within, difference_within, scale_within, dot_within, combine_within, matrix_times_within}
+use Rattle.ore_rows.specs.RowsWithin.{row_sum_within, row_difference_within, scale_within, dot_within, combine_within, matrix_times_within}
 
 -- ---- without limits
 
 -- the sum of two rows of one length
 abbrev pub SumUnlimited : Type 0
-SumUnlimited = (r q : Row rationals) → length r ≡ length q → sum_within unlimited r q ≡ Ok (row_plus rationals r q)
+SumUnlimited = (r q : Row rationals) → length r ≡ length q → row_sum_within unlimited r q ≡ Ok (row_plus rationals r q)
 
 -- the difference of two rows of one length
 abbrev pub DifferenceUnlimited : Type 0
-DifferenceUnlimited = (r q : Row rationals) → length r ≡ length q → difference_within unlimited r q ≡ Ok (row_minus rationals r q)
+DifferenceUnlimited = (r q : Row rationals) → length r ≡ length q → row_difference_within unlimited r q ≡ Ok (row_minus rationals r q)
 
 module _ (s : Signature) where
   -- an operator times each entry
@@ -52,11 +52,11 @@ module _ (s : Signature) where
 
 -- a sum within limits is that without them, or stops
 abbrev pub SumAtMost : Type 0
-SumAtMost = (l : Limits) (r q : Row rationals) → IsAtMost (sum_within l r q) (sum_within unlimited r q)
+SumAtMost = (l : Limits) (r q : Row rationals) → IsAtMost (row_sum_within l r q) (row_sum_within unlimited r q)
 
 -- a difference is that without limits, or stops
 abbrev pub DifferenceAtMost : Type 0
-DifferenceAtMost = (l : Limits) (r q : Row rationals) → IsAtMost (difference_within l r q) (difference_within unlimited r q)
+DifferenceAtMost = (l : Limits) (r q : Row rationals) → IsAtMost (row_difference_within l r q) (row_difference_within unlimited r q)
 
 module _ (s : Signature) where
   -- a multiple is that without limits, or stops
@@ -79,11 +79,11 @@ module _ (s : Signature) where
 
 -- what a sum of two rows of one length gives is their sum
 abbrev pub SumValue : Type 0
-SumValue = (l : Limits) (r q x : Row rationals) → length r ≡ length q → sum_within l r q ≡ Ok x → x ≡ row_plus rationals r q
+SumValue = (l : Limits) (r q x : Row rationals) → length r ≡ length q → row_sum_within l r q ≡ Ok x → x ≡ row_plus rationals r q
 
 -- what a difference of two rows of one length gives is their difference
 abbrev pub DifferenceValue : Type 0
-DifferenceValue = (l : Limits) (r q x : Row rationals) → length r ≡ length q → difference_within l r q ≡ Ok x → x ≡ row_minus rationals r q
+DifferenceValue = (l : Limits) (r q x : Row rationals) → length r ≡ length q → row_difference_within l r q ≡ Ok x → x ≡ row_minus rationals r q
 
 module _ (s : Signature) where
   -- what a multiple gives is the operator times each entry

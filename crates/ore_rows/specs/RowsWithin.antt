@@ -1,7 +1,8 @@
 -- Operations on rows and matrices that stop at limits: as the first operation of the ring that stops, in the order
 -- in which they stand here.
 --     scale_within                       an operator times each entry
---     sum_within, difference_within      of two rows, entry by entry
+--     row_sum_within                     the sum of two rows, entry by entry
+--     row_difference_within              their difference
 --     product_added                      a product of operators, added to an operator
 --     HasDegrees                         the degrees of the product of two operators fit
 --     product_taken, in_turn             a product of operators, taken from an operator; from each entry of a row in turn
@@ -26,12 +27,12 @@ use Rattle.ore_rows.specs.Arithmetic.{within, entry_by_entry, scaled}
 use Rattle.ore_rows.specs.Rows.{Row, column}
 
 -- the sums of the entries at one place, in order
-abbrev pub sum_within : Limits → Row rationals → Row rationals → Result (Row rationals) Cause
-sum_within l r q = entry_by_entry (plus_within l) r q
+abbrev pub row_sum_within : Limits → Row rationals → Row rationals → Result (Row rationals) Cause
+row_sum_within l r q = entry_by_entry (plus_within l) r q
 
 -- the differences of the entries at one place, in order
-abbrev pub difference_within : Limits → Row rationals → Row rationals → Result (Row rationals) Cause
-difference_within l r q = entry_by_entry (minus_within l) r q
+abbrev pub row_difference_within : Limits → Row rationals → Row rationals → Result (Row rationals) Cause
+row_difference_within l r q = entry_by_entry (minus_within l) r q
 
 -- no two terms of d and f have degrees with too great a sum
 abbrev pub HasDegrees : Signature → Operator rationals → Operator rationals → Type 0

@@ -9,7 +9,7 @@ ghost use Rattle.ore_rational.specs.Field.{rationals};
 ghost use Rattle.ore_ring.specs.Belongs.{AllBelong, Belongs};
 ghost use Rattle.ore_rows.specs.Arithmetic.{within};
 ghost use Rattle.ore_rows.specs.Reduction.{less_multiple};
-ghost use Rattle.ore_rows.specs.RowsWithin.{scale_within, sum_within, difference_within, HasDegrees, in_turn};
+ghost use Rattle.ore_rows.specs.RowsWithin.{scale_within, row_sum_within, row_difference_within, HasDegrees, in_turn};
 ghost use Rattle.ore_rows.specs.Stored.{sums_of};
 
 use crate::entry_ops::{add, less, mul, sub, take};
@@ -60,7 +60,7 @@ pub fn row_add<R: OreRing>(ring: &R, alloc: Global, a: &Row, b: &Row) -> Result<
     requires lengths { length a.now ≡ length b.now }
     requires a_of { AllBelong (R.sig ring.now) a.now }
     requires b_of { AllBelong (R.sig ring.now) b.now }
-    ensures gives { Gives sums_of result (sum_within program (sums_of a.now) (sums_of b.now)) }
+    ensures gives { Gives sums_of result (row_sum_within program (sums_of a.now) (sums_of b.now)) }
     ensures of { IfOk result (AllBelong (R.sig ring.now)) }
     ensures width { IfOk result (λ r. length r ≡ length a.now) }
 {
@@ -79,7 +79,7 @@ pub fn row_sub<R: OreRing>(ring: &R, alloc: Global, a: &Row, b: &Row) -> Result<
     requires lengths { length a.now ≡ length b.now }
     requires a_of { AllBelong (R.sig ring.now) a.now }
     requires b_of { AllBelong (R.sig ring.now) b.now }
-    ensures gives { Gives sums_of result (difference_within program (sums_of a.now) (sums_of b.now)) }
+    ensures gives { Gives sums_of result (row_difference_within program (sums_of a.now) (sums_of b.now)) }
     ensures of { IfOk result (AllBelong (R.sig ring.now)) }
     ensures width { IfOk result (λ r. length r ≡ length a.now) }
 {
@@ -99,7 +99,7 @@ pub fn row_take<R: OreRing>(ring: &R, alloc: Global, row: Row, other: &Row) -> R
     requires lengths { length row ≡ length other.now }
     requires row_of { AllBelong (R.sig ring.now) row }
     requires other_of { AllBelong (R.sig ring.now) other.now }
-    ensures gives { Gives sums_of result (difference_within program (sums_of row) (sums_of other.now)) }
+    ensures gives { Gives sums_of result (row_difference_within program (sums_of row) (sums_of other.now)) }
     ensures of { IfOk result (AllBelong (R.sig ring.now)) }
     ensures width { IfOk result (λ r. length r ≡ length row) }
 {

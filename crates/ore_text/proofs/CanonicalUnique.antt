@@ -38,7 +38,7 @@ use Rattle.ore_monomial.specs.MonomialCode.{seen_again}
 use Rattle.ore_monomial.specs.Signature.{Signature, MonomialOf}
 use Rattle.ore_monomial.specs.declared.order.Order.{Order}
 use Rattle.ore_monomial.specs.LetterRule.{Operator}
-use Rattle.ore_ring.specs.Terms.{Term, Terms, falling, AreApart}
+use Rattle.ore_ring.specs.Terms.{Summand, Terms, falling, AreApart}
 use Rattle.ore_ring.proofs.AllTerms.{falls-falling}
 use Rattle.ore_ring.proofs.TermLaws.{collect-falling}
 use Rattle.ore_text.specs.CanonicalParts.{starred, exponent_text, denominator_text, is_negative, IsWordEnd, IsFactorEnd, IsTermEnd, IsPrintableTerm}
@@ -201,13 +201,13 @@ number_or_letter : (n : ℕ) (more text : List ℕ) → n < 2 ^ 127 → text ≡
 number_or_letter n more text h e l = letter_or_digit (get_or text 0 0) (ap (λ x. is_ascii_digit (get_or x 0 0)) e ∙ decimal_first n more h) l
 
 -- the magnitudes are the same, and what the factors are in both
-record IsSameCoefficient (names : List (List ℕ)) (t u : Term) (a b : List ℕ) : Type 0 where
+record IsSameCoefficient (names : List (List ℕ)) (t u : Summand) (a b : List ℕ) : Type 0 where
   numerator : nat_abs t.1.num ≡ nat_abs u.1.num
   denominator : t.1.den ≡ u.1.den
   bare : Bool
   factors : starred bare (factors_of names t) ++ a ≡ starred bare (factors_of names u) ++ b
 
-same_coefficient : (names : List (List ℕ)) (t u : Term) (a b : List ℕ) → AllByRecursion IsName names → IsStorableTerm t → IsStorableTerm u → IsTermEnd a → IsTermEnd b → term_text names t ++ a ≡ term_text names u ++ b → IsSameCoefficient names t u a b
+same_coefficient : (names : List (List ℕ)) (t u : Summand) (a b : List ℕ) → AllByRecursion IsName names → IsStorableTerm t → IsStorableTerm u → IsTermEnd a → IsTermEnd b → term_text names t ++ a ≡ term_text names u ++ b → IsSameCoefficient names t u a b
 same_coefficient names t u a b h ht hu ha hb e = by (term_front names t a h) (term_front names u b h)
   where
     by : (term_text names t ++ a ≡ decimal (nat_abs t.1.num) ++ (denominator_text t.1.den ++ (starred false (factors_of names t) ++ a)))
@@ -258,7 +258,7 @@ nothing_filled : (text : List ℕ) → text ≡ [] → 0 < length text → ⊥
 nothing_filled text e h = let f = ap length e in omega arith
 
 module _ (s : Signature) (names : List (List ℕ)) (are : AreNames names) (count : length names ≡ length s.kinds) where
-  same_term : (t u : Term) (a b : List ℕ) → IsPrintableTerm s t → IsPrintableTerm s u → IsTermEnd a → IsTermEnd b → is_negative t.1.num ≡ is_negative u.1.num → term_text names t ++ a ≡ term_text names u ++ b → (t ≡ u) × (a ≡ b)
+  same_term : (t u : Summand) (a b : List ℕ) → IsPrintableTerm s t → IsPrintableTerm s u → IsTermEnd a → IsTermEnd b → is_negative t.1.num ≡ is_negative u.1.num → term_text names t ++ a ≡ term_text names u ++ b → (t ≡ u) × (a ≡ b)
   same_term t u a b ht hu ha hb sign e =
       let c = same_coefficient names t u a b are.form ht.storable hu.storable ha hb e in
       let f = same_factors names c.bare c.bare t.0.exponents u.0.exponents a b are.form are.distinct (small_exponents t.0 ht.storable.degree) (small_exponents u.0 hu.storable.degree) (t.0.twelve ∙ sym u.0.twelve) ha hb c.factors in
@@ -283,17 +283,17 @@ module _ (s : Signature) (names : List (List ℕ)) (are : AreNames names) (count
       λ i. term.0 i ∷ rest i
 
   -- two texts of first terms, with others behind them
-  same_begun : (t u : Term) (a b : List ℕ) → IsPrintableTerm s t → IsPrintableTerm s u → IsTermEnd a → IsTermEnd b
+  same_begun : (t u : Summand) (a b : List ℕ) → IsPrintableTerm s t → IsPrintableTerm s u → IsTermEnd a → IsTermEnd b
       → sign_text t.1.num [] (codes "-") ++ (term_text names t ++ a) ≡ sign_text u.1.num [] (codes "-") ++ (term_text names u ++ b) → (t ≡ u) × (a ≡ b)
   same_begun t u a b ht hu ha hb e =
       let sign = same_first_sign t.1.num u.1.num (term_text names t ++ a) (term_text names u ++ b) (term_first names t a are.form ht.storable.numerator) (term_first names u b are.form hu.storable.numerator) e in
       same_term t u a b ht hu ha hb sign.0 sign.1
 
-  first_split : (t : Term) (ts : Terms) → terms_text names (t ∷ ts) ≡ sign_text t.1.num [] (codes "-") ++ (term_text names t ++ flat_map (later_text names) ts)
+  first_split : (t : Summand) (ts : Terms) → terms_text names (t ∷ ts) ≡ sign_text t.1.num [] (codes "-") ++ (term_text names t ++ flat_map (later_text names) ts)
   first_split t ts = append_assoc (sign_text t.1.num [] (codes "-")) (term_text names t) (flat_map (later_text names) ts)
 
   -- `0` is no text of a term that isn't 0
-  not_zero_text : (t : Term) (ts : Terms) → t.1 ≢ whole (pos 0) → IsPrintableTerm s t → codes "0" ≡ terms_text names (t ∷ ts) → ⊥
+  not_zero_text : (t : Summand) (ts : Terms) → t.1 ≢ whole (pos 0) → IsPrintableTerm s t → codes "0" ≡ terms_text names (t ∷ ts) → ⊥
   not_zero_text t ts n h e =
       let same = same_begun zero_term t [] (flat_map (later_text names) ts) (zero_good s) h tt (later_end names ts) (sym (zero_text names) ∙ e ∙ first_split t ts) in
       n (sym (ap (λ u. u.1) same.0))

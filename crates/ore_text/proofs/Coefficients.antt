@@ -21,7 +21,7 @@ use Rattle.std.specs.Char.{is_ascii_digit, is_ascii_alphabetic}
 use Rattle.std.proofs.lemmas.Bool.Decides.{nat_tests}
 use Rattle.std.proofs.lemmas.List.{append-nil}
 use Rattle.ore_rational.specs.Fraction.{Fraction}
-use Rattle.ore_ring.specs.Terms.{Term}
+use Rattle.ore_ring.specs.Terms.{Summand}
 use Rattle.ore_text.specs.CanonicalParts.{starred, stays_bare, denominator_text, IsWordEnd, IsFactorEnd, IsTermEnd}
 use Rattle.ore_text.specs.CanonicalText.{power_text, factor_texts, magnitude_text, is_one, with_factors, term_text}
 use Rattle.ore_text.specs.Names.{IsName}
@@ -59,11 +59,11 @@ magnitude_parts q = by (nat_eq q.den 1)
     by true = sym (append-nil (decimal (nat_abs q.num)))
     by false = append_assoc (decimal (nat_abs q.num)) (47 ∷ []) (decimal q.den)
 
-abbrev pub factors_of : List (List ℕ) → Term → List (List ℕ)
+abbrev pub factors_of : List (List ℕ) → Summand → List (List ℕ)
 factors_of names t = factor_texts names t.0.exponents
 
 -- a term has its magnitude in front, or its magnitude is 1 and its first factor stands there
-pub term_front : (names : List (List ℕ)) (t : Term) (tail : List ℕ) → AllByRecursion IsName names
+pub term_front : (names : List (List ℕ)) (t : Summand) (tail : List ℕ) → AllByRecursion IsName names
     → (term_text names t ++ tail ≡ decimal (nat_abs t.1.num) ++ (denominator_text t.1.den ++ (starred false (factors_of names t) ++ tail)))
     ⊎ ((is_one t.1 ≡ true) × (term_text names t ++ tail ≡ starred true (factors_of names t) ++ tail) × BeginsWithLetter (starred true (factors_of names t) ++ tail))
 term_front names t tail h = by (is_one t.1) refl (factors_first names t.0.exponents tail h)
@@ -89,15 +89,15 @@ term_front names t tail h = by (is_one t.1) refl (factors_first names t.0.expone
     by false e (inr f) =
         inl (written (term_text-starred t.1 fs false e ∙ ap (λ b. (magnitude_text t.1 ++ starred false fs) ++ cond b (magnitude_text t.1) []) (stays_false fs) ∙ append-nil (magnitude_text t.1 ++ starred false fs)))
 
-abbrev pub Rest : List (List ℕ) → Term → List ℕ → List ℕ → Type 0
+abbrev pub Rest : List (List ℕ) → Summand → List ℕ → List ℕ → Type 0
 Rest names t tail rest =
     (rest ≡ denominator_text t.1.den ++ (starred false (factors_of names t) ++ tail))
     ⊎ ((t.1.den ≡ 1) × (rest ≡ starred true (factors_of names t) ++ tail) × (get_or rest 0 0 ≢ 47))
 
-abbrev pub IsNumerator : List (List ℕ) → Term → List ℕ → List ℕ → ℕ × ℕ → Type 0
+abbrev pub IsNumerator : List (List ℕ) → Summand → List ℕ → List ℕ → ℕ × ℕ → Type 0
 IsNumerator names t tail text r = (r.0 ≡ nat_abs t.1.num) × Rest names t tail (drop r.1 text)
 
-abbrev pub IsDenominator : List (List ℕ) → Term → List ℕ → List ℕ → ℕ × ℕ → Type 0
+abbrev pub IsDenominator : List (List ℕ) → Summand → List ℕ → List ℕ → ℕ × ℕ → Type 0
 IsDenominator names t tail rest r = (r.0 ≡ t.1.den) × ((bare : Bool) × (drop r.1 rest ≡ starred bare (factors_of names t) ++ tail))
 
 abbrev pub IsReadNumber : ℕ → List ℕ → List ℕ → ℕ × ℕ → Type 0
@@ -119,7 +119,7 @@ one_parts q h = by (nat_abs q.num) q.den h
     by : (n d : ℕ) → (nat_eq n 1 && nat_eq d 1) ≡ true → (n ≡ 1) × (d ≡ 1)
     by n d h = (grind (arith, nat_tests), grind (arith, nat_tests))
 
-pub numerator_read : (names : List (List ℕ)) (t : Term) (tail text : List ℕ) (r : Option (ℕ × ℕ)) → AllByRecursion IsName names → nat_abs t.1.num < 2 ^ 127 → IsTermEnd tail → text ≡ term_text names t ++ tail
+pub numerator_read : (names : List (List ℕ)) (t : Summand) (tail text : List ℕ) (r : Option (ℕ × ℕ)) → AllByRecursion IsName names → nat_abs t.1.num < 2 ^ 127 → IsTermEnd tail → text ≡ term_text names t ++ tail
     → ((n : ℕ) (tail : List ℕ) → n < 2 ^ 127 → IsWordEnd tail → text ≡ decimal n ++ tail → MatchOption r ⊥ (IsReadNumber n text tail))
     → (is_ascii_digit (get_or text 0 0) ≡ false → r ≡ Some (1, 0))
     → MatchOption r ⊥ (IsNumerator names t tail text)
@@ -143,7 +143,7 @@ numerator_read names t tail text r h bound end e only none = by (term_front name
         let letter : BeginsWithLetter text = subst BeginsWithLetter (sym (e ∙ b.1)) b.2 in
         is_some (IsNumerator names t tail text) r (1, 0) (none (letter_no_digit (get_or text 0 0) letter)) (sym (one_parts t.1 b.0).0, inr ((one_parts t.1 b.0).1, e ∙ b.1, no_slash (get_or text 0 0) letter))
 
-pub denominator_read : (names : List (List ℕ)) (t : Term) (tail rest : List ℕ) (r : Option (ℕ × ℕ)) → t.1.den < 2 ^ 127 → IsTermEnd tail → Rest names t tail rest
+pub denominator_read : (names : List (List ℕ)) (t : Summand) (tail rest : List ℕ) (r : Option (ℕ × ℕ)) → t.1.den < 2 ^ 127 → IsTermEnd tail → Rest names t tail rest
     → ((n : ℕ) (tail : List ℕ) → n < 2 ^ 127 → IsFactorEnd tail → rest ≡ denominator_text n ++ tail → MatchOption r ⊥ (IsReadNumber n rest tail))
     → (get_or rest 0 0 ≢ 47 → r ≡ Some (1, 0))
     → MatchOption r ⊥ (IsDenominator names t tail rest)

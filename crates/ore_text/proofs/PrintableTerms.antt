@@ -18,14 +18,14 @@ use Rattle.ore_monomial.specs.Signature.{Signature}
 use Rattle.ore_monomial.specs.declared.order.Order.{Order}
 use Rattle.ore_monomial.specs.LetterRule.{Operator}
 use Rattle.ore_monomial.proofs.Monomials.{plain_cmp_total, plain_cmp_apart, same_key, own_key}
-use Rattle.ore_ring.specs.Terms.{Term, Terms, falling, AreApart}
+use Rattle.ore_ring.specs.Terms.{Summand, Terms, falling, AreApart}
 use Rattle.ore_ring.specs.Belongs.{OperatorOf}
 use Rattle.ore_monomial.proofs.FallingTerms.{back_order, back_apart, sum_at-falling}
 use Rattle.ore_ring.proofs.AllTerms.{at, AreDistinct, at_skip, at_own, sorted_distinct, distinct-terms, apart-terms, falls-falling}
 use Rattle.ore_text.specs.CanonicalParts.{IsPrintableTerm}
 use Rattle.ore_text.specs.Printable.{IsStorableTerm, IsStorable, IsPrintable}
 
-module _ (P : Term → Type 0) where
+module _ (P : Summand → Type 0) where
   abbrev pub HoldsOf : Terms → Type 0
   HoldsOf ts = (q : Monomial) → at q ts ≢ whole (pos 0) → P (q, at q ts)
 

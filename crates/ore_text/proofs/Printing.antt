@@ -23,7 +23,7 @@ use Rattle.ore_rational.specs.Fraction.{Fraction}
 use Rattle.ore_text.proofs.Known.{same_some, not_none}
 use Rattle.ore_text.specs.CanonicalParts.{starred, stays_bare}
 use Rattle.ore_monomial.specs.Monomial.{Monomial, exponent}
-use Rattle.ore_ring.specs.Terms.{Term, Terms}
+use Rattle.ore_ring.specs.Terms.{Summand, Terms}
 use Rattle.ore_text.specs.CanonicalText.{power_text, factor_texts, magnitude_text, is_one, with_factors, sign_text, term_text, later_text, terms_text}
 
 pub stays_false : (fs : List (List ℕ)) → stays_bare false fs ≡ false
@@ -126,7 +126,7 @@ one_text q fs old mid new e g b f =
     ∙ ap (λ t. old ++ t) (sym (term_text-starred q fs true e ∙ ap (λ b. starred true fs ++ cond b (magnitude_text q) []) b))
 
 -- the first term and those behind it
-pub terms_written : (names : List (List ℕ)) (ts : Terms) (t : Term) (old mid new : List ℕ) → slice_get ts 0 ≡ Some t
+pub terms_written : (names : List (List ℕ)) (ts : Terms) (t : Summand) (old mid new : List ℕ) → slice_get ts 0 ≡ Some t
     → mid ≡ old ++ (sign_text t.1.num [] (codes "-") ++ term_text names t) → new ≡ mid ++ flat_map (later_text names) (drop 1 ts) → new ≡ old ++ terms_text names ts
 terms_written names [] t old mid new h f g = absurd (not_none h refl)
 terms_written names (u ∷ ts) t old mid new h f g =
@@ -138,5 +138,5 @@ no_terms_written names [] h = refl
 no_terms_written names (u ∷ ts) h = absurd (not_none refl h)
 
 -- the term at a place, if there is one
-pub later_written : (names : List (List ℕ)) (ts : Terms) (k : ℕ) (t : Term) (old new : List ℕ) → slice_get ts k ≡ Some t → new ≡ old ++ later_text names t → new ≡ old ++ flat_map (later_text names) (take 1 (drop k ts))
+pub later_written : (names : List (List ℕ)) (ts : Terms) (k : ℕ) (t : Summand) (old new : List ℕ) → slice_get ts k ≡ Some t → new ≡ old ++ later_text names t → new ≡ old ++ flat_map (later_text names) (take 1 (drop k ts))
 later_written names ts k t old new h e = e ∙ ap (λ x. old ++ x) (sym (append-nil (later_text names t))) ∙ sym (ap (λ us. old ++ flat_map (later_text names) us) (take_one-some ts k t h))

@@ -17,7 +17,7 @@ use Rattle.ore_rational.specs.Fraction.{Fraction}
 use Rattle.ore_rational.specs.Field.{rationals}
 use Rattle.ore_monomial.specs.declared.order.Order.{Order}
 use Rattle.ore_monomial.specs.LetterRule.{Operator}
-use Rattle.ore_ring.specs.Terms.{Term, Terms, falling}
+use Rattle.ore_ring.specs.Terms.{Summand, Terms, falling}
 use Rattle.ore_text.specs.Names.{IsName, is_name_byte}
 use Rattle.ore_text.specs.Names.{AreNames}
 use Rattle.ore_text.specs.CanonicalText.{power_text, factor_texts, magnitude_text, is_one, with_factors, term_text, sign_text, later_text, terms_text, operator_text}
@@ -105,7 +105,7 @@ LacksStops-with_factors q [] h = LacksStops-magnitude q
 LacksStops-with_factors q (x ∷ factors) h =
     LacksStops-join (if is_one q then x ∷ factors else magnitude_text q ∷ x ∷ factors) (either_all (is_one q) (x ∷ factors) (magnitude_text q ∷ x ∷ factors) h (LacksStops-magnitude q, h))
 
-LacksStops-term : (names : List (List ℕ)) (t : Term) → AllByRecursion IsName names → LacksStops (term_text names t)
+LacksStops-term : (names : List (List ℕ)) (t : Summand) → AllByRecursion IsName names → LacksStops (term_text names t)
 LacksStops-term names t h = LacksStops-with_factors t.1 (factor_texts names t.0.exponents) (AllLack-factors names t.0.exponents h)
 
 LacksStops-sign : (z : ℤ) (plus minus : List ℕ) → LacksStops plus → LacksStops minus → LacksStops (sign_text z plus minus)

@@ -24,10 +24,10 @@ use Rattle.ore_monomial.specs.declared.order.Order.{Order}
 use Rattle.ore_monomial.specs.LetterRule.{Operator}
 use Rattle.ore_monomial.proofs.Monomials.{exponent-unit}
 use Rattle.ore_ring.specs.Ordered.{Ordered}
-use Rattle.ore_ring.specs.Terms.{Term, Terms, falling, IsBelowLast, IsFalling}
+use Rattle.ore_ring.specs.Terms.{Summand, Terms, falling, IsBelowLast, IsFalling}
 use Rattle.ore_ring.proofs.Falls.{falls_tail, first, less_of}
 use Rattle.ore_ring.proofs.TermLaws.{collect-falling}
-use Rattle.ore_text.specs.CanonicalParts.{IsTermEnd, terms_of, term_unless_zero, IsPrintableTerm}
+use Rattle.ore_text.specs.CanonicalParts.{IsTermEnd, falling_terms, term_unless_zero, IsPrintableTerm}
 use Rattle.ore_text.specs.CanonicalText.{factor_texts, with_factors, sign_text, term_text, later_text, terms_text}
 use Rattle.ore_text.specs.Names.{IsName, is_name_byte}
 use Rattle.ore_text.proofs.Appending.{kept-zero, kept-other}
@@ -42,7 +42,7 @@ pub record Left (names : List (List ℕ)) (all done : Terms) (rest : List ℕ) :
 
 -- ---- what stands where a term begins and ends
 
-pub term_first : (names : List (List ℕ)) (t : Term) (tail : List ℕ) → AllByRecursion IsName names → nat_abs t.1.num < 2 ^ 127 → is_name_byte (get_or (term_text names t ++ tail) 0 0) ≡ true
+pub term_first : (names : List (List ℕ)) (t : Summand) (tail : List ℕ) → AllByRecursion IsName names → nat_abs t.1.num < 2 ^ 127 → is_name_byte (get_or (term_text names t ++ tail) 0 0) ≡ true
 term_first names t tail h n = elim (term_front names t tail h) [
   | inl w ↦ digit_in_name (get_or (term_text names t ++ tail) 0 0) (ap (λ x. is_ascii_digit (get_or x 0 0)) w ∙ decimal_first (nat_abs t.1.num) _ n)
   | inr b ↦ letter_in_name (get_or (term_text names t ++ tail) 0 0) (ap (λ x. is_ascii_alphabetic (get_or x 0 0)) b.1 ∙ b.2)
@@ -56,7 +56,7 @@ later_end names (t ∷ ts) = by t.1.num
     by (pos n) = refl
     by (negsuc n) = refl
 
-pub later_filled : (names : List (List ℕ)) (t : Term) (ts : Terms) → 0 < length (flat_map (later_text names) (t ∷ ts))
+pub later_filled : (names : List (List ℕ)) (t : Summand) (ts : Terms) → 0 < length (flat_map (later_text names) (t ∷ ts))
 later_filled names t ts = by t.1.num
   where
     by : (z : ℤ) → 0 < length ((sign_text z (codes " + ") (codes " - ") ++ term_text names t) ++ flat_map (later_text names) ts)
@@ -65,16 +65,16 @@ later_filled names t ts = by t.1.num
 
 -- ---- terms below others
 
-pub below_others : (o : Order) (xs : Terms) (t : Term) (ys : Terms) → IsFalling o (xs ++ t ∷ ys) → IsBelowLast o xs t.0
+pub below_others : (o : Order) (xs : Terms) (t : Summand) (ys : Terms) → IsFalling o (xs ++ t ∷ ys) → IsBelowLast o xs t.0
 below_others o [] t ys h = tt
 below_others o (u ∷ []) t ys h = less_of _ (first _ _ (first _ _ h.falls))
 below_others o (u ∷ v ∷ xs) t ys h = below_others o (v ∷ xs) t ys (falls_tail o u _ h)
 
-not_zero : (o : Order) (xs : Terms) (t : Term) (ys : Terms) → IsFalling o (xs ++ t ∷ ys) → t.1 ≢ whole (pos 0)
+not_zero : (o : Order) (xs : Terms) (t : Summand) (ys : Terms) → IsFalling o (xs ++ t ∷ ys) → t.1 ≢ whole (pos 0)
 not_zero o [] t ys h = h.apart.0
 not_zero o (u ∷ xs) t ys h = not_zero o xs t ys (falls_tail o u _ h)
 
-one_of : (P : Term → Type 0) (xs : Terms) (t : Term) (ys : Terms) → AllByRecursion P (xs ++ t ∷ ys) → P t
+one_of : (P : Summand → Type 0) (xs : Terms) (t : Summand) (ys : Terms) → AllByRecursion P (xs ++ t ∷ ys) → P t
 one_of P [] t ys h = h.0
 one_of P (u ∷ xs) t ys h = one_of P xs t ys h.1
 
@@ -87,14 +87,14 @@ append_nil_terms [] = refl
 append_nil_terms (x ∷ xs) = ap (λ us. x ∷ us) (append_nil_terms xs)
 
 -- a term was added, and its text was passed
-abbrev pub IsTaken : List ℕ → List ℕ → Terms → Terms → Term → ℕ → Type 0
+abbrev pub IsTaken : List ℕ → List ℕ → Terms → Terms → Summand → ℕ → Type 0
 IsTaken text tail old new t next = (drop next text ≡ tail) × (new ≡ old ++ term_unless_zero t)
 
 -- ---- the next term
 
 -- what the next call reads: a term, and the text behind it
 pub record HasNextTerm (s : Signature) (o : Order) (names : List (List ℕ)) (all done : Terms) (rest : List ℕ) : Type 0 where
-  pub term : Term
+  pub term : Summand
   pub tail : List ℕ
   pub good : IsPrintableTerm s term
   pub end : IsTermEnd tail
@@ -135,12 +135,12 @@ no_others names all done rest e h = by h.others h.all_are h.left
     by [] a l = a ∙ append_nil_terms done
     by (t ∷ ts) a l = absurd (let f = later_filled names t ts in let g = ap length l in omega arith)
 
-pub same_operator : (o : Order) (f : Operator rationals) (g : Ordered) → falling o f ≡ terms_of g → g.sum ≡ f
+pub same_operator : (o : Order) (f : Operator rationals) (g : Ordered) → falling o f ≡ falling_terms g → g.sum ≡ f
 same_operator o f g e = sym (collect-falling g.by g.sum) ∙ ap (collect rationals plain_cmp) (sym e) ∙ collect-falling o f
 
 -- ---- the first term
 
-abbrev pub zero_term : Term
+abbrev pub zero_term : Summand
 zero_term = (unit, whole (pos 0))
 
 no_factors : (names : List (List ℕ)) (n : ℕ) → factor_texts names (replicate n 0) ≡ []
@@ -160,7 +160,7 @@ pub zero_good : (s : Signature) → IsPrintableTerm s zero_term
 zero_good s = record { variables = λ x l. exponent-unit x; storable = record { numerator = omega arith; denominator = omega arith; degree = unit_degree } }
 
 pub record HasFirstTerm (s : Signature) (o : Order) (names : List (List ℕ)) (all : Terms) (text : List ℕ) : Type 0 where
-  pub term : Term
+  pub term : Summand
   pub tail : List ℕ
   pub good : IsPrintableTerm s term
   pub end : IsTermEnd tail

@@ -5,14 +5,14 @@
 --     denominator_text   what follows a numerator
 --     is_negative        whether a minus stands before a number
 --     IsWordEnd, IsFactorEnd, IsTermEnd     what may follow a name or a number, a factor, a term
---     terms_of           the terms of a stored operator, falling
+--     falling_terms      the terms of a stored operator, falling
 --     term_unless, term_unless_zero  a term as the list that it adds to others: 0 adds nothing
 --     IsPrintableTerm    a term in the variables of a signature with numbers in range
 use Rattle.std.specs.Prelude.{◌≡◌, ◌⊎◌, ℕ, zero, suc, Bool, true, false, if◌then◌else◌, nat_eq, List, [], ◌∷◌, ◌++◌, ℤ, pos, negsuc, decimal}
 use Rattle.ore_rational.specs.Field.{rationals}
 use Rattle.ore_monomial.specs.Signature.{Signature, MonomialOf}
 use Rattle.ore_ring.specs.Ordered.{Ordered}
-use Rattle.ore_ring.specs.Terms.{Term, Terms, falling}
+use Rattle.ore_ring.specs.Terms.{Summand, Terms, falling}
 use Rattle.ore_text.specs.Printable.{IsStorableTerm}
 use Rattle.ore_text.specs.Names.{is_name_byte}
 
@@ -58,19 +58,19 @@ IsTermEnd [] = Unit {0}
 IsTermEnd (b ∷ bs) = b ≡ 32
 
 -- from the greatest on, in the order that is stored with the operator
-abbrev pub terms_of : Ordered → Terms
-terms_of f = falling f.by f.sum
+abbrev pub falling_terms : Ordered → Terms
+falling_terms f = falling f.by f.sum
 
 -- no term where P holds, else this one
-abbrev pub term_unless : {P : Type 0} → Dec P → Term → Terms
+abbrev pub term_unless : {P : Type 0} → Dec P → Summand → Terms
 term_unless (yes e) t = []
 term_unless (no n) t = t ∷ []
 
 -- no term where the coefficient is 0, else this one
-unfoldable pub term_unless_zero : Term → Terms
+unfoldable pub term_unless_zero : Summand → Terms
 term_unless_zero t = term_unless (rationals.discrete t.1 rationals.zero) t
 
 -- its monomial is of the signature; its numbers and its degree are in the ranges of the program
-pub record IsPrintableTerm (s : Signature) (t : Term) : Type 0 where
+pub record IsPrintableTerm (s : Signature) (t : Summand) : Type 0 where
   pub variables : MonomialOf s t.0
   pub storable : IsStorableTerm t

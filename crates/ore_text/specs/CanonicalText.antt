@@ -14,7 +14,7 @@ use Rattle.ore_rational.specs.Fraction.{Fraction}
 use Rattle.ore_rational.specs.Field.{rationals}
 use Rattle.ore_monomial.specs.declared.order.Order.{Order}
 use Rattle.ore_monomial.specs.LetterRule.{Operator}
-use Rattle.ore_ring.specs.Terms.{Term, Terms, falling}
+use Rattle.ore_ring.specs.Terms.{Summand, Terms, falling}
 
 -- no text for the exponent 0, the name for 1, `name^e` for a greater e
 abbrev pub power_text : List ℕ → ℕ → List (List ℕ)
@@ -41,7 +41,7 @@ with_factors q [] = magnitude_text q
 with_factors q factors = join_with_byte 42 (if is_one q then factors else magnitude_text q ∷ factors)
 
 -- magnitude and factors of the term, whose variables have these names
-abbrev pub term_text : List (List ℕ) → Term → List ℕ
+abbrev pub term_text : List (List ℕ) → Summand → List ℕ
 term_text names t = with_factors t.1 (factor_texts names t.0.exponents)
 
 -- the first text for a number that isn't negative, the second for a negative one
@@ -50,7 +50,7 @@ sign_text (pos n) plus minus = plus
 sign_text (negsuc n) plus minus = minus
 
 -- a term that stands behind another, with ` + ` or ` - ` before it
-abbrev pub later_text : List (List ℕ) → Term → List ℕ
+abbrev pub later_text : List (List ℕ) → Summand → List ℕ
 later_text names t = sign_text t.1.num (codes " + ") (codes " - ") ++ term_text names t
 
 -- `0` where there is no term; a `-` directly before the first term, where its number is negative

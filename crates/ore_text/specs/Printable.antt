@@ -9,11 +9,11 @@ use Rattle.ore_monomial.specs.Monomial.{degree, plain_cmp}
 use Rattle.ore_monomial.specs.Signature.{Signature}
 use Rattle.ore_monomial.specs.LetterRule.{Operator}
 use Rattle.ore_ring.specs.Belongs.{OperatorOf}
-use Rattle.ore_ring.specs.Terms.{Term}
+use Rattle.ore_ring.specs.Terms.{Summand}
 use Rattle.ore_text.specs.Names.{AreNames}
 
 -- numerator, without its sign, and denominator are below 2^127, and the degree is at most 32,767
-pub record IsStorableTerm (t : Term) : Type 0 where
+pub record IsStorableTerm (t : Summand) : Type 0 where
   pub numerator : nat_abs t.1.num < 2 ^ 127
   pub denominator : t.1.den < 2 ^ 127
   pub degree : degree t.0 ≤ 32767

@@ -10,8 +10,8 @@ ghost use Rattle.ore_rational.specs.Fraction.{Fraction, whole};
 ghost use Rattle.ore_monomial.specs.Monomial.{Monomial, degree};
 ghost use Rattle.ore_monomial.specs.Signature.{MonomialOf};
 ghost use Rattle.ore_ring.specs.Belongs.{Belongs};
-ghost use Rattle.ore_ring.specs.Terms.{Term, IsBelowLast};
-ghost use Rattle.ore_text.specs.CanonicalParts.{starred, stays_bare, exponent_text, denominator_text, is_negative as is_negative_of, IsWordEnd, IsFactorEnd, IsTermEnd, terms_of, term_unless_zero, IsPrintableTerm};
+ghost use Rattle.ore_ring.specs.Terms.{Summand, IsBelowLast};
+ghost use Rattle.ore_text.specs.CanonicalParts.{starred, stays_bare, exponent_text, denominator_text, is_negative as is_negative_of, IsWordEnd, IsFactorEnd, IsTermEnd, falling_terms, term_unless_zero, IsPrintableTerm};
 ghost use Rattle.ore_text.specs.CanonicalText.{power_text, factor_texts, term_text, sign_text, later_text, operator_text};
 ghost use Rattle.ore_text.specs.Printable.{IsStorable, IsPrintable};
 ghost use Rattle.ore_text.specs.Names.{IsName, is_name_byte as name_byte};
@@ -85,9 +85,9 @@ fn walk(alloc: Global, algebra: &Algebra<'_>, text: &[u8]) -> Result<Option<Op>,
 
 // Adds the terms of a text to no terms. False where something unexpected stands in it.
 fn read_terms(op: &mut Op, algebra: &Algebra<'_>, text: &[u8]) -> Result<bool, NoMemory>
-    requires { terms_of op.old ≡ [] }
+    requires { falling_terms op.old ≡ [] }
     ensures by { op.new.by ≡ op.old.by }
-    ensures good { All (IsPrintableTerm algebra.now.signature.now) (terms_of op.new) }
+    ensures good { All (IsPrintableTerm algebra.now.signature.now) (falling_terms op.new) }
     ensures only { IfOk result (λ b. (f : _) → op.old.by ≡ algebra.now.signature.now.order → IsPrintable algebra.now.signature.now algebra.now.names.now f → text.now ≡ operator_text algebra.now.names.now algebra.now.signature.now.order f → (b ≡ true) × (op.new.sum ≡ f)) }
 {
     let (is_negative, start) = first_sign(text);
@@ -114,9 +114,9 @@ fn take_later(
     requires { at ≤ length text.now }
     ensures within { IfOk result (λ o. IfSome o (λ next. (at < next) × (next ≤ length text.now))) }
     ensures by { op.new.by ≡ op.old.by }
-    ensures good { All (IsPrintableTerm algebra.now.signature.now) (terms_of op.old) → All (IsPrintableTerm algebra.now.signature.now) (terms_of op.new) }
-    ensures only { IfOk result (λ o. (t : Term) (tail : List ℕ) → IsPrintableTerm algebra.now.signature.now t → IsTermEnd tail → IsBelowLast op.old.by (terms_of op.old) t.0 → drop at text.now ≡ later_text algebra.now.names.now t ++ tail
-        → MatchOption o ⊥ (λ next. (drop next text.now ≡ tail) × (terms_of op.new ≡ terms_of op.old ++ term_unless_zero t))) }
+    ensures good { All (IsPrintableTerm algebra.now.signature.now) (falling_terms op.old) → All (IsPrintableTerm algebra.now.signature.now) (falling_terms op.new) }
+    ensures only { IfOk result (λ o. (t : Summand) (tail : List ℕ) → IsPrintableTerm algebra.now.signature.now t → IsTermEnd tail → IsBelowLast op.old.by (falling_terms op.old) t.0 → drop at text.now ≡ later_text algebra.now.names.now t ++ tail
+        → MatchOption o ⊥ (λ next. (drop next text.now ≡ tail) × (falling_terms op.new ≡ falling_terms op.old ++ term_unless_zero t))) }
 {
     let Some(is_negative) = later_sign(&text[at..]) else {
         return Ok(None)
@@ -135,9 +135,9 @@ fn take_term(
     requires { at ≤ length text.now }
     ensures within { IfOk result (λ o. IfSome o (λ next. (at ≤ next) × (next ≤ length text.now))) }
     ensures by { op.new.by ≡ op.old.by }
-    ensures good { All (IsPrintableTerm algebra.now.signature.now) (terms_of op.old) → All (IsPrintableTerm algebra.now.signature.now) (terms_of op.new) }
-    ensures only { IfOk result (λ o. (t : Term) (tail : List ℕ) → IsPrintableTerm algebra.now.signature.now t → IsTermEnd tail → is_negative ≡ is_negative_of t.1.num → (t.1 ≡ whole (pos 0)) ⊎ IsBelowLast op.old.by (terms_of op.old) t.0
-        → drop at text.now ≡ term_text algebra.now.names.now t ++ tail → MatchOption o ⊥ (λ next. (drop next text.now ≡ tail) × (terms_of op.new ≡ terms_of op.old ++ term_unless_zero t))) }
+    ensures good { All (IsPrintableTerm algebra.now.signature.now) (falling_terms op.old) → All (IsPrintableTerm algebra.now.signature.now) (falling_terms op.new) }
+    ensures only { IfOk result (λ o. (t : Summand) (tail : List ℕ) → IsPrintableTerm algebra.now.signature.now t → IsTermEnd tail → is_negative ≡ is_negative_of t.1.num → (t.1 ≡ whole (pos 0)) ⊎ IsBelowLast op.old.by (falling_terms op.old) t.0
+        → drop at text.now ≡ term_text algebra.now.names.now t ++ tail → MatchOption o ⊥ (λ next. (drop next text.now ≡ tail) × (falling_terms op.new ≡ falling_terms op.old ++ term_unless_zero t))) }
 {
     let Some((term, length)) = read_term(algebra, &text[at..], is_negative) else {
         return Ok(None)
@@ -152,8 +152,8 @@ fn take_term(
 // Adds a term below the others. False where it is not below them; 0 adds nothing.
 fn add_below(op: &mut Op, term: &(Exps, Rational)) -> Result<bool, NoMemory>
     ensures by { op.new.by ≡ op.old.by }
-    ensures added { (terms_of op.new ≡ terms_of op.old) ⊎ (terms_of op.new ≡ terms_of op.old ++ term_unless_zero term.now) }
-    ensures only { IfOk result (λ b. (term.now.1 ≡ whole (pos 0)) ⊎ IsBelowLast op.old.by (terms_of op.old) term.now.0 → (b ≡ true) × (terms_of op.new ≡ terms_of op.old ++ term_unless_zero term.now)) }
+    ensures added { (falling_terms op.new ≡ falling_terms op.old) ⊎ (falling_terms op.new ≡ falling_terms op.old ++ term_unless_zero term.now) }
+    ensures only { IfOk result (λ b. (term.now.1 ≡ whole (pos 0)) ⊎ IsBelowLast op.old.by (falling_terms op.old) term.now.0 → (b ≡ true) × (falling_terms op.new ≡ falling_terms op.old ++ term_unless_zero term.now)) }
 {
     if term.1.is_zero() {
         return Ok(true);
@@ -166,7 +166,7 @@ fn add_below(op: &mut Op, term: &(Exps, Rational)) -> Result<bool, NoMemory>
 }
 
 fn is_below_last(op: &Op, exps: &Exps) -> bool
-    ensures { IsTrue result ↔ IsBelowLast op.now.by (terms_of op.now) exps.now }
+    ensures { IsTrue result ↔ IsBelowLast op.now.by (falling_terms op.now) exps.now }
 {
     let count = op.len();
     if count == 0 {
@@ -209,7 +209,7 @@ fn read_term(
 ) -> Option<((Exps, Rational), usize)>
     ensures within { IfSome result (λ r. r.1 ≤ length text.now) }
     ensures good { IfSome result (λ r. IsPrintableTerm algebra.now.signature.now r.0) }
-    ensures only { (t : Term) (tail : List ℕ) → IsPrintableTerm algebra.now.signature.now t → IsTermEnd tail → is_negative ≡ is_negative_of t.1.num → text.now ≡ term_text algebra.now.names.now t ++ tail
+    ensures only { (t : Summand) (tail : List ℕ) → IsPrintableTerm algebra.now.signature.now t → IsTermEnd tail → is_negative ≡ is_negative_of t.1.num → text.now ≡ term_text algebra.now.names.now t ++ tail
         → MatchOption result ⊥ (λ r. (r.0 ≡ t) × (drop r.1 text.now ≡ tail)) }
 {
     let Some((coef, start)) = read_coefficient(text, is_negative) else {
@@ -296,7 +296,7 @@ fn read_exponent(text: &[u8]) -> Option<(u16, usize)>
 fn read_coefficient(text: &[u8], is_negative: bool) -> Option<(Rational, usize)>
     ensures within { IfSome result (λ r. r.1 ≤ length text.now) }
     ensures range { IfSome result (λ r. (nat_abs r.0.num < 2 ^ 127) × (r.0.den < 2 ^ 127)) }
-    ensures only { (names : List (List ℕ)) (t : Term) (tail : List ℕ) → AllByRecursion IsName names → nat_abs t.1.num < 2 ^ 127 → t.1.den < 2 ^ 127 → is_negative ≡ is_negative_of t.1.num → IsTermEnd tail → text.now ≡ term_text names t ++ tail
+    ensures only { (names : List (List ℕ)) (t : Summand) (tail : List ℕ) → AllByRecursion IsName names → nat_abs t.1.num < 2 ^ 127 → t.1.den < 2 ^ 127 → is_negative ≡ is_negative_of t.1.num → IsTermEnd tail → text.now ≡ term_text names t ++ tail
         → MatchOption result ⊥ (λ r. (r.0 ≡ t.1) × ((bare : Bool) × (drop r.1 text.now ≡ starred bare (factor_texts names t.0.exponents) ++ tail))) }
 {
     let Some((numerator, length)) = read_numerator(text) else {

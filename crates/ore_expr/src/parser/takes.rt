@@ -8,7 +8,7 @@ ghost use Rattle.ore_rational.specs.Fraction.{reduce};
 ghost use Rattle.ore_rational.specs.Range.{InRange};
 ghost use Rattle.ore_expr.specs.Faults.{index_of};
 ghost use Rattle.ore_expr.specs.ParserRange.{number_due};
-ghost use Rattle.ore_expr.specs.ParserState.{state_of};
+ghost use Rattle.ore_expr.specs.ParserState.{parser_state};
 ghost use Rattle.ore_expr.specs.Parsing.{start, has_value as has_value_of, wants_atom as wants_atom_of, ends_atom, ends_factor, ends_sum, ends, taken_where, takes_number, takes_name, takes_sum, takes_minus, takes_product, takes_slash, takes_caret, takes_open, takes_close, takes_token};
 ghost use Rattle.ore_expr.specs.Reading.{Reads};
 ghost use Rattle.ore_expr.specs.TokenView.{token_of, IsNumeric};
@@ -141,7 +141,7 @@ fn end_term(made: &mut Vec<Instruction>, due: Due, level: Level) -> Result<(), A
 impl Parser {
     /// Nothing is read yet.
     pub(crate) fn new(alloc: Global) -> Parser
-        ensures { state_of result ≡ start }
+        ensures { parser_state result ≡ start }
     {
         Parser {
             due: Due::Start,
@@ -162,7 +162,7 @@ impl Parser {
         token: Token<'_>,
     ) -> Result<(), TextFault>
         requires { IsNumeric (token_of token) }
-        ensures { Reads (λ _. state_of self.new) result (takes_token names.now (state_of self.old) place (token_of token.entry)) }
+        ensures { Reads (λ _. parser_state self.new) result (takes_token names.now (parser_state self.old) place (token_of token.entry)) }
     {
         match token {
             Token::Number(digits) => self.take_number(place, digits),
@@ -181,7 +181,7 @@ impl Parser {
     // A number: an atom or its denominator, or a power.
     fn take_number(&mut self, place: usize, digits: &[u8]) -> Result<(), TextFault>
         requires { AllPass is_ascii_digit digits.now }
-        ensures { Reads (λ _. state_of self.new) result (takes_number (state_of self.old) place (digits_value 10 digits.now) (state_of self.old).due) }
+        ensures { Reads (λ _. parser_state self.new) result (takes_number (parser_state self.old) place (digits_value 10 digits.now) (parser_state self.old).due) }
     {
         match self.due {
             Due::Start | Due::Operand => {
@@ -209,7 +209,7 @@ impl Parser {
 
     // A name, which has to be declared.
     fn take_name(&mut self, names: &Names, place: usize, name: &[u8]) -> Result<(), TextFault>
-        ensures { Reads (λ _. state_of self.new) result (taken_where (wants_atom_of (state_of self.old).due) place (takes_name (state_of self.old) place (index_of names.now name.now))) }
+        ensures { Reads (λ _. parser_state self.new) result (taken_where (wants_atom_of (parser_state self.old).due) place (takes_name (parser_state self.old) place (index_of names.now name.now))) }
     {
         if !self.due.wants_atom() {
             return Err(TextFault::Syntax(place));
@@ -225,7 +225,7 @@ impl Parser {
 
     // A plus, or a minus behind a value: the term before it ends.
     fn take_sum(&mut self, place: usize, sum: Waiting) -> Result<(), TextFault>
-        ensures { Reads (λ _. state_of self.new) result (taken_where (has_value_of (state_of self.old).due) place (takes_sum (state_of self.old) sum)) }
+        ensures { Reads (λ _. parser_state self.new) result (taken_where (has_value_of (parser_state self.old).due) place (takes_sum (parser_state self.old) sum)) }
     {
         if !self.due.has_value() {
             return Err(TextFault::Syntax(place));
@@ -238,7 +238,7 @@ impl Parser {
 
     // A minus, before the first term or behind a value.
     fn take_minus(&mut self, place: usize) -> Result<(), TextFault>
-        ensures { Reads (λ _. state_of self.new) result (takes_minus (state_of self.old) place (state_of self.old).due) }
+        ensures { Reads (λ _. parser_state self.new) result (takes_minus (parser_state self.old) place (parser_state self.old).due) }
     {
         let Due::Start = self.due else {
             return self.take_sum(place, Waiting::Subtract)
@@ -251,7 +251,7 @@ impl Parser {
 
     // A product: the factor before it ends.
     fn take_product(&mut self, place: usize) -> Result<(), TextFault>
-        ensures { Reads (λ _. state_of self.new) result (taken_where (has_value_of (state_of self.old).due) place (takes_product (state_of self.old))) }
+        ensures { Reads (λ _. parser_state self.new) result (taken_where (has_value_of (parser_state self.old).due) place (takes_product (parser_state self.old))) }
     {
         if !self.due.has_value() {
             return Err(TextFault::Syntax(place));
@@ -264,7 +264,7 @@ impl Parser {
 
     // A slash, behind a numerator.
     fn take_slash(&mut self, place: usize) -> Result<(), TextFault>
-        ensures { Reads (λ _. state_of self.new) result (takes_slash (state_of self.old) place (state_of self.old).due) }
+        ensures { Reads (λ _. parser_state self.new) result (takes_slash (parser_state self.old) place (parser_state self.old).due) }
     {
         let Due::AfterNumber(numerator) = self.due else {
             return Err(TextFault::Syntax(place))
@@ -275,7 +275,7 @@ impl Parser {
 
     // A caret, behind an atom.
     fn take_caret(&mut self, place: usize) -> Result<(), TextFault>
-        ensures { Reads (λ _. state_of self.new) result (takes_caret (state_of self.old) place (state_of self.old).due) }
+        ensures { Reads (λ _. parser_state self.new) result (takes_caret (parser_state self.old) place (parser_state self.old).due) }
     {
         match self.due {
             Due::AfterNumber(n) => {
@@ -291,7 +291,7 @@ impl Parser {
 
     // An open parenthesis: a depth more.
     fn take_open(&mut self, place: usize) -> Result<(), TextFault>
-        ensures { Reads (λ _. state_of self.new) result (taken_where (wants_atom_of (state_of self.old).due) place (takes_open (state_of self.old) place)) }
+        ensures { Reads (λ _. parser_state self.new) result (taken_where (wants_atom_of (parser_state self.old).due) place (takes_open (parser_state self.old) place)) }
     {
         if !self.due.wants_atom() {
             return Err(TextFault::Syntax(place));
@@ -307,7 +307,7 @@ impl Parser {
 
     // A close parenthesis: the expression in parentheses ends.
     fn take_close(&mut self, place: usize) -> Result<(), TextFault>
-        ensures { Reads (λ _. state_of self.new) result (taken_where (has_value_of (state_of self.old).due) place (takes_close (state_of self.old) place (state_of self.old).outside)) }
+        ensures { Reads (λ _. parser_state self.new) result (taken_where (has_value_of (parser_state self.old).due) place (takes_close (parser_state self.old) place (parser_state self.old).outside)) }
     {
         if !self.due.has_value() {
             return Err(TextFault::Syntax(place));
@@ -326,7 +326,7 @@ impl Parser {
     /// # Errors
     /// Syntax, with this place, where the expression isn't whole, and want of memory, as a stop.
     pub(crate) fn finish(self, place: usize) -> Result<Vec<Instruction>, TextFault>
-        ensures { Reads (λ made. made.items) result (ends place (state_of self)) }
+        ensures { Reads (λ made. made.items) result (ends place (parser_state self)) }
     {
         let Parser {
             due,

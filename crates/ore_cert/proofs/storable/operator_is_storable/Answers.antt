@@ -1,6 +1,6 @@
 use Rattle.std.proofs.Common.{length, arith}
 use Rattle.ore_text.specs.Printable.{IsStorableTerm}
-use Rattle.ore_ring.specs.Terms.{Term, falling}
+use Rattle.ore_ring.specs.Terms.{Summand, falling}
 use Rattle.ore_cert.proofs.StorableParts.{more_within, all_done, storable_sum}
 use Rattle.ore_cert.proofs.storable.operator_is_storable.Goals as goal
 

@@ -15,6 +15,6 @@ returns g c =
     record {
       formed = λ claims.
           let checked = check program s (plain c.args.r.now) cert claims in
-          subst (λ r. Gives (λ (u : Unit {0}). cert) r (formed_as cert checked)) (sym c.stop_of.ensures)
+          subst (λ r. Gives (λ (u : Unit {0}). cert) r (formed_as cert checked)) (sym c.answer_stop.ensures)
           (formed_gives cert (line_in cert) c.check.result checked (c.check.ensures.answers claims));
     }

@@ -13,7 +13,7 @@ use Rattle.ore_pairs.specs.Run as run
 use Rattle.ore_rows.specs.Stored.{rows_of, sums_of}
 use Rattle.ore_rows.specs.StoredBasis.{StoredBasis, monics}
 use Rattle.ore_rows.proofs.Dots.{all_at}
-use Rattle.ore_groebner.specs.RunProgress.{state_of, IsBegun}
+use Rattle.ore_groebner.specs.RunProgress.{run_state, IsBegun}
 use Rattle.ore_groebner.specs.declared.progress.Progress.{Progress}
 use Rattle.ore_groebner.proofs.FirstBasis.{begun_first, rows_start, rows_next, rows_stop, rows_end, empty_kept}
 use Rattle.ore_groebner.proofs.first.begin.Goals as goal
@@ -41,7 +41,7 @@ returns-in_err-progress-clause-gives g c =
     let a = c.args.a.now in
     let p = err_from_is_err_and c.from_residual.result c.from_residual.ensures.1 in
     let width = length-map a.rows sums_of ∙ sym c.loop-k.invariant.width in
-    rw (p.1, p.2) (fails_like _ _ _ (λ e h. c.loop-k.invariant.told ∙ rows_stop s (rows_of a) (length (rows_of a)) c.loop-k.k (sums_of c.row.result.now) (state_of c.loop-k.progress) e (slice_get-map sums_of a.rows c.loop-k.k ∙ ap (option_map sums_of) c.row.ensures.value) (ap (λ n. run.begin_row rationals rational_inverses s.order (within program s) n c.loop-k.k (sums_of c.row.result.now) (state_of c.loop-k.progress)) width ∙ h)) c.in_err-progress.ensures.gives)
+    rw (p.1, p.2) (fails_like _ _ _ (λ e h. c.loop-k.invariant.told ∙ rows_stop s (rows_of a) (length (rows_of a)) c.loop-k.k (sums_of c.row.result.now) (run_state c.loop-k.progress) e (slice_get-map sums_of a.rows c.loop-k.k ∙ ap (option_map sums_of) c.row.ensures.value) (ap (λ n. run.begin_row rationals rational_inverses s.order (within program s) n c.loop-k.k (sums_of c.row.result.now) (run_state c.loop-k.progress)) width ∙ h)) c.in_err-progress.ensures.gives)
 
 pub loop-k-preserved : goal.loop-k-preserved
 loop-k-preserved g c =
@@ -51,7 +51,7 @@ loop-k-preserved g c =
     let e = c.in_ok-progress.ensures in
     let width = length-map a.rows sums_of ∙ sym i.width in
     record {
-      told = i.told ∙ rows_next s (rows_of a) (length (rows_of a)) c.loop-k.k (sums_of c.row.result.now) (state_of c.loop-k.progress) (state_of c.in_ok-progress.progress) (slice_get-map sums_of a.rows c.loop-k.k ∙ ap (option_map sums_of) c.row.ensures.value) (ap (λ n. run.begin_row rationals rational_inverses s.order (within program s) n c.loop-k.k (sums_of c.row.result.now) (state_of c.loop-k.progress)) width ∙ e.gives);
+      told = i.told ∙ rows_next s (rows_of a) (length (rows_of a)) c.loop-k.k (sums_of c.row.result.now) (run_state c.loop-k.progress) (run_state c.in_ok-progress.progress) (slice_get-map sums_of a.rows c.loop-k.k ∙ ap (option_map sums_of) c.row.ensures.value) (ap (λ n. run.begin_row rationals rational_inverses s.order (within program s) n c.loop-k.k (sums_of c.row.result.now) (run_state c.loop-k.progress)) width ∙ e.gives);
       kept = e.kept;
       begun = e.begun;
       cols = e.widths.cols ∙ i.cols;
@@ -63,7 +63,7 @@ pub returns-clause-gives : goal.returns-clause-gives
 returns-clause-gives g c =
     let s = g.R.OreRing.sig c.args.ring.now in
     let a = c.args.a.now in
-    c.loop-k.invariant.told ∙ rows_end s (rows_of a) (length (rows_of a)) c.loop-k.k (state_of c.loop-k.progress) (subst (λ n. n ≤ c.loop-k.k) (sym (length-map a.rows sums_of)) (grind arith))
+    c.loop-k.invariant.told ∙ rows_end s (rows_of a) (length (rows_of a)) c.loop-k.k (run_state c.loop-k.progress) (subst (λ n. n ≤ c.loop-k.k) (sym (length-map a.rows sums_of)) (grind arith))
 
 pub returns-clause-first : goal.returns-clause-first
 returns-clause-first g c =

@@ -5,7 +5,7 @@ use Rattle.ore_ring.specs.Ordered.{Ordered}
 use Rattle.ore_rows.specs.Stored.{sums_of}
 use Rattle.ore_rows.specs.StoredBasis.{monics}
 use Rattle.std.specs.Prelude.{List}
-use Rattle.ore_groebner.specs.RunProgress.{state_of}
+use Rattle.ore_groebner.specs.RunProgress.{run_state}
 use Rattle.ore_groebner.specs.declared.progress.Progress.{Progress}
 use Rattle.ore_groebner.proofs.FirstBasis.{with_basis_row_gives, begun_entries, monic_kept}
 use Rattle.ore_groebner.proofs.first.begin_monic.Goals as goal
@@ -13,7 +13,7 @@ use Rattle.ore_groebner.proofs.first.begin_monic.Goals as goal
 pub returns-clause-gives : goal.returns-clause-gives
 returns-clause-gives g c t lead =
     let p = c.args.progress in
-    with_basis_row_gives (state_of p) _ (monics c.in_ok-basis.basis) (c.in_ok-basis.ensures.gives t lead)
+    with_basis_row_gives (run_state p) _ (monics c.in_ok-basis.basis) (c.in_ok-basis.ensures.gives t lead)
     ∙ (λ n. Ok (record { basis = monics c.in_ok-basis.basis; listed = (begun_entries p p.first c.requires.begun ∙ sym (begun_entries p c.len-first.result c.requires.begun)) n; syzygies = map sums_of p.syzygies.items; origins = p.origins.items }))
 
 pub returns-clause-kept : goal.returns-clause-kept

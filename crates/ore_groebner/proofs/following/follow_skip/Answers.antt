@@ -1,7 +1,7 @@
 use Rattle.std.proofs.Common.{ap, sym, ◌∙◌}
 use Rattle.std.specs.declared.result.Result.TheVariants.{Ok}
 use Rattle.ore_rows.specs.declared.choices.Choice.TheVariants as choices
-use Rattle.ore_groebner.specs.RunProgress.{state_of}
+use Rattle.ore_groebner.specs.RunProgress.{run_state}
 use Rattle.ore_groebner.proofs.LawfulSteps.{lawful_treat, lawful_kept, skip_followed}
 use Rattle.ore_groebner.proofs.following.follow_skip.Goals as goal
 
@@ -13,7 +13,7 @@ returns c =
     let e = c.in_ok-skip.ensures in
     record {
       followed = record {
-        made = skip_followed s (state_of p) c.args.i c.args.j c.args.via lawful ∙ ap Ok (sym e.state);
+        made = skip_followed s (run_state p) c.args.i c.args.j c.args.via lawful ∙ ap Ok (sym e.state);
         kept = e.kept s c.requires.kept;
         shape = e.shape;
         listed = e.listed;

@@ -10,7 +10,7 @@ use Rattle.ore_rows.specs.Stored.{sums_of}
 use Rattle.ore_rows.proofs.GreatestTerms.{row_lead_from}
 use Rattle.ore_rows.proofs.StoredBases.{zeros_lead}
 use Rattle.ore_division.specs.StoredWork.{work_of}
-use Rattle.ore_groebner.specs.RunProgress.{state_of}
+use Rattle.ore_groebner.specs.RunProgress.{run_state}
 use Rattle.ore_groebner.proofs.ProgressParts.{remainder_none, remainder_some}
 use Rattle.ore_groebner.proofs.progress.add_remainder.Goals as goal
 
@@ -22,8 +22,8 @@ add_row-requires-clause-lead g c =
 pub returns-in_ok-add_syzygy-in-None-clause-gives : goal.returns-in_ok-add_syzygy-in-None-clause-gives
 returns-in_ok-add_syzygy-in-None-clause-gives g c =
     let s = g.R.OreRing.sig c.args.ring.now in
-    remainder_none s (state_of c.args.progress) c.args.i c.args.j (work_of c.args.work) (zeros_lead s.order c.args.work.row c.in-None.ensures)
-    ∙ ap (λ (v : Signature). Ok (run.with_syzygy rationals v.order (state_of c.args.progress) c.args.i c.args.j (work_of c.args.work))) (sym c.signature-in-None.ensures)
+    remainder_none s (run_state c.args.progress) c.args.i c.args.j (work_of c.args.work) (zeros_lead s.order c.args.work.row c.in-None.ensures)
+    ∙ ap (λ (v : Signature). Ok (run.with_syzygy rationals v.order (run_state c.args.progress) c.args.i c.args.j (work_of c.args.work))) (sym c.signature-in-None.ensures)
     ∙ ap Ok (sym c.in_ok-add_syzygy-in-None.ensures.state)
 
 pub returns-in-Some-clause-gives : goal.returns-in-Some-clause-gives
@@ -31,4 +31,4 @@ returns-in-Some-clause-gives g c =
     let s = g.R.OreRing.sig c.args.ring.now in
     let u : Term = record { monomial = c.in-Some.found.1; column = c.in-Some.found.0 } in
     let lead = subst (λ (v : Signature). IsRowLead rationals v.order (sums_of c.args.work.row) u c.in-Some.found.2) c.signature.ensures c.in-Some.ensures in
-    subst (Gives state_of c.add_row.result) (sym (remainder_some s (state_of c.args.progress) c.args.i c.args.j (work_of c.args.work) u (row_lead_from rationals s.order (sums_of c.args.work.row) u c.in-Some.found.2 lead))) (c.add_row.ensures.gives u lead)
+    subst (Gives run_state c.add_row.result) (sym (remainder_some s (run_state c.args.progress) c.args.i c.args.j (work_of c.args.work) u (row_lead_from rationals s.order (sums_of c.args.work.row) u c.in-Some.found.2 lead))) (c.add_row.ensures.gives u lead)

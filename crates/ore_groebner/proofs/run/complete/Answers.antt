@@ -6,7 +6,7 @@ use Rattle.ore_rows.specs.Reduction.{leads_of}
 use Rattle.ore_groebner.specs.Choosing.{Settings, present, chosen_pairs}
 use Rattle.ore_groebner.specs.Following.{earlier, given_with, IsNext, IsNextAllowed, IsLed}
 use Rattle.ore_groebner.specs.Honest.{RuleAllowsEach}
-use Rattle.ore_groebner.specs.RunProgress.{state_of}
+use Rattle.ore_groebner.specs.RunProgress.{run_state}
 use Rattle.ore_groebner.specs.BasisLeads.{BasisLeads, basis_leads, BeginsWithLeads}
 use Rattle.ore_groebner.proofs.Bounding.{rows_left, left_smaller}
 use Rattle.ore_groebner.proofs.Ending.{refusal_halts, refusal_spent, stop_halts, stop_not_spent}
@@ -74,7 +74,7 @@ pub returns-in_err-progress-clause-spent_allowed : goal.returns-in_err-progress-
 returns-in_err-progress-clause-spent_allowed g c =
     let s = g.R.OreRing.sig c.args.ring.now in
     let p = err_from_is_err_and c.from_residual-in_err-progress.result c.from_residual-in_err-progress.ensures.1 in
-    rw (p.1, p.2) (λ e. absurd (stop_not_spent s (state_of c.loop-progress.progress) c.in-Some.choice _ c.in_err-progress.ensures.halted e))
+    rw (p.1, p.2) (λ e. absurd (stop_not_spent s (run_state c.loop-progress.progress) c.in-Some.choice _ c.in_err-progress.ensures.halted e))
 
 pub loop-progress-smaller : goal.loop-progress-smaller
 loop-progress-smaller g c =
@@ -102,7 +102,7 @@ loop-progress-preserved g c =
     let f = c.in_ok-progress.ensures.followed in
     let now = e.given ∙ ap (λ (o : Option Choice). given_with given o) c.in-Some.is in
     let allowed = subst (λ (o : Option Choice). IsNextAllowed g.C.Rule.allows (basis_leads p.basis) (chosen_pairs (present given)) o) c.in-Some.is e.allowed in
-    let longer = step_longer s (state_of p) (state_of q) d f.made in
+    let longer = step_longer s (run_state p) (run_state q) d f.made in
     let next = subst (λ (o : Option Choice). IsNext (leads_of p.basis.items) p.listed given (g.C.Chooser.settings c.loop-progress.chooser).budget o) c.in-Some.is e.next in
     record {
       begun = λ z. with_choice-begun given d i.begun (sym now ∙ z);

@@ -9,7 +9,7 @@ use Rattle.ore_pairs.specs.Run.{from_rows}
 use Rattle.ore_rows.specs.Stored.{OperatorMatrix, rows_of}
 use Rattle.ore_groebner.specs.Choosing.{Settings, present}
 use Rattle.ore_groebner.specs.Following.{earlier, IsLed}
-use Rattle.ore_groebner.specs.RunProgress.{state_of}
+use Rattle.ore_groebner.specs.RunProgress.{run_state}
 use Rattle.ore_groebner.specs.BasisLeads.{BasisLeads, BeginsWithLeads}
 use Rattle.ore_groebner.proofs.Ending.{led_honest, runs_after}
 use Rattle.ore_groebner.proofs.Given.{present-start, one_more, within_budget_start}
@@ -95,7 +95,7 @@ returns-in_err-progress-clause-halts g c =
     let given = g.C.Chooser.given x in
     let halted = c.in_err-progress.ensures.halted in
     let more = one_more before given c.complete.ensures.begun (c.complete.ensures.earlier ∙ ap earlier c.in-Ok-start_run.ensures.begun) in
-    let runs = runs_after s c.args.a.now g.C.Rule.allows c.in-Ok.progress before given (state_of c.in-Ok.progress) c.in-Ok.ensures.gives more (g.C.Chooser.settings x) _ halted in
+    let runs = runs_after s c.args.a.now g.C.Rule.allows c.in-Ok.progress before given (run_state c.in-Ok.progress) c.in-Ok.ensures.gives more (g.C.Chooser.settings x) _ halted in
     let e = err_from_is_err_and c.from_residual.result c.from_residual.ensures.1 in
     rw (e.1, e.2) (run_halted s g.C.Rule.allows g.C.Rule.allows_spent c.args.a.now before given (g.C.Chooser.settings x) _ halted runs (λ _. c.complete.ensures.allowed) c.in_err-progress.ensures.spent_allowed)
 

@@ -3,7 +3,7 @@ use Rattle.std.proofs.Common.{◌≡◌, ◌≢◌, ◌<◌, ◌^◌, ◌/◌, �
 use Rattle.std.proofs.lemmas.Int.{ints, to_z_pos}
 use Rattle.std.specs.Int.{w128}
 use Rattle.ore_rational.specs.Gcd.{gcd}
-use Rattle.ore_rational.specs.Fraction.{quotient, gcd-pos}
+use Rattle.ore_rational.specs.Fraction.{ratio, gcd-pos}
 use Rattle.ore_rational.proofs.FractionLaws.{same_parts}
 use Rattle.ore_rational.specs.Range.{InRange}
 use Rattle.ore_rational.proofs.Bounds.{fits-num, fits-den, fits_from}
@@ -32,7 +32,7 @@ pub nonzero_div-d : goal.nonzero_div-d
 nonzero_div-d c = g_above (goal.at.nonzero_div-d c).After-unsigned_abs-3
 
 -- the sizes of the parts
-num_size : (n d : ℤ) → d ≢ pos 0 → nat_abs (quotient n d).num ≡ nat_abs n / gcd (nat_abs n) (nat_abs d)
+num_size : (n d : ℤ) → d ≢ pos 0 → nat_abs (ratio n d).num ≡ nat_abs n / gcd (nat_abs n) (nat_abs d)
 num_size n d h = ap nat_abs (quotient_num n d h) ∙ abs-with_sign (differ n d) _
 
 pub returns-then-n-gt-GREATEST : goal.returns-then-n-gt-GREATEST
@@ -47,17 +47,17 @@ returns-then-d-gt-GREATEST c s =
     let h : nat_abs c.args.den / gcd (nat_abs c.args.num) (nat_abs c.args.den) < 2 ^ 127 = subst (λ k. k < 2 ^ 127) (quotient_den c.args.num c.args.den c.requires) (fits-den _ s) in
     omega (arith, e, h, c.if-d-gt-GREATEST.true)
 
-denominator_is : (c : After-signed-numerator) → to_z w128 (c.unsigned_abs-4.result / c.gcd-g.result) ≡ pos (quotient c.args.num c.args.den).den
+denominator_is : (c : After-signed-numerator) → to_z w128 (c.unsigned_abs-4.result / c.gcd-g.result) ≡ pos (ratio c.args.num c.args.den).den
 denominator_is c =
     let e = d_is (goal.at.from_parts-requires-clause-above c).After-unsigned_abs-4 in
     to_z_pos w128 _ (omega (arith, c.if-d-gt-GREATEST.false)) ∙ ap pos (e ∙ sym (quotient_den c.args.num c.args.den c.requires))
 
-num_fits : (c : After-signed-numerator) → InRange (quotient c.args.num c.args.den).num
+num_fits : (c : After-signed-numerator) → InRange (ratio c.args.num c.args.den).num
 num_fits c =
     let e = n_is (goal.at.from_parts-requires-clause-above c).After-unsigned_abs-4 in
     rw (num_size c.args.num c.args.den c.requires) (omega (arith, e, c.if-n-gt-GREATEST.false))
 
-numerator_is : (c : After-signed-numerator) → to_z w128 (of_z w128 c.signed-numerator.result) ≡ (quotient c.args.num c.args.den).num
+numerator_is : (c : After-signed-numerator) → to_z w128 (of_z w128 c.signed-numerator.result) ≡ (ratio c.args.num c.args.den).num
 numerator_is c =
     let e = n_is (goal.at.from_parts-requires-clause-above c).After-unsigned_abs-4 in
     read_same _ _
@@ -67,15 +67,15 @@ numerator_is c =
     (num_fits c)
 
 pub from_parts-requires-clause-above : goal.from_parts-requires-clause-above
-from_parts-requires-clause-above c = rw (denominator_is c) (let p = (quotient c.args.num c.args.den).positive in omega (arith, ints, p))
+from_parts-requires-clause-above c = rw (denominator_is c) (let p = (ratio c.args.num c.args.den).positive in omega (arith, ints, p))
 
 pub from_parts-requires-clause-lowest : goal.from_parts-requires-clause-lowest
-from_parts-requires-clause-lowest c = rw (numerator_is c, denominator_is c) (quotient c.args.num c.args.den).reduced
+from_parts-requires-clause-lowest c = rw (numerator_is c, denominator_is c) (ratio c.args.num c.args.den).reduced
 
 pub returns : goal.returns
 returns c =
     let d = (goal.at.returns c).After-signed-numerator in
-    let q = quotient c.args.num c.args.den in
+    let q = ratio c.args.num c.args.den in
     let e = d_is (goal.at.from_parts-requires-clause-above d).After-unsigned_abs-4 in (
       fits_from _ (num_fits d) (rw (quotient_den c.args.num c.args.den c.requires) (omega (arith, e, c.if-d-gt-GREATEST.false))),
       same_parts c.from_parts.result q (c.from_parts.ensures.numerator_is ∙ numerator_is d) (c.from_parts.ensures.denominator_is ∙ denominator_is d),

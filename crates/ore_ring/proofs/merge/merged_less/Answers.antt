@@ -5,7 +5,7 @@ use Rattle.std.proofs.lemmas.Result.{err_from_is_err_and}
 use Rattle.ore_algebra.specs.Limits.{program}
 use Rattle.ore_algebra.specs.Results.{fronted}
 use Rattle.ore_rational.specs.Fraction.{neg}
-use Rattle.ore_ring.specs.Terms.{Term}
+use Rattle.ore_ring.specs.Terms.{Summand}
 use Rattle.ore_ring.specs.Merge.{merge_within, opposite_terms}
 use Rattle.ore_ring.proofs.MergeSteps.{at_less, at_greater, at_equal, at_stop, at_end_left, at_end_right, opposite_at, less_ends}
 use Rattle.ore_monomial.proofs.Stops.{fails_like}
@@ -56,7 +56,7 @@ pub returns : goal.returns
 returns c =
     sym c.loop-i.invariant.whole
     ∙ elim c.loop-i-test.branch [
-      | then-loop-i-test+else-j-b w ↦ at_end_right program c.args.order c.loop-i.out.items c.args.a.now (opposite_terms c.args.b.now) c.loop-i.i c.loop-i.j (subst (λ n. n ≤ c.loop-i.j) (sym (length-map c.args.b.now (λ (t : Term). (t.0, neg t.1)))) (let past : length c.args.b.now ≤ c.loop-i.j = omega (arith, w.if-j-b.false) in past))
+      | then-loop-i-test+else-j-b w ↦ at_end_right program c.args.order c.loop-i.out.items c.args.a.now (opposite_terms c.args.b.now) c.loop-i.i c.loop-i.j (subst (λ n. n ≤ c.loop-i.j) (sym (length-map c.args.b.now (λ (t : Summand). (t.0, neg t.1)))) (let past : length c.args.b.now ≤ c.loop-i.j = omega (arith, w.if-j-b.false) in past))
       | else-loop-i-test w ↦ at_end_left program c.args.order c.loop-i.out.items c.args.a.now (opposite_terms c.args.b.now) c.loop-i.i c.loop-i.j w.loop-i-test.false
     ]
     ∙ ap Ok (less_ends c.loop-i.out.items c.args.a.now c.args.b.now c.extend_from_slice.new.self.items c.extend_negated.new.out.items c.loop-i.i c.loop-i.j c.in_ok-extend_negated.ensures c.in_ok-extend_from_slice.ensures.items)

@@ -1,10 +1,10 @@
 use Rattle.std.proofs.Common.{◌≡◌, [], ◌∷◌, length, get_or, sym, ap, ◌∙◌, arith}
 use Rattle.ore_rational.proofs.Stored.{Decides-fraction_eq}
 use Rattle.ore_monomial.proofs.Divisors.{unit_from_degree}
-use Rattle.ore_ring.specs.Terms.{Term, Terms}
+use Rattle.ore_ring.specs.Terms.{Summand, Terms}
 use Rattle.ore_ring.proofs.multiply.is_one.Goals as goal
 
-alone : (ts : Terms) (t : Term) → length ts ≡ 1 → t ≡ get_or ts 0 t → ts ≡ t ∷ []
+alone : (ts : Terms) (t : Summand) → length ts ≡ 1 → t ≡ get_or ts 0 t → ts ≡ t ∷ []
 alone [] t n e = absurd (omega arith)
 alone (u ∷ []) t n e = ap (λ x. x ∷ []) (sym e)
 alone (u ∷ v ∷ ts) t n e = absurd (omega arith)

@@ -5,13 +5,13 @@ use Rattle.std.specs.Slice.Iter.{iter_rest}
 use Rattle.std.specs.Vec.Iter.{into_iter_items, into_iter_len}
 use Rattle.ore_algebra.specs.Limits.{program, fronted}
 use Rattle.ore_ring.specs.Belongs.{Belongs}
-use Rattle.ore_rows.specs.RowsWithin.{difference_within}
+use Rattle.ore_rows.specs.RowsWithin.{row_difference_within}
 use Rattle.ore_rows.specs.Stored.{sums_of}
 use Rattle.ore_rows.proofs.row_ops.row_take.Given as goal
 
 abbrev pub invariant-loop-f : goal.invariant-loop-f
 invariant-loop-f g l = record {
-  told : fronted (sums_of l.out.items) (difference_within program (sums_of (into_iter_items (zip_first l.f-iterator))) (sums_of (iter_rest (zip_second l.f-iterator)))) ≡ difference_within program (sums_of l.fn.row) (sums_of l.other);
+  told : fronted (sums_of l.out.items) (row_difference_within program (sums_of (into_iter_items (zip_first l.f-iterator))) (sums_of (iter_rest (zip_second l.f-iterator)))) ≡ row_difference_within program (sums_of l.fn.row) (sums_of l.other);
   belongs : All (Belongs (g.R.OreRing.sig l.ring)) l.out.items;
   count : length (into_iter_items (zip_first l.f-iterator)) ≡ into_iter_len (zip_first l.f-iterator);
   first_belongs : All (Belongs (g.R.OreRing.sig l.ring)) (into_iter_items (zip_first l.f-iterator));

@@ -1,10 +1,10 @@
 use Rattle.std.proofs.Common.{inr, refl, sym, ◌∙◌, true≢false}
-use Rattle.ore_text.specs.CanonicalParts.{terms_of}
+use Rattle.ore_text.specs.CanonicalParts.{falling_terms}
 use Rattle.ore_text.proofs.Appending.{terms_of-pushed, nothing_kept}
 use Rattle.ore_text.proofs.canonical.add_below.Goals as goal
 
 pub returns-then-is_zero-clause-only : goal.returns-then-is_zero-clause-only
-returns-then-is_zero-clause-only c h = (refl, nothing_kept (terms_of c.args.op.now) c.args.term.now (c.is_zero.ensures.0 c.if-is_zero.true))
+returns-then-is_zero-clause-only c h = (refl, nothing_kept (falling_terms c.args.op.now) c.args.term.now (c.is_zero.ensures.0 c.if-is_zero.true))
 
 pub returns-clause-added : goal.returns-clause-added
 returns-clause-added c =

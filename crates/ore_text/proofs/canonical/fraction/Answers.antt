@@ -6,7 +6,7 @@ use Rattle.std.proofs.lemmas.Result.{Ok-from_Ok_iff}
 use Rattle.std.proofs.lemmas.Int.{to_z_pos}
 use Rattle.std.specs.Int.{w128}
 use Rattle.ore_algebra.specs.Limits.{program}
-use Rattle.ore_rational.specs.Fraction.{Fraction, quotient}
+use Rattle.ore_rational.specs.Fraction.{Fraction, ratio}
 use Rattle.ore_rational.specs.Reduced.{reduce-self}
 use Rattle.ore_rational.specs.Within.{fits}
 use Rattle.ore_rational.proofs.Stored.{read}
@@ -28,10 +28,10 @@ fits_bounds q h k = both_fit (nat_abs q.num) q.den h k
 denominator_small : (d e : ℕ) → d ≡ e → e < 2 ^ 127 → d < 2 ^ 127
 denominator_small d e f h = omega arith
 
-made : {E : Type 0} (q : Fraction) (n d : ℤ) (r : Result Fraction E) → nat_abs q.num < 2 ^ 127 → q.den < 2 ^ 127 → n ≡ q.num → d ≡ pos q.den → OkIff r (IsTrue (fits program (quotient n d))) (quotient n d) → r ≡ Ok q
+made : {E : Type 0} (q : Fraction) (n d : ℤ) (r : Result Fraction E) → nat_abs q.num < 2 ^ 127 → q.den < 2 ^ 127 → n ≡ q.num → d ≡ pos q.den → OkIff r (IsTrue (fits program (ratio n d))) (ratio n d) → r ≡ Ok q
 made q n d r h k e f p =
-    let same : quotient n d ≡ q = (λ i. quotient (e i) (f i)) ∙ reduce-self q in
-    Ok-from_Ok_iff r (IsTrue (fits program (quotient n d))) (quotient n d) p (subst (λ x. IsTrue (fits program x)) (sym same) (fits_bounds q h k)) ∙ ap Ok same
+    let same : ratio n d ≡ q = (λ i. ratio (e i) (f i)) ∙ reduce-self q in
+    Ok-from_Ok_iff r (IsTrue (fits program (ratio n d))) (ratio n d) p (subst (λ x. IsTrue (fits program x)) (sym same) (fits_bounds q h k)) ∙ ap Ok same
 
 pub returns-in-Ok-clause-only : goal.returns-in-Ok-clause-only
 returns-in-Ok-clause-only c q h k s n d =

@@ -7,7 +7,7 @@ use Rattle.ore_monomial.specs.LetterRule.{Operator}
 use Rattle.ore_monomial.specs.declared.order.Order.{Order}
 use Rattle.ore_ring.specs.Terms.{falling, IsBelowLast}
 use Rattle.ore_ring.proofs.AllTerms.{falls-falling}
-use Rattle.ore_text.specs.CanonicalParts.{terms_of, term_unless_zero, IsPrintableTerm}
+use Rattle.ore_text.specs.CanonicalParts.{falling_terms, term_unless_zero, IsPrintableTerm}
 use Rattle.ore_text.specs.CanonicalText.{term_text, terms_text, operator_text}
 use Rattle.ore_text.proofs.PrintableTerms.{printable_falling}
 use Rattle.ore_text.proofs.Walking.{IsTaken, first_term, next_term, term_first, no_others, same_operator}
@@ -32,7 +32,7 @@ returns-in_default-clause-only c f by p e =
     let all = falling s.order f in
     let first = first_term s s.order names all text (falls-falling s.order f) (printable_falling s names f s.order p) (text_is names s.order f text e) in
     let sign = c.first_sign-is_negative.ensures.only first.term.1.num (term_text names first.term ++ first.tail) (term_first names first.term first.tail c.args.algebra.now.form.form first.good.storable.numerator) first.spelled in
-    absurd (at_none (IsTaken text first.tail (terms_of c.args.op.now) (terms_of c.take_term.new.op) first.term) c.in_ok-end.field-0 c.in_default.is
+    absurd (at_none (IsTaken text first.tail (falling_terms c.args.op.now) (falling_terms c.take_term.new.op) first.term) c.in_ok-end.field-0 c.in_default.is
     (c.in_ok-end.ensures.only first.term first.tail first.good first.end sign.0 (inr (subst (λ ts. IsBelowLast c.args.op.now.by ts first.term.0) (sym c.requires) tt)) sign.1))
 
 pub loop-at-init : goal.loop-at-init
@@ -47,9 +47,9 @@ loop-at-init c = record {
       let all = falling s.order f in
       let first = first_term s s.order names all text (falls-falling s.order f) (printable_falling s names f s.order p) (text_is names s.order f text e) in
       let sign = c.first_sign-is_negative.ensures.only first.term.1.num (term_text names first.term ++ first.tail) (term_first names first.term first.tail c.args.algebra.now.form.form first.good.storable.numerator) first.spelled in
-      let taken = at_some (IsTaken text first.tail (terms_of c.args.op.now) (terms_of c.take_term.new.op) first.term) c.in_ok-end.field-0 c.in-Some.end c.in-Some.is
+      let taken = at_some (IsTaken text first.tail (falling_terms c.args.op.now) (falling_terms c.take_term.new.op) first.term) c.in_ok-end.field-0 c.in-Some.end c.in-Some.is
       (c.in_ok-end.ensures.only first.term first.tail first.good first.end sign.0 (inr (subst (λ ts. IsBelowLast c.args.op.now.by ts first.term.0) (sym c.requires) tt)) sign.1) in
-      first.goes_on (terms_of c.take_term.new.op) (drop c.in-Some.end text) taken.0 (taken.1 ∙ ap (λ ts. ts ++ term_unless_zero first.term) c.requires);
+      first.goes_on (falling_terms c.take_term.new.op) (drop c.in-Some.end text) taken.0 (taken.1 ∙ ap (λ ts. ts ++ term_unless_zero first.term) c.requires);
 }
 
 filled : (text : List ℕ) (at : ℕ) → at < length text → 0 < length (drop at text)
@@ -61,9 +61,9 @@ returns-in_default-2-clause-only c f by p e =
     let names = c.args.algebra.now.names.now in
     let text = c.args.text.now in
     let all = falling s.order f in
-    let done = terms_of c.loop-at.op in
+    let done = falling_terms c.loop-at.op in
     let next = next_term s s.order names all done (drop c.loop-at.at text) (falls-falling s.order f) (printable_falling s names f s.order p) (filled text c.loop-at.at c.loop-at-test.true) (c.loop-at.invariant.only f by p e) in
-    absurd (at_none (IsTaken text next.tail done (terms_of c.take_later.new.op) next.term) c.in_ok-next.field-0 c.in_default-2.is
+    absurd (at_none (IsTaken text next.tail done (falling_terms c.take_later.new.op) next.term) c.in_ok-next.field-0 c.in_default-2.is
     (c.in_ok-next.ensures.only next.term next.tail next.good next.end (subst (λ o. IsBelowLast o done next.term.0) (sym (c.loop-at.invariant.by ∙ by)) next.below) next.spelled))
 
 pub loop-at-preserved : goal.loop-at-preserved
@@ -76,11 +76,11 @@ loop-at-preserved c = record {
       let names = c.args.algebra.now.names.now in
       let text = c.args.text.now in
       let all = falling s.order f in
-      let done = terms_of c.loop-at.op in
+      let done = falling_terms c.loop-at.op in
       let next = next_term s s.order names all done (drop c.loop-at.at text) (falls-falling s.order f) (printable_falling s names f s.order p) (filled text c.loop-at.at c.loop-at-test.true) (c.loop-at.invariant.only f by p e) in
-      let taken = at_some (IsTaken text next.tail done (terms_of c.take_later.new.op) next.term) c.in_ok-next.field-0 c.in-Some-2.next c.in-Some-2.is
+      let taken = at_some (IsTaken text next.tail done (falling_terms c.take_later.new.op) next.term) c.in_ok-next.field-0 c.in-Some-2.next c.in-Some-2.is
       (c.in_ok-next.ensures.only next.term next.tail next.good next.end (subst (λ o. IsBelowLast o done next.term.0) (sym (c.loop-at.invariant.by ∙ by)) next.below) next.spelled) in
-      next.goes_on (terms_of c.take_later.new.op) (drop c.in-Some-2.next text) taken.0 taken.1;
+      next.goes_on (falling_terms c.take_later.new.op) (drop c.in-Some-2.next text) taken.0 taken.1;
 }
 
 pub returns-clause-only : goal.returns-clause-only
@@ -89,4 +89,4 @@ returns-clause-only c f by p e =
     let all = falling s.order f in
     let rest = drop c.loop-at.at c.args.text.now in
     let none : length rest ≡ 0 = (let d = length-drop c.loop-at.at c.args.text.now in let t = c.loop-at-test.false in omega arith) in
-    (refl, same_operator s.order f c.loop-at.op (no_others c.args.algebra.now.names.now all (terms_of c.loop-at.op) rest none (c.loop-at.invariant.only f by p e)))
+    (refl, same_operator s.order f c.loop-at.op (no_others c.args.algebra.now.names.now all (falling_terms c.loop-at.op) rest none (c.loop-at.invariant.only f by p e)))

@@ -1,12 +1,12 @@
 use Rattle.std.proofs.Common.{sym, ap, ◌∙◌, ◌++◌}
 use Rattle.ore_ring.specs.Gathered.{drained}
-use Rattle.ore_ring.specs.IsGathered.{terms_of}
+use Rattle.ore_ring.specs.IsGathered.{keyed_terms}
 use Rattle.ore_ring.proofs.GatherSteps.{drain_next, drained_out, drained_is, empty_of}
 use Rattle.ore_ring.proofs.gather.Gather.finish.Goals as goal
 
 pub loop-t-preserved : goal.loop-t-preserved
 loop-t-preserved c =
-    ap (λ us. us ++ drained (terms_of c.pop_last.new.self.entries)) c.in_ok-keep.ensures
+    ap (λ us. us ++ drained (keyed_terms c.pop_last.new.self.entries)) c.in_ok-keep.ensures
     ∙ sym (drain_next c.loop-t.out.items c.loop-t.map.entries c.pop_last.new.self.entries (c.in-Some.field-0-0, c.in-Some.t) c.in-Some.ensures.removal)
     ∙ c.loop-t.invariant
 
