@@ -2,15 +2,18 @@
 --     rest-skipped, rest-space, rest-token      what a byte does that is passed over, that is a space, that begins a token
 --     front-slice                               the text from a place on
 --     rest-taken, rest-faulty                   the token is taken, or has a fault
+--     parse-zero                                the text `0` is the number 0
 --     parse-ends                                what is left to do behind the last byte
 --     parse-fault                               a fault of the rest is that of the text
-use Rattle.std.proofs.Common.{◌≡◌, ◌≢◌, ◌≤◌, ℕ, zero, suc, ◌+◌, ◌-◌, ◌<◌, true, false, nat_eq, if◌then◌else◌, List, [], ◌∷◌, length, take, drop, get_or, Ok, Err, refl, sym, ap, subst, ◌∙◌, arith, add-one, drop-cons}
+use Rattle.std.proofs.Common.{◌≡◌, ◌≢◌, ◌≤◌, ℕ, zero, suc, ◌+◌, ◌-◌, ◌<◌, true, false, nat_eq, if◌then◌else◌, List, [], ◌∷◌, length, take, drop, get_or, Ok, Err, pos, refl, sym, ap, subst, ◌∙◌, arith, add-one, drop-cons}
 use Rattle.std.specs.declared.result.Result.{Result}
 use Rattle.std.proofs.lemmas.List.{drop_all, take_all, length-drop}
 use Rattle.std.proofs.lemmas.Bool.Decides.{Decides-eqb, nat_tests}
 use Rattle.ore_algebra.proofs.ResultLaws.{refused_on}
 use Rattle.ore_expr.specs.declared.fault.TextFault.{TextFault}
 use Rattle.ore_expr.specs.declared.fault.TextFault.TheVariants as fault
+use Rattle.ore_rational.specs.Fraction.{whole}
+use Rattle.ore_expr.specs.declared.instruction.Instruction.TheVariants as code
 use Rattle.ore_expr.specs.Tokens.{Token, token_at, more_bytes, lexemes_from, lexemes}
 use Rattle.ore_expr.specs.Parsing.{State, start, takes_token, follow, ends, parse}
 use Rattle.ore_algebra.specs.Results.{◌>>=◌}
@@ -74,6 +77,10 @@ module _ (names : List (List ℕ)) (text : List ℕ) (place : ℕ) (within : pla
     -- a token has a fault
     pub rest-faulty : (f : TextFault) → FaultReads f (takes_token names s place token) → FaultReads f (rest_read names text s k place)
     rest-faulty f faulty = subst (FaultReads f) (sym rest-token) (refused_on (Unit {0}) (fault_in_text f) _ (λ t. rest_read names text t (more_bytes token) (place + 1)) faulty)
+
+pub parse-zero : (names : List (List ℕ)) → parse names (48 ∷ []) ≡ Ok (code.Constant (whole (pos 0)) ∷ [])
+unfolding lexemes_from
+parse-zero names = refl
 
 module _ (names : List (List ℕ)) (text : List ℕ) where
   pub parse-ends : (s : State) (skipped place : ℕ) → place ≡ length text → rest_read names text s skipped place ≡ follow names start (lexemes text) → parse names text ≡ ends (length text) s

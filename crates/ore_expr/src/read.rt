@@ -1,8 +1,10 @@
 //! Reads operators.
 
-ghost use Rattle.std.specs.Prelude.{◌≡◌, ◌<◌, length, IfOk};
+ghost use Rattle.std.specs.Prelude.{◌≡◌, ◌<◌, [], ◌∷◌, length, pos, true, IfOk};
 ghost use Rattle.std.specs.List.{All};
+ghost use Rattle.ore_rational.specs.Fraction.{whole};
 ghost use Rattle.ore_ring.specs.Belongs.{Belongs};
+ghost use Rattle.ore_expr.specs.declared.instruction.Instruction.TheVariants as code;
 ghost use Rattle.ore_expr.specs.Evaluation.{IsOf};
 ghost use Rattle.ore_expr.specs.Parsing.{parse as parse_of};
 ghost use Rattle.ore_expr.specs.ParserState.{parser_state};
@@ -14,6 +16,7 @@ use crate::fault::TextFault;
 use crate::instruction::Instruction;
 use crate::parser::Parser;
 use crate::token::token_at;
+use ore_rational::Rational;
 use ore_ring::{Op, OreRing};
 use ore_text::Names;
 use std::alloc::Global;
@@ -23,6 +26,36 @@ use std::alloc::Global;
 /// # Errors
 /// The fault of the first token that has one, and want of memory, as a stop.
 pub fn parse(alloc: Global, names: &Names, text: &[u8]) -> Result<Vec<Instruction>, TextFault>
+    ensures reads { Reads (λ p. p.items) result (parse_of names.now text.now) }
+    ensures of { IfOk result (λ p. All (IsOf (length names.now)) p.items) }
+{
+    if is_zero(text) {
+        return zero(alloc);
+    }
+    parse_tokens(alloc, names, text)
+}
+
+// Whether the text is `0`, as most entries are.
+fn is_zero(text: &[u8]) -> bool
+    ensures { result ≡ true → text.now ≡ 48 ∷ [] }
+{
+    match text {
+        [byte] => *byte == b'0',
+        _ => false,
+    }
+}
+
+// The instruction of that text.
+fn zero(alloc: Global) -> Result<Vec<Instruction>, TextFault>
+    ensures { Reads (λ p. p.items) result (Ok (code.Constant (whole (pos 0)) ∷ [])) }
+{
+    let mut made = Vec::with_capacity(alloc, 1)?;
+    made.push(Instruction::Constant(Rational::zero()))?;
+    Ok(made)
+}
+
+// The same, token by token.
+fn parse_tokens(alloc: Global, names: &Names, text: &[u8]) -> Result<Vec<Instruction>, TextFault>
     ensures reads { Reads (λ p. p.items) result (parse_of names.now text.now) }
     ensures of { IfOk result (λ p. All (IsOf (length names.now)) p.items) }
 {
