@@ -159,14 +159,42 @@ fn found_reply(
     requires right { IsCorrectFound problem.signature (plain problem.matrix) search.plan found }
     ensures { IfOk result (λ r. reply_of r ≡ record { status = Status.Done; text = found_text (system_of problem) search.brief found }) }
 {
-    let text = match found {
-        Found::Certified(certificate) => shown_text(alloc, &problem, &certificate, search.brief)?,
-        Found::Transposed(matrix) => text_with(alloc, problem, matrix)?,
-    };
+    let text = found_text(alloc, search, problem, found)?;
     Ok(Reply {
         status: Status::Done,
         text,
     })
+}
+
+// The text of what is found.
+fn found_text(
+    alloc: Global,
+    search: Search,
+    problem: Problem,
+    found: Found,
+) -> Result<Vec<u8>, NoMemory>
+    requires problem { IsProblem problem }
+    requires right { IsCorrectFound problem.signature (plain problem.matrix) search.plan found }
+    ensures { IfOk result (λ text. text.items ≡ found_text (system_of problem) search.brief found) }
+{
+    match found {
+        Found::Certified(certificate) => certified_text(alloc, problem, certificate, search.brief),
+        Found::Transposed(matrix) => text_with(alloc, problem, matrix),
+    }
+}
+
+// The text of a certificate that is found.
+fn certified_text(
+    alloc: Global,
+    problem: Problem,
+    certificate: Certificate,
+    brief: bool,
+) -> Result<Vec<u8>, NoMemory>
+    requires problem { IsProblem problem }
+    requires of { IsCertificateOf problem.signature certificate }
+    ensures { IfOk result (λ text. text.items ≡ shown_text (system_of problem) brief certificate) }
+{
+    shown_text(alloc, &problem, &certificate, brief)
 }
 
 // The text of the problem with another matrix.
@@ -200,9 +228,25 @@ fn halted_reply(
         return Err(NoMemory);
     }
     let report = chooser.into_report(search.plan, halt);
+    report_reply(alloc, problem, report)
+}
+
+// The reply with the text of a report.
+fn report_reply(alloc: Global, problem: &Problem, report: Report) -> Result<Reply, NoMemory>
+    requires { IsProblem problem.now }
+    ensures { IfOk result (λ r. reply_of r ≡ record { status = halt_status report.cause; text = text_of (system_of problem.now) (Certificate.Halted report) }) }
+{
     let status = status_of(&report);
-    let text = certificate_text(alloc, problem, &Certificate::Halted { report })?;
+    let text = report_text(alloc, problem, report)?;
     Ok(Reply { status, text })
+}
+
+// The text of a report.
+fn report_text(alloc: Global, problem: &Problem, report: Report) -> Result<Vec<u8>, NoMemory>
+    requires { IsProblem problem.now }
+    ensures { IfOk result (λ text. text.items ≡ text_of (system_of problem.now) (Certificate.Halted report)) }
+{
+    certificate_text(alloc, problem, &Certificate::Halted { report })
 }
 
 // Whether a halt has a report: an operation stopped, or the budget is spent.
