@@ -1,3 +1,4 @@
 pub mod Dividing
 pub mod Dickson
 pub mod LeadsEnd
+pub mod Masks
