@@ -43,7 +43,7 @@ use Rattle.ore_blocks.specs.declared.place.Name.TheVariants.{To, Inside, Rest}
 use Rattle.ore_blocks.specs.declared.place.Place.TheVariants as place
 use Rattle.ore_blocks.specs.declared.reason.Reason.TheVariants as reason
 use Rattle.ore_blocks.specs.Conditions.{is_none}
-use Rattle.ore_blocks.specs.CheckBlock.{RowMatrix, plain, dealt_pairs, are_zero, rows_inside, check_basis, check_to, check_pairs, check_inside, check_exact, quotient_steps, check_rest, check_outside}
+use Rattle.ore_blocks.specs.CheckBlock.{RowMatrix, row_matrix_of, dealt_pairs, are_zero, rows_inside, check_basis, check_to, check_pairs, check_inside, check_exact, quotient_steps, check_rest, check_outside}
 use Rattle.ore_blocks.specs.PlaceConditions.{same_row, is_reduced, less_step, quotient_step}
 use Rattle.ore_blocks.specs.Same.{row_discrete}
 use Rattle.ore_blocks.specs.Valid.{IsValidExactFor, IsValidOutsideFor}
@@ -93,7 +93,7 @@ module _ (s : Signature) where
         × (((k : ℕ) → k < length (rows_of b.from) → row_minus rationals (unit_row rationals q (0 + k)) (combine rationals s q (row_at (rows_of b.from) k) (rows_of b.to)) ≡ combine rationals s q (row_at (rows_of b.inside) k) m.rows)
         × AreInside rationals s q leads (rows_of b.to) m.rows (dealt_pairs b.pairs) (drop q (rows_of b.inside)))
 
-    inside_iff : (leads : List Term) → length (rows_of b.from) ≡ q → AreLong rationals q (rows_of b.to) → (check_inside unlimited s a m leads at (plain b.from) (plain b.to) b.pairs (plain b.inside) ≡ Ok tt) ↔ AreInsideRight leads
+    inside_iff : (leads : List Term) → length (rows_of b.from) ≡ q → AreLong rationals q (rows_of b.to) → (check_inside unlimited s a m leads at (row_matrix_of b.from) (row_matrix_of b.to) b.pairs (row_matrix_of b.inside) ≡ Ok tt) ↔ AreInsideRight leads
     unfolding check_inside
     inside_iff leads from to_long =
         required_iff (place.Header at Inside) reason.Shape (nat_eq (length (rows_of b.inside)) inside_count && nat_eq b.inside.cols (length m.rows)) _ tt
@@ -109,7 +109,7 @@ module _ (s : Signature) where
         × ((AreLawful rationals s s.order a.cols (rows_of b.basis) leads [] (dealt_pairs b.pairs) × (length (dealt_pairs b.pairs) ≡ pair_count leads)) × AreInsideRight leads)
 
     abbrev IsExactRight : Type 0
-    IsExactRight = AllByRecursion (λ r. combine rationals s a.cols r a.rows ≡ zero_row rationals a.cols) m.rows × ((leads : List Term) × IsRight s a (plain b.basis) (plain b.from) leads × IsBehind leads)
+    IsExactRight = AllByRecursion (λ r. combine rationals s a.cols r a.rows ≡ zero_row rationals a.cols) m.rows × ((leads : List Term) × IsRight s a (row_matrix_of b.basis) (row_matrix_of b.from) leads × IsBehind leads)
 
     to_long : b.to.cols ≡ q → AreLong rationals q (rows_of b.to)
     to_long e = subst (λ n. AreLong rationals n (rows_of b.to)) e (wide_rows s b.to of.to)
@@ -123,7 +123,7 @@ module _ (s : Signature) where
       valid = record {
         leads = leads;
         annihilates = zeros;
-        is_basis = basis_from s a (plain b.basis) (plain b.from) leads (dealt_pairs b.pairs) (wide_rows s b.basis of.basis) (wide_rows s b.from of.from) basis pairs.0 pairs.1;
+        is_basis = basis_from s a (row_matrix_of b.basis) (row_matrix_of b.from) leads (dealt_pairs b.pairs) (wide_rows s b.basis of.basis) (wide_rows s b.from of.from) basis pairs.0 pairs.1;
         to_shape = (to.0.0, to_long to.0.1);
         to_is = to.1;
         inside_shape = (inside.0.0, subst (λ n. AreLong rationals n (rows_of b.inside)) inside.0.1 (wide_rows s b.inside of.inside));
@@ -139,7 +139,7 @@ module _ (s : Signature) where
       v.annihilates,
       (
         v.leads,
-        right_from s a (plain b.basis) (plain b.from) v.leads (dealt_pairs b.pairs) h.basis_columns (h.from_columns ∙ sym (rows_count b.basis)) v.is_basis,
+        right_from s a (row_matrix_of b.basis) (row_matrix_of b.from) v.leads (dealt_pairs b.pairs) h.basis_columns (h.from_columns ∙ sym (rows_count b.basis)) v.is_basis,
         (
           ((v.to_shape.0, h.to_columns), v.to_is),
           (
@@ -162,9 +162,9 @@ module _ (s : Signature) where
     exact_iff = map_iff
         (formed_iff (place.Block at) (matrix_times_within unlimited s a.cols m.rows a.rows) _ (matrix_times rationals s a.cols m.rows a.rows) tt (product_unlimited s a.cols m.rows a.rows long)
         (required_iff (place.Block at) reason.NotInKernel (are_zero unlimited s (matrix_times rationals s a.cols m.rows a.rows)) _ tt (zeros_iff a.cols a.rows long m.rows) (λ zeros.
-        exists_iff (IsRight s a (plain b.basis) (plain b.from)) IsBehind (check_basis unlimited s a at (plain b.basis) (plain b.from)) _ tt
-        (λ leads. basis_iff s a (plain b.basis) (plain b.from) at leads (wide_rows s b.basis of.basis)) (λ leads basis.
-        goes_iff (check_to unlimited s a at (plain b.basis) (plain b.to)) _ tt (to_iff at a (plain b.basis) (plain b.to) long) (λ to.
+        exists_iff (IsRight s a (row_matrix_of b.basis) (row_matrix_of b.from)) IsBehind (check_basis unlimited s a at (row_matrix_of b.basis) (row_matrix_of b.from)) _ tt
+        (λ leads. basis_iff s a (row_matrix_of b.basis) (row_matrix_of b.from) at leads (wide_rows s b.basis of.basis)) (λ leads basis.
+        goes_iff (check_to unlimited s a at (row_matrix_of b.basis) (row_matrix_of b.to)) _ tt (to_iff at a (row_matrix_of b.basis) (row_matrix_of b.to) long) (λ to.
         goes_iff (check_pairs unlimited s (rows_of b.basis) leads at b.pairs) _ tt
         (pairs_iff s (rows_of b.basis) leads a.cols (subst (λ n. AreLong rationals n (rows_of b.basis)) basis.columns (wide_rows s b.basis of.basis)) basis.monic.long at b.pairs) (λ pairs.
         inside_iff leads basis.from_rows (to_long to.0.1)))))))
@@ -233,14 +233,14 @@ module _ (s : Signature) where
     IsBehindLeads leads = (AreLawful rationals s s.order a.cols (rows_of b.basis) leads [] (dealt_pairs b.pairs) × (length (dealt_pairs b.pairs) ≡ pair_count leads))
         × (AllByRecursion (λ (t : Step rationals). t.index < length (rows_of b.basis)) b.quotients × ((length b.rest ≡ a.cols) × ((remainder_after rationals s (rows_of b.basis) b.quotients w ≡ sums_of b.rest) × IsReduced leads (sums_of b.rest))))
 
-    outside_from : (leads : List Term) × IsRight s a (plain b.basis) (plain b.from) leads × IsBehindLeads leads → IsValidOutsideFor s a w b
+    outside_from : (leads : List Term) × IsRight s a (row_matrix_of b.basis) (row_matrix_of b.from) leads × IsBehindLeads leads → IsValidOutsideFor s a w b
     outside_from (leads, basis, (pairs, (within, (rest, (left, reduced))))) = record {
       basis_columns = basis.columns;
       from_columns = basis.from_columns ∙ rows_count b.basis;
       rest_columns = rest;
       valid = record {
         leads = leads;
-        is_basis = basis_from s a (plain b.basis) (plain b.from) leads (dealt_pairs b.pairs) (wide_rows s b.basis of.basis) (wide_rows s b.from of.from) basis pairs.0 pairs.1;
+        is_basis = basis_from s a (row_matrix_of b.basis) (row_matrix_of b.from) leads (dealt_pairs b.pairs) (wide_rows s b.basis of.basis) (wide_rows s b.from of.from) basis pairs.0 pairs.1;
         steps_within = All-weaker (λ t. t.index < length (rows_of b.basis)) (λ t. t.index < length leads) (λ t k. subst (λ n. t.index < n) (sym basis.monic.long) k) b.quotients within;
         rest_is = left;
         rest_lead = reduced.lead;
@@ -250,10 +250,10 @@ module _ (s : Signature) where
       };
     }
 
-    outside_right : IsValidOutsideFor s a w b → (leads : List Term) × IsRight s a (plain b.basis) (plain b.from) leads × IsBehindLeads leads
+    outside_right : IsValidOutsideFor s a w b → (leads : List Term) × IsRight s a (row_matrix_of b.basis) (row_matrix_of b.from) leads × IsBehindLeads leads
     outside_right h = let v = h.valid in (
       v.leads,
-      right_from s a (plain b.basis) (plain b.from) v.leads (dealt_pairs b.pairs) h.basis_columns (h.from_columns ∙ sym (rows_count b.basis)) v.is_basis,
+      right_from s a (row_matrix_of b.basis) (row_matrix_of b.from) v.leads (dealt_pairs b.pairs) h.basis_columns (h.from_columns ∙ sym (rows_count b.basis)) v.is_basis,
       (
         (v.is_basis.lawful, v.is_basis.counted),
         (
@@ -266,8 +266,8 @@ module _ (s : Signature) where
     pub outside_iff : (check_outside unlimited s a w b ≡ Ok tt) ↔ IsValidOutsideFor s a w b
     unfolding check_outside
     outside_iff = map_iff
-        (exists_iff (IsRight s a (plain b.basis) (plain b.from)) IsBehindLeads (check_basis unlimited s a Body (plain b.basis) (plain b.from)) _ tt
-        (λ leads. basis_iff s a (plain b.basis) (plain b.from) Body leads (wide_rows s b.basis of.basis)) (λ leads basis.
+        (exists_iff (IsRight s a (row_matrix_of b.basis) (row_matrix_of b.from)) IsBehindLeads (check_basis unlimited s a Body (row_matrix_of b.basis) (row_matrix_of b.from)) _ tt
+        (λ leads. basis_iff s a (row_matrix_of b.basis) (row_matrix_of b.from) Body leads (wide_rows s b.basis of.basis)) (λ leads basis.
         goes_iff (check_pairs unlimited s (rows_of b.basis) leads Body b.pairs) _ tt
         (pairs_iff s (rows_of b.basis) leads a.cols (subst (λ n. AreLong rationals n (rows_of b.basis)) basis.columns (wide_rows s b.basis of.basis)) basis.monic.long Body b.pairs) (λ pairs.
         gives_iff (quotient_steps unlimited s (rows_of b.basis) 0 w b.quotients) _ (remainder_after rationals s (rows_of b.basis) b.quotients w) tt (quotients_iff (rows_of b.basis) 0 w b.quotients) (λ within.

@@ -37,7 +37,7 @@ use Rattle.ore_blocks.specs.declared.place.Place.TheVariants as place
 use Rattle.ore_blocks.specs.declared.reason.Reason.{Reason}
 use Rattle.ore_blocks.specs.declared.reason.Reason.TheVariants as reason
 use Rattle.ore_blocks.specs.Conditions.{is_none, required}
-use Rattle.ore_blocks.specs.CheckBlock.{RowMatrix, plain, pair_of, monic_leads, are_zero, rows_give, check_steps, check_entry, check_entries, check_pairs, rows_inside, pairs_inside, quotient_steps, check_basis, check_to, check_inside, check_rest, check_exact, check_outside}
+use Rattle.ore_blocks.specs.CheckBlock.{RowMatrix, row_matrix_of, pair_of, monic_leads, are_zero, rows_give, check_steps, check_entry, check_entries, check_pairs, rows_inside, pairs_inside, quotient_steps, check_basis, check_to, check_inside, check_rest, check_exact, check_outside}
 use Rattle.ore_blocks.specs.PlaceConditions.{is_reduced, less_step, less_steps, shifted, row_gives, check_step, quotient_step, row_inside, pair_inside}
 use Rattle.ore_blocks.specs.WithinLimits.{IsCheckedAtMost}
 use Rattle.ore_blocks.proofs.CheckedAtMost.{most_same, most_checked, most_then, most_behind}
@@ -190,10 +190,10 @@ module _ (l : Limits) (s : Signature) where
   check_exact_most at a m b =
       most_then _ _ _ _ (most_checked (place.Block at) _ _ (product_at_most l s a.cols m.rows a.rows)) (λ product.
       most_then _ _ _ _ (zeros_most at product) (λ u.
-      most_then _ _ _ _ (check_basis_most a at (plain b.basis) (plain b.from)) (λ leads.
-      most_then _ _ _ _ (check_to_most a at (plain b.basis) (plain b.to)) (λ u.
+      most_then _ _ _ _ (check_basis_most a at (row_matrix_of b.basis) (row_matrix_of b.from)) (λ leads.
+      most_then _ _ _ _ (check_to_most a at (row_matrix_of b.basis) (row_matrix_of b.to)) (λ u.
       most_then _ _ _ _ (check_pairs_most (rows_of b.basis) leads at b.pairs) (λ u.
-      check_inside_most a m leads at (plain b.from) (plain b.to) b.pairs (plain b.inside))))))
+      check_inside_most a m leads at (row_matrix_of b.from) (row_matrix_of b.to) b.pairs (row_matrix_of b.inside))))))
     where
       zeros_most : (at : Section) (product : List (Row rationals)) → IsCheckedAtMost (required (place.Block at) reason.NotInKernel (are_zero l s product)) (required (place.Block at) reason.NotInKernel (are_zero unlimited s product))
       zeros_most at product = inl (ap (required (place.Block at) reason.NotInKernel) (zeros_same product))
@@ -201,7 +201,7 @@ module _ (l : Limits) (s : Signature) where
   pub check_outside_most : (a : RowMatrix) (w : Row rationals) (b : OutsideBlock) → IsCheckedAtMost (check_outside l s a w b) (check_outside unlimited s a w b)
   unfolding check_outside
   check_outside_most a w b =
-      most_then _ _ _ _ (check_basis_most a Body (plain b.basis) (plain b.from)) (λ leads.
+      most_then _ _ _ _ (check_basis_most a Body (row_matrix_of b.basis) (row_matrix_of b.from)) (λ leads.
       most_then _ _ _ _ (check_pairs_most (rows_of b.basis) leads Body b.pairs) (λ u.
       most_then _ _ _ _ (quotient_steps_most (rows_of b.basis) 0 w b.quotients) (λ left.
       check_rest_most leads a.cols left b.rest)))

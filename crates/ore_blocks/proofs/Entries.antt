@@ -5,7 +5,7 @@
 --     entries_next, entries_end        a pair and those behind it
 --     steps_inside, fitted             steps that are right name basis rows; a common multiple that may be formed
 --                                      has its degree
---     entry_treatable, entries_treatable       the pairs that are right can be treated
+--     entry_fits, entries_fit                  the pairs that are right can be treated
 use Rattle.std.proofs.Common.{◌≡◌, ℕ, suc, ◌+◌, ◌<◌, ◌≤◌, Bool, true, false, cond, ◌&&◌, ◌||◌, nat_eq, nat_lt, List, [], ◌∷◌, drop, length, refl, sym, ap, ◌∙◌, Some, arith}
 use Rattle.std.specs.Prelude.{nat_le}
 use Rattle.std.specs.List.{All, slice_get}
@@ -34,7 +34,7 @@ use Rattle.ore_blocks.specs.declared.reason.Reason.TheVariants as reason
 use Rattle.ore_blocks.specs.Conditions.{formed, required}
 use Rattle.ore_algebra.specs.Results.{◌>>=◌}
 use Rattle.ore_blocks.specs.CheckBlock.{check_entries, check_entry, check_steps, dealt_pairs, pair_of, rows_taken}
-use Rattle.ore_blocks.specs.InnerContracts.{IsTreatable}
+use Rattle.ore_blocks.specs.InnerContracts.{FitsLeads}
 use Rattle.ore_blocks.specs.PlaceConditions.{check_step}
 use Rattle.ore_blocks.proofs.Passed.{formed_then, nat_lt_true, required_then, required_true}
 use Rattle.ore_algebra.proofs.ResultLaws.{bound}
@@ -103,19 +103,19 @@ module _ (s : Signature) (basis : List (Row rationals)) (leads : List Term) wher
       by true e = grind (arith, e)
       by false e = let apart : ◌≡◌ {A = Result (Unit {0}) Cause} (Err Degree) (Ok u) = sym (ap (λ b. cond b (Ok tt) (Err Degree)) e) ∙ h in absurd cc
 
-  pub entry_treatable : (at : Section) (k : ℕ) (before : List (ℕ × ℕ)) (e : PairEntry) → check_entry program s basis leads at k before e ≡ Ok tt → IsTreatable leads e
+  pub entry_fits : (at : Section) (k : ℕ) (before : List (ℕ × ℕ)) (e : PairEntry) → check_entry program s basis leads at k before e ≡ Ok tt → FitsLeads leads e
   unfolding check_entry
-  entry_treatable at k before (Pair i j steps) h =
+  entry_fits at k before (Pair i j steps) h =
       let first = required_then (place.Pair at k 0) reason.Pair (may_treat leads before i j) _ tt h in
       let second = formed_then (place.Pair at k 0) (common_fits rationals (within program s) (lcm_of_leads leads i j)) _ tt first.1 in
       let third = formed_then (place.Pair at k 0) (s_row_within rationals (within program s) leads basis i j) _ tt second.2 in
       let new = treat_from leads before i j first.0 in
       (new.ordered, new.within, fitted (lcm_of_leads leads i j) second.0 second.1, steps_inside (lcm_of_leads leads i j) at k 0 third.0 steps third.2)
-  entry_treatable at k before (Skip i j via) h = (treat_from leads before i j (and_parts (may_treat leads before i j) (may_skip leads before i j via) (required_true (place.Pair at k 0) reason.Skip _ tt h)).0).ordered
+  entry_fits at k before (Skip i j via) h = (treat_from leads before i j (and_parts (may_treat leads before i j) (may_skip leads before i j via) (required_true (place.Pair at k 0) reason.Skip _ tt h)).0).ordered
 
-  pub entries_treatable : (at : Section) (k : ℕ) (before : List (ℕ × ℕ)) (es : List PairEntry) → check_entries program s basis leads at k before es ≡ Ok tt → All (IsTreatable leads) es
+  pub entries_fit : (at : Section) (k : ℕ) (before : List (ℕ × ℕ)) (es : List PairEntry) → check_entries program s basis leads at k before es ≡ Ok tt → All (FitsLeads leads) es
   unfolding check_entries
-  entries_treatable at k before [] h = All-nil (IsTreatable leads)
-  entries_treatable at k before (e ∷ es) h =
+  entries_fit at k before [] h = All-nil (FitsLeads leads)
+  entries_fit at k before (e ∷ es) h =
       let first = bound (check_entry program s basis leads at k before e) _ tt h in
-      All-cons (IsTreatable leads) e es (entry_treatable at k before e first.1) (entries_treatable at (suc k) (pair_of e ∷ before) es first.2)
+      All-cons (FitsLeads leads) e es (entry_fits at k before e first.1) (entries_fit at (suc k) (pair_of e ∷ before) es first.2)

@@ -18,7 +18,7 @@ use Rattle.ore_rows.specs.Rows.{Row, transpose_adjoint}
 use Rattle.ore_rows.specs.Stored.{OperatorMatrix, rows_of}
 use Rattle.ore_adjoint.specs.AdjointMatrix.{transpose_adjoint_within}
 use Rattle.ore_adjoint.proofs.AdjointValues.{matrix_unlimited, matrix_at_most}
-use Rattle.ore_blocks.specs.CheckBlock.{RowMatrix, plain}
+use Rattle.ore_blocks.specs.CheckBlock.{RowMatrix, row_matrix_of}
 use Rattle.ore_blocks.specs.KernelCourse.{transposed_adjoint_within}
 use Rattle.ore_blocks.proofs.Converted.{rows_count}
 
@@ -39,9 +39,9 @@ module _ (s : Signature) (m : RowMatrix) where
   adjoint_stop e = fails_like e _ _ adjoint_cause
 
 pub adjoint_gives : (s : Signature) (m : OperatorMatrix) (result : Result OperatorMatrix RingStop) → IfOk result (λ t. t.cols ≡ length m.rows)
-    → Gives rows_of result (transpose_adjoint_within program s m.cols (rows_of m)) → Gives plain result (transposed_adjoint_within program s (plain m))
-adjoint_gives s m (Ok t) cols gives = adjoint_value s (plain m) (rows_of t) gives ∙ ap (λ n. Ok (record { cols = n; rows = rows_of t })) (rows_count m ∙ sym cols)
-adjoint_gives s m (Err e) cols fails = adjoint_stop s (plain m) e fails
+    → Gives rows_of result (transpose_adjoint_within program s m.cols (rows_of m)) → Gives row_matrix_of result (transposed_adjoint_within program s (row_matrix_of m))
+adjoint_gives s m (Ok t) cols gives = adjoint_value s (row_matrix_of m) (rows_of t) gives ∙ ap (λ n. Ok (record { cols = n; rows = rows_of t })) (rows_count m ∙ sym cols)
+adjoint_gives s m (Err e) cols fails = adjoint_stop s (row_matrix_of m) e fails
 
 pub adjoint_unlimited : (s : Signature) (m : RowMatrix) → transposed_adjoint_within unlimited s m ≡ Ok (record { cols = length m.rows; rows = transpose_adjoint rationals s m.cols m.rows })
 unfolding transposed_adjoint_within

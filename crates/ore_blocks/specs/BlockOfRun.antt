@@ -12,7 +12,7 @@ use Rattle.ore_ring.specs.Ordered.{Ordered}
 use Rattle.ore_rows.specs.Rows.{Row}
 use Rattle.ore_rows.specs.Reduction.{Step}
 use Rattle.ore_rows.specs.Stored.{OperatorMatrix}
-use Rattle.ore_pairs.specs.Blocks as plain
+use Rattle.ore_pairs.specs.Blocks as blocks
 use Rattle.ore_pairs.specs.PairList.{DealtPair}
 use Rattle.ore_pairs.specs.PairList as listed
 use Rattle.ore_pairs.specs.Run.{RunState}
@@ -37,11 +37,11 @@ stored_entry (listed.Pair i j steps) = Pair i j steps
 stored_entry (listed.Skip i j via) = Skip i j via
 
 -- for a matrix of n columns and q rows, and another of m rows
-abbrev pub stored_exact : Order → ℕ → ℕ → ℕ → plain.ExactBlock rationals → ExactBlock
+abbrev pub stored_exact : Order → ℕ → ℕ → ℕ → blocks.ExactBlock rationals → ExactBlock
 stored_exact o n q m b = record { basis = stored_matrix o n b.basis; from = stored_matrix o (length b.basis) b.from; to = stored_matrix o q b.to; pairs = map stored_entry b.entries; inside = stored_matrix o m b.inside }
 
 -- for a matrix of n columns
-abbrev pub stored_outside : Order → ℕ → plain.OutsideBlock rationals → OutsideBlock
+abbrev pub stored_outside : Order → ℕ → blocks.OutsideBlock rationals → OutsideBlock
 stored_outside o n b = record { basis = stored_matrix o n b.basis; from = stored_matrix o (length b.basis) b.from; pairs = map stored_entry b.entries; quotients = b.steps; rest = ordered_row o b.rest }
 
 module _ (s : Signature) (a : RowMatrix) (st : RunState rationals) where

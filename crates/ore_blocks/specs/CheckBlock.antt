@@ -1,5 +1,5 @@
 -- The conditions of a block, place by place: lists of the conditions of `PlaceConditions.antt`, and the blocks.
---     RowMatrix, plain               a matrix as its columns and rows
+--     RowMatrix, row_matrix_of       a matrix as its columns and rows
 --     rows_taken                 how many inside rows an entry takes
 --     pair_of                    the pair of an entry
 --     entry_of, dealt_pairs      an entry, and a list of them, as the laws on lists of pairs have them
@@ -52,9 +52,9 @@ pub record RowMatrix : Type 0 where
   pub cols : ℕ
   pub rows : List (Row rationals)
 
--- a stored matrix as a plain one
-abbrev pub plain : OperatorMatrix → RowMatrix
-plain m = record { cols = m.cols; rows = rows_of m }
+-- a stored matrix without these orders
+abbrev pub row_matrix_of : OperatorMatrix → RowMatrix
+row_matrix_of m = record { cols = m.cols; rows = rows_of m }
 
 -- ---- entries of a list of pairs
 
@@ -188,15 +188,15 @@ module _ (l : Limits) (s : Signature) where
   check_exact at a m b = do
     product ← formed (place.Block at) (matrix_times_within l s a.cols m.rows a.rows)
     _ ← required (place.Block at) reason.NotInKernel (are_zero product)
-    leads ← check_basis a at (plain b.basis) (plain b.from)
-    _ ← check_to a at (plain b.basis) (plain b.to)
+    leads ← check_basis a at (row_matrix_of b.basis) (row_matrix_of b.from)
+    _ ← check_to a at (row_matrix_of b.basis) (row_matrix_of b.to)
     _ ← check_pairs (rows_of b.basis) leads at b.pairs
-    check_inside a m leads at (plain b.from) (plain b.to) b.pairs (plain b.inside)
+    check_inside a m leads at (row_matrix_of b.from) (row_matrix_of b.to) b.pairs (row_matrix_of b.inside)
 
   -- an outside block: w is not in the row module of a
   unfoldable pub check_outside : RowMatrix → Row rationals → OutsideBlock → Checked (Unit {0})
   check_outside a w b = do
-    leads ← check_basis a Body (plain b.basis) (plain b.from)
+    leads ← check_basis a Body (row_matrix_of b.basis) (row_matrix_of b.from)
     _ ← check_pairs (rows_of b.basis) leads Body b.pairs
     left ← quotient_steps (rows_of b.basis) 0 w b.quotients
     check_rest leads a.cols left b.rest

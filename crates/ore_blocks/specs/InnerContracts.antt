@@ -1,7 +1,7 @@
 -- What the contracts of inner functions speak of, beside the conditions.
 --     lead_of                a lead, where one was found, as a term
 --     remainder_of           what is left of a row, which stands for itself before the first step
---     IsTreatable            the rows of a treated pair and of its steps are there, and its common multiple fits
+--     FitsLeads              the rows of a treated pair and of its steps are there, and its common multiple fits
 --     count_at               how many leads a map counts in a column
 use Rattle.std.specs.Prelude.{ℕ, ◌<◌, ◌≤◌, List, length}
 use Rattle.std.specs.BTreeMap.{BTreeMap, get}
@@ -28,9 +28,9 @@ remainder_of None w = w
 remainder_of (Some r) w = r
 
 -- a pair of basis rows with these leads, whose common multiple may be formed, and whose steps name basis rows
-abbrev pub IsTreatable : List Term → PairEntry → Type 0
-IsTreatable leads (Pair i j steps) = (i < j) × (j < length leads) × (degree (lcm_of_leads leads i j).monomial ≤ 32767) × All (λ t. t.index < length leads) steps
-IsTreatable leads (Skip i j via) = i < j
+abbrev pub FitsLeads : List Term → PairEntry → Type 0
+FitsLeads leads (Pair i j steps) = (i < j) × (j < length leads) × (degree (lcm_of_leads leads i j).monomial ≤ 32767) × All (λ t. t.index < length leads) steps
+FitsLeads leads (Skip i j via) = i < j
 
 -- how many leads a map counts in a column
 abbrev pub count_at : BTreeMap ℕ ℕ → ℕ → ℕ

@@ -6,7 +6,7 @@ ghost use Rattle.ore_algebra.specs.Limits.{program};
 ghost use Rattle.ore_ring.specs.Belongs.{AllBelong};
 ghost use Rattle.ore_rows.specs.Stored.{sums_of};
 ghost use Rattle.ore_parts.specs.OfSignature.{IsExactOf, IsOutsideOf};
-ghost use Rattle.ore_blocks.specs.CheckBlock.{check_exact, check_outside, check_rest, plain};
+ghost use Rattle.ore_blocks.specs.CheckBlock.{check_exact, check_outside, check_rest, row_matrix_of};
 ghost use Rattle.ore_blocks.specs.Judging.{Judges};
 
 use crate::equal::are_same;
@@ -43,7 +43,7 @@ pub fn exact_block<R: OreRing>(
     requires a_of { All (AllBelong (R.sig ring.now)) a.now.rows }
     requires m_of { All (AllBelong (R.sig ring.now)) m.now.rows }
     requires block_of { IsExactOf (R.sig ring.now) block.now }
-    ensures { Judges (λ u. u) result (check_exact program (R.sig ring.now) section (plain a.now) (plain m.now) block.now) }
+    ensures { Judges (λ u. u) result (check_exact program (R.sig ring.now) section (row_matrix_of a.now) (row_matrix_of m.now) block.now) }
 {
     let place = Place::Block(section);
     let product = multiplied(ring, alloc, place, m, a)?;
@@ -75,7 +75,7 @@ pub fn outside_block<R: OreRing>(
     requires a_of { All (AllBelong (R.sig ring.now)) a.now.rows }
     requires w_of { AllBelong (R.sig ring.now) w.now }
     requires block_of { IsOutsideOf (R.sig ring.now) block.now }
-    ensures { Judges (λ u. u) result (check_outside program (R.sig ring.now) (plain a.now) (sums_of w.now) block.now) }
+    ensures { Judges (λ u. u) result (check_outside program (R.sig ring.now) (row_matrix_of a.now) (sums_of w.now) block.now) }
 {
     let basis = &block.basis;
     let leads = check_basis(ring, alloc, a, Section::Body, basis, &block.from)?;

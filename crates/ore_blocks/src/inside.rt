@@ -9,8 +9,8 @@ ghost use Rattle.ore_ring.specs.Belongs.{AllBelong};
 ghost use Rattle.ore_rows.specs.Stored.{rows_of, sums_of};
 ghost use Rattle.ore_pairs.specs.Steps.{lcm_of_leads};
 ghost use Rattle.ore_parts.specs.OfSignature.{AreStoredStepsOf, IsEntryOf};
-ghost use Rattle.ore_blocks.specs.CheckBlock.{check_inside, rows_inside, pairs_inside, plain};
-ghost use Rattle.ore_blocks.specs.InnerContracts.{IsTreatable};
+ghost use Rattle.ore_blocks.specs.CheckBlock.{check_inside, rows_inside, pairs_inside, row_matrix_of};
+ghost use Rattle.ore_blocks.specs.InnerContracts.{FitsLeads};
 ghost use Rattle.ore_blocks.specs.Judging.{Judges};
 ghost use Rattle.ore_blocks.specs.PlaceConditions.{row_inside, pair_inside};
 
@@ -46,14 +46,14 @@ pub fn check_inside<R: OreRing>(
     requires from_cols { block.now.from.cols ≡ length block.now.to.rows }
     requires to_rows { length block.now.to.rows ≡ length leads.now }
     requires to_cols { block.now.to.cols ≡ length a.now.rows }
-    requires treatable { All (IsTreatable leads.now) block.now.pairs }
+    requires fits_leads { All (FitsLeads leads.now) block.now.pairs }
     requires m_of { All (AllBelong (R.sig ring.now)) m.now.rows }
     requires leads_of { All (λ t. MonomialOf (R.sig ring.now) t.monomial) leads.now }
     requires from_of { All (AllBelong (R.sig ring.now)) block.now.from.rows }
     requires to_of { All (AllBelong (R.sig ring.now)) block.now.to.rows }
     requires pairs_of { All (IsEntryOf (R.sig ring.now)) block.now.pairs }
     requires inside_of { All (AllBelong (R.sig ring.now)) block.now.inside.rows }
-    ensures { Judges (λ u. u) result (check_inside program (R.sig ring.now) (plain a.now) (plain m.now) leads.now section (plain block.now.from) (plain block.now.to) block.now.pairs (plain block.now.inside)) }
+    ensures { Judges (λ u. u) result (check_inside program (R.sig ring.now) (row_matrix_of a.now) (row_matrix_of m.now) leads.now section (row_matrix_of block.now.from) (row_matrix_of block.now.to) block.now.pairs (row_matrix_of block.now.inside)) }
 {
     let inside = &block.inside;
     let rows = a.rows() as u128 + treated_count(&block.pairs) as u128;
@@ -154,7 +154,7 @@ fn pairs_inside<R: OreRing>(
     requires m_cols { m.now.cols ≡ to.now.cols }
     requires to_rows { length to.now.rows ≡ length leads.now }
     requires inside_cols { inside.now.cols ≡ length m.now.rows }
-    requires treatable { All (IsTreatable leads.now) pairs.now }
+    requires fits_leads { All (FitsLeads leads.now) pairs.now }
     requires leads_of { All (λ t. MonomialOf (R.sig ring.now) t.monomial) leads.now }
     requires to_of { All (AllBelong (R.sig ring.now)) to.now.rows }
     requires m_of { All (AllBelong (R.sig ring.now)) m.now.rows }
@@ -190,7 +190,7 @@ fn pair_inside<R: OreRing>(
     requires m_cols { m.now.cols ≡ to.now.cols }
     requires to_rows { length to.now.rows ≡ length leads.now }
     requires inside_width { length inside.now ≡ length m.now.rows }
-    requires treatable { IsTreatable leads.now entry.now }
+    requires fits_leads { FitsLeads leads.now entry.now }
     requires leads_of { All (λ t. MonomialOf (R.sig ring.now) t.monomial) leads.now }
     requires to_of { All (AllBelong (R.sig ring.now)) to.now.rows }
     requires m_of { All (AllBelong (R.sig ring.now)) m.now.rows }

@@ -16,7 +16,7 @@ ghost use Rattle.ore_parts.specs.OfSignature.{IsEntryOf};
 ghost use Rattle.ore_blocks.specs.CheckBlock.{check_entry, check_pairs, dealt_pairs, pair_of, rows_taken};
 ghost use Rattle.ore_blocks.specs.Conditions.{formed, required};
 ghost use Rattle.ore_blocks.specs.Judging.{Judges};
-ghost use Rattle.ore_blocks.specs.InnerContracts.{IsTreatable};
+ghost use Rattle.ore_blocks.specs.InnerContracts.{FitsLeads};
 
 use crate::count::pair_count;
 use crate::formed::s_row_at;
@@ -53,7 +53,7 @@ pub fn check_pairs<R: OreRing>(
     requires basis_of { All (AllBelong (R.sig ring.now)) basis.now.rows }
     requires pairs_of { All (IsEntryOf (R.sig ring.now)) pairs.now }
     ensures judges { Judges (λ u. u) result (check_pairs program (R.sig ring.now) (rows_of basis.now) leads.now section pairs.now) }
-    ensures treatable { IfOk result (λ _. All (IsTreatable leads.now) pairs.now) }
+    ensures fits_leads { IfOk result (λ _. All (FitsLeads leads.now) pairs.now) }
 {
     check_count(alloc, leads, section, pairs)?;
     let mut listed = Listed::new(alloc);
@@ -80,7 +80,7 @@ fn check_count(alloc: Global, leads: &Leads, section: Section, pairs: &Pairs) ->
 // One more pair is listed.
 #[tactic(auto, unfolding(crate::specs::CheckBlock::pair_of))]
 fn list_pair(leads: &Leads, listed: &mut Listed, entry: &PairEntry) -> Result<(), NoMemory>
-    requires { IsTreatable leads.now entry.now }
+    requires { FitsLeads leads.now entry.now }
     ensures { IfOk result (λ _. HaveSamePairs listed.new (pair_of entry.now ∷ listed.old)) }
 {
     let _leads = leads;

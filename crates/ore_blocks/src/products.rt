@@ -6,7 +6,7 @@ ghost use Rattle.ore_algebra.specs.Limits.{program};
 ghost use Rattle.ore_monomial.specs.Signature.{MonomialOf};
 ghost use Rattle.ore_ring.specs.Belongs.{AllBelong};
 ghost use Rattle.ore_rows.specs.Stored.{rows_of, sums_of};
-ghost use Rattle.ore_blocks.specs.CheckBlock.{rows_give, plain, check_basis, check_to};
+ghost use Rattle.ore_blocks.specs.CheckBlock.{rows_give, row_matrix_of, check_basis, check_to};
 ghost use Rattle.ore_blocks.specs.Judging.{Judges};
 ghost use Rattle.ore_blocks.specs.PlaceConditions.{row_gives};
 
@@ -37,7 +37,7 @@ pub fn check_basis<R: OreRing>(
     requires a_of { All (AllBelong (R.sig ring.now)) a.now.rows }
     requires basis_of { All (AllBelong (R.sig ring.now)) basis.now.rows }
     requires from_of { All (AllBelong (R.sig ring.now)) from.now.rows }
-    ensures judges { Judges (λ l. l) result (check_basis program (R.sig ring.now) (plain a.now) section (plain basis.now) (plain from.now)) }
+    ensures judges { Judges (λ l. l) result (check_basis program (R.sig ring.now) (row_matrix_of a.now) section (row_matrix_of basis.now) (row_matrix_of from.now)) }
     ensures of { IfOk result (All (λ t. MonomialOf (R.sig ring.now) t.monomial)) }
     ensures count { IfOk result (λ l. length l ≡ length basis.now.rows) }
     ensures cols { IfOk result (λ _. basis.now.cols ≡ a.now.cols) }
@@ -84,7 +84,7 @@ pub fn check_to<R: OreRing>(
     requires a_of { All (AllBelong (R.sig ring.now)) a.now.rows }
     requires basis_of { All (AllBelong (R.sig ring.now)) basis.now.rows }
     requires to_of { All (AllBelong (R.sig ring.now)) to.now.rows }
-    ensures judges { Judges (λ u. u) result (check_to program (R.sig ring.now) (plain a.now) section (plain basis.now) (plain to.now)) }
+    ensures judges { Judges (λ u. u) result (check_to program (R.sig ring.now) (row_matrix_of a.now) section (row_matrix_of basis.now) (row_matrix_of to.now)) }
     ensures to_rows { IfOk result (λ _. length to.now.rows ≡ length basis.now.rows) }
     ensures to_cols { IfOk result (λ _. to.now.cols ≡ length a.now.rows) }
 {

@@ -24,7 +24,7 @@ use Rattle.ore_cert.specs.declared.report.Cause.{Cause}
 use Rattle.ore_cert.specs.declared.report.Cause.TheVariants.{Overflow, Degree, Budget}
 use Rattle.ore_parts.specs.CertificateText.{number_bound}
 use Rattle.ore_cert.specs.KindWords.{kind_words}
-use Rattle.ore_cert.specs.KindFormat.{IsWrittenKind, kind_format, halted_words, IsNoPlain, IsNoLinks}
+use Rattle.ore_cert.specs.KindFormat.{IsWrittenKind, kind_format, halted_words, IsNoUnnumberedKind, IsNoLinks}
 use Rattle.ore_parts.specs.Lines.{LacksByte}
 use Rattle.ore_cert.specs.WholeText.{IsWrittenCause}
 use Rattle.ore_parts.proofs.FormatLaws.{IsFormat, AreWords, decoded, line_is}
@@ -112,7 +112,7 @@ kind_line = record { some = (Controllable, tt); lacks = λ k h. kind_lacks k; sa
 pub kind_is : IsFormat kind_format
 kind_is = line_is kind_words IsWrittenKind kind_line
 
-pub no_kind : (text : List ℕ) → IsNoPlain text → IsNoLinks text → ((c : Cause) → IsWrittenCause c → text ≢ halted_words c) → (k : Kind) → IsWrittenKind k → text ≢ kind_words k
+pub no_kind : (text : List ℕ) → IsNoUnnumberedKind text → IsNoLinks text → ((c : Cause) → IsWrittenCause c → text ≢ halted_words c) → (k : Kind) → IsWrittenKind k → text ≢ kind_words k
 no_kind text p l h Controllable k e = p.controllable e
 no_kind text p l h AutonomousElement k e = p.autonomous e
 no_kind text p l h LeftInverse k e = p.left e

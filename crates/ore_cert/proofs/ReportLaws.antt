@@ -29,7 +29,7 @@ use Rattle.ore_parts.specs.BlockText.{place, is_place}
 use Rattle.ore_parts.specs.CertificateText.{number_bound}
 use Rattle.ore_parts.specs.Formats.{Format, sequence, items}
 use Rattle.ore_parts.specs.Lines.{LacksByte}
-use Rattle.ore_cert.specs.ReportFormats.{plan_line, plan_format, choice_words, choice_format, stop_line, report_line_words, report_line_format, IsWrittenReportLine, next_text, next_format, IsNoPlainPlan}
+use Rattle.ore_cert.specs.ReportFormats.{plan_line, plan_format, choice_words, choice_format, stop_line, report_line_words, report_line_format, IsWrittenReportLine, next_text, next_format, IsNoUnnumberedPlan}
 use Rattle.ore_cert.specs.WholeText.{choice_text, IsWrittenChoice, IsWrittenPlan, IsWrittenStop, IsLength}
 use Rattle.ore_parts.proofs.Bytes.{LacksByte-append}
 use Rattle.ore_parts.proofs.FormatLaws.{IsFormat, AreWords, Makes, decoded, line_is, items_is, none_left}
@@ -72,7 +72,7 @@ plan_words_are = record { some = (Analyse, tt); lacks = λ p h. plan_lacks p; sa
 pub plan_is : IsFormat plan_format
 plan_is = line_is plan_line IsWrittenPlan plan_words_are
 
-pub no_plan : (text : List ℕ) → IsNoPlainPlan text → ((k : ℕ) → IsLength k → text ≢ codes "plan resolve" ++ 32 ∷ decimal k) → ((k : ℕ) → IsLength k → text ≢ codes "plan ext" ++ 32 ∷ decimal k) → (p : Plan) → IsWrittenPlan p → text ≢ plan_line p
+pub no_plan : (text : List ℕ) → IsNoUnnumberedPlan text → ((k : ℕ) → IsLength k → text ≢ codes "plan resolve" ++ 32 ∷ decimal k) → ((k : ℕ) → IsLength k → text ≢ codes "plan ext" ++ 32 ∷ decimal k) → (p : Plan) → IsWrittenPlan p → text ≢ plan_line p
 no_plan text n r x Analyse h e = n.analyse e
 no_plan text n r x KernelLeft h e = n.kernel_left e
 no_plan text n r x KernelRight h e = n.kernel_right e

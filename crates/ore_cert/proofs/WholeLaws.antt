@@ -2,8 +2,8 @@
 --     zero_written, same_operator     zero may be written; words of operators that are the same
 --     unit_words_are, operator_words_are     the words of lines
 --     operator_spelled           what reading a canonical text says of a line
---     unit_is, operator_is, link_makes, link_is, links_are, with_row_is, with_operator_is     lines, links and some parts are formats
---     with_exact_parts, with_unit_parts, with_row_parts, with_operator_parts, element_parts, link_parts, links_exact_parts, links_row_parts
+--     unit_is, operator_is, link_makes, link_is, links_are, row_and_outside_is, with_operator_is     lines, links and some parts are formats
+--     with_exact_parts, with_unit_parts, row_and_outside_parts, with_operator_parts, element_parts, link_parts, links_exact_parts, links_row_parts
 --                                what is read as one part and then another
 --     parts_is, parts_text, body_makes, body_is      the parts of each kind, their text, and what they make
 --     body_found, body_fails     what their readers answer
@@ -42,7 +42,7 @@ use Rattle.ore_cert.specs.KindWords.{kind_words, kind_of}
 use Rattle.ore_parts.specs.Lines.{LacksByte, Unread}
 use Rattle.ore_parts.specs.Reading.{IsStartFault}
 use Rattle.ore_parts.specs.PartFormats.{matrix_format, row_format, exact_format, outside_format}
-use Rattle.ore_cert.specs.WholeFormats.{unit_format, operator_words, operator_format, link_format, with_exact, with_row, with_operator, links_format, Parts, parts_format, with_parts, IsMadeOf, body_format, closed_format, kinds_format, certificate_format}
+use Rattle.ore_cert.specs.WholeFormats.{unit_format, operator_words, operator_format, link_format, with_exact, row_and_outside, with_operator, links_format, Parts, parts_format, with_parts, IsMadeOf, body_format, closed_format, kinds_format, certificate_format}
 use Rattle.ore_cert.specs.WholeText.{rest_text, IsLength, IsWrittenOperator, IsWrittenLinks, IsWrittenCertificate}
 use Rattle.ore_parts.proofs.Bytes.{LacksByte-append, LacksByte-cons}
 use Rattle.ore_parts.proofs.FormatLaws.{IsFormat, AreWords, Makes, made_is, line_is, fixed_is, items_is}
@@ -106,14 +106,14 @@ module _ (s : Signature) (names : List (List ℕ)) (are : AreNames names) (fit :
   abbrev pub with_unit_parts : TwoParts ℕ OutsideBlock (ℕ × OutsideBlock)
   with_unit_parts = both unit_format (λ _. outside_format s names) unit_is (λ k h. outside_is s names are fit)
 
-  abbrev pub with_row_parts : (name : List ℕ) → LacksByte 10 name → TwoParts (List Ordered) OutsideBlock (List Ordered × OutsideBlock)
-  with_row_parts name named = both (row_format s names name) (λ _. outside_format s names) (row_is s names are fit name named) (λ r h. outside_is s names are fit)
+  abbrev pub row_and_outside_parts : (name : List ℕ) → LacksByte 10 name → TwoParts (List Ordered) OutsideBlock (List Ordered × OutsideBlock)
+  row_and_outside_parts name named = both (row_format s names name) (λ _. outside_format s names) (row_is s names are fit name named) (λ r h. outside_is s names are fit)
 
-  pub with_row_is : (name : List ℕ) → LacksByte 10 name → IsFormat (with_row s names name)
-  with_row_is name named = two_are (with_row_parts name named)
+  pub row_and_outside_is : (name : List ℕ) → LacksByte 10 name → IsFormat (row_and_outside s names name)
+  row_and_outside_is name named = two_are (row_and_outside_parts name named)
 
   abbrev pub with_operator_parts : TwoParts Ordered (List Ordered × OutsideBlock) (Ordered × (List Ordered × OutsideBlock))
-  with_operator_parts = both (operator_format s names (codes "operator")) (λ _. with_row s names (codes "cofactor")) (operator_is (codes "operator") refl) (λ f h. with_row_is (codes "cofactor") refl)
+  with_operator_parts = both (operator_format s names (codes "operator")) (λ _. row_and_outside s names (codes "cofactor")) (operator_is (codes "operator") refl) (λ f h. row_and_outside_is (codes "cofactor") refl)
 
   pub with_operator_is : IsFormat (with_operator s names)
   with_operator_is = two_are with_operator_parts
@@ -145,7 +145,7 @@ module _ (s : Signature) (names : List (List ℕ)) (are : AreNames names) (fit :
   links_exact_parts count = both (links_format s names count) (λ _. exact_format s names) (links_are count) (λ k h. exact_is s names are fit)
 
   abbrev pub links_row_parts : (count : ℕ) → TwoParts (List Link) (List Ordered × OutsideBlock) (List Link × (List Ordered × OutsideBlock))
-  links_row_parts count = both (links_format s names count) (λ _. with_row s names (codes "element")) (links_are count) (λ k h. with_row_is (codes "element") refl)
+  links_row_parts count = both (links_format s names count) (λ _. row_and_outside s names (codes "element")) (links_are count) (λ k h. row_and_outside_is (codes "element") refl)
 
   -- ---- kinds
 

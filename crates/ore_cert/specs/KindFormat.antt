@@ -2,7 +2,7 @@
 --     halted_words              what the line says of a stopped computation
 --     IsWrittenKind             its numbers are in their ranges
 --     kind_format               the line of a kind
---     IsNoPlain, IsNoLinks      no kind without a number; none with the number of links
+--     IsNoUnnumberedKind, IsNoLinks  no kind without a number; none with the number of links
 use Rattle.std.specs.Prelude.{◌≢◌, ℕ, List}
 use Rattle.ore_cert.specs.declared.kind.Kind.{Kind}
 use Rattle.ore_cert.specs.declared.kind.Kind.TheVariants.{Controllable, AutonomousElement, LeftInverse, RightInverse, NoLeftInverse, NoRightInverse, KernelLeft, KernelRight, Resolution, ExtZero, ExtNonzero, Halted}
@@ -28,7 +28,7 @@ abbrev pub kind_format : Format Kind
 kind_format = one_line kind_words IsWrittenKind
 
 -- the text is the line of none of these kinds, which have no number and no cause
-pub record IsNoPlain (text : List ℕ) : Type 0 where
+pub record IsNoUnnumberedKind (text : List ℕ) : Type 0 where
   pub controllable : text ≢ kind_words Controllable
   pub autonomous : text ≢ kind_words AutonomousElement
   pub left : text ≢ kind_words LeftInverse

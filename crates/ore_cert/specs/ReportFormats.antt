@@ -7,7 +7,7 @@
 --     IsWrittenNext                  its numbers are in their ranges
 --     runs_format                    the runs and the last line
 --     report_rest_format             what follows the first line of a report
---     IsNoPlainPlan                  no plan without a number
+--     IsNoUnnumberedPlan             no plan without a number
 use Rattle.std.specs.Prelude.{◌≢◌, ℕ, ◌<◌, List, [], ◌∷◌, ◌++◌, codes, decimal}
 use Rattle.std.specs.List.{All, flat_map, join_with_byte}
 use Rattle.ore_rows.specs.declared.choices.Choice.{Choice}
@@ -81,7 +81,7 @@ abbrev pub report_rest_format : Format (Plan × (List (List Choice) × Stop))
 report_rest_format = sequence plan_format (λ _. runs_format)
 
 -- the text is the line of none of these plans, which have no number
-pub record IsNoPlainPlan (text : List ℕ) : Type 0 where
+pub record IsNoUnnumberedPlan (text : List ℕ) : Type 0 where
   pub analyse : text ≢ codes "plan analyse"
   pub kernel_left : text ≢ codes "plan kernel left"
   pub kernel_right : text ≢ codes "plan kernel right"

@@ -1,7 +1,7 @@
 -- The formats of certificates.
 --     operator_words, operator_format, unit_format   the line of a word and an operator; that of the place of a unit row
 --     link_format                    a matrix with its block
---     with_exact, with_unit, with_row, with_operator, autonomous_parts, links_format, links_exact, links_row
+--     with_exact, with_unit, row_and_outside, with_operator, autonomous_parts, links_format, links_exact, links_row
 --                                    what some kinds have between these lines
 --     Parts, with_parts              what a certificate of a kind is made of; the certificate
 --     parts_format                   its parts one after the other
@@ -58,12 +58,12 @@ module _ (s : Signature) (names : List (List ℕ)) where
   with_unit = sequence unit_format (λ _. outside_format s names)
 
   -- a row of this name, and then an outside block
-  abbrev pub with_row : List ℕ → Format (List Ordered × OutsideBlock)
-  with_row name = sequence (row_format s names name) (λ _. outside_format s names)
+  abbrev pub row_and_outside : List ℕ → Format (List Ordered × OutsideBlock)
+  row_and_outside name = sequence (row_format s names name) (λ _. outside_format s names)
 
   -- an operator, the row `cofactor` and an outside block
   abbrev pub with_operator : Format (Ordered × (List Ordered × OutsideBlock))
-  with_operator = sequence (operator_format (codes "operator")) (λ _. with_row (codes "cofactor"))
+  with_operator = sequence (operator_format (codes "operator")) (λ _. row_and_outside (codes "cofactor"))
 
   -- the row `element`, and then these three
   abbrev pub autonomous_parts : Format (List Ordered × (Ordered × (List Ordered × OutsideBlock)))
@@ -79,7 +79,7 @@ module _ (s : Signature) (names : List (List ℕ)) where
 
   -- so many links, the row `element` and an outside block
   abbrev pub links_row : ℕ → Format (List Link × (List Ordered × OutsideBlock))
-  links_row count = sequence (links_format count) (λ _. with_row (codes "element"))
+  links_row count = sequence (links_format count) (λ _. row_and_outside (codes "element"))
 
   -- what stands between the line of the kind and the last line, as a tuple in the order of the text
   abbrev pub Parts : Kind → Type 0

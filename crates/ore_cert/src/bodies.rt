@@ -3,7 +3,7 @@
 ghost use Rattle.ore_cert.specs.declared.kind.Kind.TheVariants as kinds;
 ghost use Rattle.ore_parts.specs.Formats.{ReadsOne};
 ghost use Rattle.ore_parts.specs.Lines.{LacksByte};
-ghost use Rattle.ore_cert.specs.WholeFormats.{with_exact, with_unit, with_row, with_operator, autonomous_parts, link_format, links_format, links_exact, links_row, body_format};
+ghost use Rattle.ore_cert.specs.WholeFormats.{with_exact, with_unit, row_and_outside, with_operator, autonomous_parts, link_format, links_format, links_exact, links_row, body_format};
 
 use crate::certificate::{Certificate, Side};
 use crate::kind::Kind;
@@ -252,7 +252,7 @@ fn read_with_row(
     lines: &mut Lines<'_>,
 ) -> Result<(Row, OutsideBlock), CertFault>
     requires { LacksByte 10 name.now }
-    ensures { ReadsOne (with_row algebra.now.signature.now algebra.now.names.now name.now) lines.old result lines.new }
+    ensures { ReadsOne (row_and_outside algebra.now.signature.now algebra.now.names.now name.now) lines.old result lines.new }
 {
     let row = read_row_part(alloc, algebra, lines, name)?;
     let block = read_outside_part(alloc, algebra, lines)?;

@@ -4,7 +4,7 @@ ghost use Rattle.std.specs.Prelude.{◌≡◌, ◌≤◌, ◌++◌, ◌∷◌, d
 ghost use Rattle.ore_parts.specs.Formats.{ReadsOne, Spells};
 ghost use Rattle.ore_cert.specs.KindWords.{word_of, kind_words};
 ghost use Rattle.ore_cert.specs.WholeText.{IsWrittenCause, IsLength};
-ghost use Rattle.ore_cert.specs.KindFormat.{halted_words, IsWrittenKind, kind_format, IsNoPlain, IsNoLinks};
+ghost use Rattle.ore_cert.specs.KindFormat.{halted_words, IsWrittenKind, kind_format, IsNoUnnumberedKind, IsNoLinks};
 
 use crate::report::Cause;
 use ore_parts::count::count_in;
@@ -67,7 +67,7 @@ pub fn read_kind(lines: &mut Lines<'_>) -> Result<Kind, CertFault>
 fn kind_in(words: &[u8]) -> Option<Kind>
     ensures { Spells kind_words IsWrittenKind words.now result }
 {
-    match plain_kind_in(words) {
+    match unnumbered_kind_in(words) {
         Some(kind) => Some(kind),
         None => match links_kind_in(words) {
             Some(kind) => Some(kind),
@@ -80,8 +80,8 @@ fn kind_in(words: &[u8]) -> Option<Kind>
 }
 
 // A kind whose line has no number.
-fn plain_kind_in(words: &[u8]) -> Option<Kind>
-    ensures { MatchOption result (IsNoPlain words.now) (λ k. IsWrittenKind k × (words.now ≡ kind_words k)) }
+fn unnumbered_kind_in(words: &[u8]) -> Option<Kind>
+    ensures { MatchOption result (IsNoUnnumberedKind words.now) (λ k. IsWrittenKind k × (words.now ≡ kind_words k)) }
 {
     if words == b"controllable".as_slice() {
         return Some(Kind::Controllable);

@@ -4,7 +4,7 @@ ghost use Rattle.std.specs.Prelude.{◌≡◌, ◌++◌, ◌∷◌, codes, Match
 ghost use Rattle.ore_parts.specs.BlockText.{place, is_place};
 ghost use Rattle.ore_parts.specs.Formats.{ReadsOne, items, Spells};
 ghost use Rattle.ore_cert.specs.WholeText.{IsWrittenChoice, IsWrittenPlan, IsWrittenStop};
-ghost use Rattle.ore_cert.specs.ReportFormats.{plan_line, IsNoPlainPlan, choice_words, stop_line, report_line_words, IsWrittenReportLine, plan_format, choice_format, report_line_format, next_format, runs_format, report_rest_format};
+ghost use Rattle.ore_cert.specs.ReportFormats.{plan_line, IsNoUnnumberedPlan, choice_words, stop_line, report_line_words, IsWrittenReportLine, plan_format, choice_format, report_line_format, next_format, runs_format, report_rest_format};
 
 use crate::kind::length_behind;
 use crate::report::{Plan, Stop};
@@ -114,7 +114,7 @@ fn read_report_line(lines: &mut Lines<'_>) -> Result<ReportLine, CertFault>
 fn plan_in(words: &[u8]) -> Option<Plan>
     ensures { Spells plan_line IsWrittenPlan words.now result }
 {
-    if let Some(plan) = plain_plan_in(words) {
+    if let Some(plan) = unnumbered_plan_in(words) {
         return Some(plan);
     }
     if let Some(links) = length_behind(words, b"plan resolve") {
@@ -127,8 +127,8 @@ fn plan_in(words: &[u8]) -> Option<Plan>
 }
 
 // A plan without a number.
-fn plain_plan_in(words: &[u8]) -> Option<Plan>
-    ensures { MatchOption result (IsNoPlainPlan words.now) (λ p. IsWrittenPlan p × (words.now ≡ plan_line p)) }
+fn unnumbered_plan_in(words: &[u8]) -> Option<Plan>
+    ensures { MatchOption result (IsNoUnnumberedPlan words.now) (λ p. IsWrittenPlan p × (words.now ≡ plan_line p)) }
 {
     if words == b"plan analyse".as_slice() {
         return Some(Plan::Analyse);

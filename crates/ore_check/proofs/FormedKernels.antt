@@ -46,7 +46,7 @@ use Rattle.ore_cert.specs.declared.certificate.Certificate.{Certificate}
 use Rattle.ore_cert.specs.declared.certificate.Certificate.TheVariants.{Kernel}
 use Rattle.ore_parts.specs.OfSignature.{IsExactOf}
 use Rattle.ore_blocks.specs.BlockOfRun.{ordered_row}
-use Rattle.ore_blocks.specs.CheckBlock.{RowMatrix, plain}
+use Rattle.ore_blocks.specs.CheckBlock.{RowMatrix, row_matrix_of}
 use Rattle.ore_blocks.specs.KernelCourse.{RunCourse, syzygies_of, kernel_block, RightKernel, run_on, transposed_adjoint_within, right_kernel}
 use Rattle.ore_blocks.specs.Valid.{IsValidExactFor}
 use Rattle.ore_blocks.proofs.StoredBlocks.{rows_of-stored, matrix_stored, exact_block-valid, exact_block-of}
@@ -168,7 +168,7 @@ module _ (s : Signature) where
   adjoint_value m x e = adjoint_within program m x e
 
   -- the transposed adjoint of a stored transposed adjoint
-  pub adjoint_back : (m : RowMatrix) → AreLong rationals m.cols m.rows → transposed_adjoint s (plain (stored s (transposed_adjoint s m))) ≡ m
+  pub adjoint_back : (m : RowMatrix) → AreLong rationals m.cols m.rows → transposed_adjoint s (row_matrix_of (stored s (transposed_adjoint s m))) ≡ m
   adjoint_back m long =
       let rows = rows_of-stored s.order (length m.rows) (transpose_adjoint rationals s m.cols m.rows) in
       ap (λ (rows : List (Row rationals)). transposed_adjoint s (record { cols = length m.rows; rows = rows })) rows
@@ -218,9 +218,9 @@ module _ (s : Signature) where
         ap (λ (m : RowMatrix). length m.rows) h.generators_are ∙ Rows.length-adjoint rationals s (length k.adjoint.rows) k.last.syzygies
         ∙ ap (λ (m : RowMatrix). length m.rows) h.adjoint_is ∙ Rows.length-adjoint rationals s r.cols r.rows
 
-    pub generators_back : transposed_adjoint s (plain (stored s k.generators)) ≡ syzygies_of k.adjoint k.last
+    pub generators_back : transposed_adjoint s (row_matrix_of (stored s k.generators)) ≡ syzygies_of k.adjoint k.last
     generators_back =
-        ap (λ (m : RowMatrix). transposed_adjoint s (plain (stored s m))) h.generators_are ∙ adjoint_back (syzygies_of k.adjoint k.last) (wide_generators k.adjoint adjoint_long adjoint_of_signature k.last h.end)
+        ap (λ (m : RowMatrix). transposed_adjoint s (row_matrix_of (stored s m))) h.generators_are ∙ adjoint_back (syzygies_of k.adjoint k.last) (wide_generators k.adjoint adjoint_long adjoint_of_signature k.last h.end)
 
   pub kernel_right_right : FormsCorrect s (kernel_right program s)
   unfolding kernel_right
@@ -232,6 +232,6 @@ module _ (s : Signature) where
       formed_right s r long (Kernel Right (stored s k.generators) block) d tt
       (matrix_stored s k.generators.cols k.generators.rows (generators_wide r of_r k found) (generators_of_signature r of_r k found), kernel_block_of k.adjoint wide of_adjoint k.last found.end) (
         length-map k.generators.rows (ordered_row s.order) ∙ generators_count r of_r k found,
-        subst (λ a. IsValidExactFor s a (transposed_adjoint s (plain (stored s k.generators))) block) found.adjoint_is
+        subst (λ a. IsValidExactFor s a (transposed_adjoint s (row_matrix_of (stored s k.generators))) block) found.adjoint_is
             (subst (λ m. IsValidExactFor s k.adjoint m block) (sym (generators_back r of_r k found)) (kernel_block_valid k.adjoint wide of_adjoint k.last found.end)),
       ) rest more

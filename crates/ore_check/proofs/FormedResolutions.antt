@@ -23,7 +23,7 @@ use Rattle.ore_cert.specs.EachKind.{IsLength}
 use Rattle.ore_cert.specs.declared.certificate.Certificate.TheVariants.{Resolution as Resolved}
 use Rattle.ore_parts.specs.OfSignature.{IsLinkOf}
 use Rattle.ore_parts.specs.declared.block.Link.{Link}
-use Rattle.ore_blocks.specs.CheckBlock.{RowMatrix, plain}
+use Rattle.ore_blocks.specs.CheckBlock.{RowMatrix, row_matrix_of}
 use Rattle.ore_blocks.specs.KernelCourse.{syzygies_of, kernel_block}
 use Rattle.ore_blocks.specs.Valid.{IsValidExactFor}
 use Rattle.ore_blocks.proofs.StoredBlocks.{rows_of-stored, matrix_stored}
@@ -36,16 +36,16 @@ use Rattle.ore_check.proofs.FormedKernels.{formed_right, done_last, IsEndOf, ran
 module _ (s : Signature) where
   -- one link more, for the last matrix
   valid_push : (before r : RowMatrix) (ks : List Link) (k : Link) (P Q : RowMatrix → RowMatrix → Type 0) → AreValidLinks s before r ks P
-      → ((b last : RowMatrix) → P b last → (k.l.cols ≡ length last.rows) × IsValidExactFor s last (plain k.l) k.block × Q last (plain k.l)) → AreValidLinks s before r (ks ++ k ∷ []) Q
+      → ((b last : RowMatrix) → P b last → (k.l.cols ≡ length last.rows) × IsValidExactFor s last (row_matrix_of k.l) k.block × Q last (row_matrix_of k.l)) → AreValidLinks s before r (ks ++ k ∷ []) Q
   valid_push before r [] k P Q h more = more before r h
-  valid_push before r (x ∷ ks) k P Q (wide, valid, h) more = (wide, valid, valid_push r (plain x.l) ks k P Q h more)
+  valid_push before r (x ∷ ks) k P Q (wide, valid, h) more = (wide, valid, valid_push r (row_matrix_of x.l) ks k P Q h more)
 
   pub valid_weaker : (before r : RowMatrix) (ks : List Link) (P Q : RowMatrix → RowMatrix → Type 0) → AreValidLinks s before r ks P → ((b last : RowMatrix) → P b last → Q b last) → AreValidLinks s before r ks Q
   valid_weaker before r [] P Q h more = more before r h
-  valid_weaker before r (x ∷ ks) P Q (wide, valid, h) more = (wide, valid, valid_weaker r (plain x.l) ks P Q h more)
+  valid_weaker before r (x ∷ ks) P Q (wide, valid, h) more = (wide, valid, valid_weaker r (row_matrix_of x.l) ks P Q h more)
 
   -- a stored matrix is what it was
-  pub stored_back : (m : RowMatrix) → plain (stored s m) ≡ m
+  pub stored_back : (m : RowMatrix) → row_matrix_of (stored s m) ≡ m
   stored_back m = λ i. record { cols = m.cols; rows = rows_of-stored s.order m.cols m.rows i }
 
   -- these are the last two matrices
@@ -82,13 +82,13 @@ module _ (s : Signature) where
       valid = valid_push r r x.links new_link (AreLast x) (AreLast (next_link s x a)) h.valid (λ b last e. link_fits last e.1);
     }
       where
-        back : plain (stored s (syzygies_of x.last a)) ≡ syzygies_of x.last a
+        back : row_matrix_of (stored s (syzygies_of x.last a)) ≡ syzygies_of x.last a
         back = stored_back (syzygies_of x.last a)
 
-        link_fits : (last : RowMatrix) → last ≡ x.last → (length x.last.rows ≡ length last.rows) × IsValidExactFor s last (plain new_link.l) new_link.block × AreLast (next_link s x a) last (plain new_link.l)
+        link_fits : (last : RowMatrix) → last ≡ x.last → (length x.last.rows ≡ length last.rows) × IsValidExactFor s last (row_matrix_of new_link.l) new_link.block × AreLast (next_link s x a) last (row_matrix_of new_link.l)
         link_fits last e = (
           ap (λ (m : RowMatrix). length m.rows) (sym e),
-          subst (λ m. IsValidExactFor s m (plain new_link.l) new_link.block) (sym e) (subst (λ m. IsValidExactFor s x.last m new_link.block) (sym back) (kernel_block_valid s x.last h.long h.of_last a end)),
+          subst (λ m. IsValidExactFor s m (row_matrix_of new_link.l) new_link.block) (sym e) (subst (λ m. IsValidExactFor s x.last m new_link.block) (sym back) (kernel_block_valid s x.last h.long h.of_last a end)),
           (e, back),
         )
 

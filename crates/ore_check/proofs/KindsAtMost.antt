@@ -22,7 +22,7 @@ use Rattle.ore_blocks.specs.declared.place.Name.TheVariants.{Generators, Inverse
 use Rattle.ore_blocks.specs.declared.place.Place.TheVariants as place
 use Rattle.ore_blocks.specs.declared.reason.Reason.TheVariants as reason
 use Rattle.ore_blocks.specs.Conditions.{required, is_same}
-use Rattle.ore_blocks.specs.CheckBlock.{RowMatrix, plain, are_zero}
+use Rattle.ore_blocks.specs.CheckBlock.{RowMatrix, row_matrix_of, are_zero}
 use Rattle.ore_blocks.specs.Same.{operator_discrete}
 use Rattle.ore_blocks.specs.WithinLimits.{IsCheckedAtMost}
 use Rattle.ore_blocks.proofs.CheckedAtMost.{most_same, most_checked, most_then, most_behind}
@@ -36,8 +36,8 @@ module _ (l : Limits) (s : Signature) where
   check_links_most i before r [] = most_same (Ok (before, r))
   check_links_most i before r (k ∷ ks) =
       most_behind (required (place.Header (section.Link i) Generators) reason.Shape (nat_eq k.l.cols (length r.rows))) _ _ (λ u.
-      most_then _ _ _ _ (check_exact_most l s (section.Link i) r (plain k.l) k.block) (λ u.
-      check_links_most (suc i) r (plain k.l) ks))
+      most_then _ _ _ _ (check_exact_most l s (section.Link i) r (row_matrix_of k.l) k.block) (λ u.
+      check_links_most (suc i) r (row_matrix_of k.l) ks))
 
   adjoints_most : (pair : RowMatrix × RowMatrix) → IsCheckedAtMost (adjoints_of l s pair) (adjoints_of unlimited s pair)
   unfolding adjoints_of
@@ -50,7 +50,7 @@ module _ (l : Limits) (s : Signature) where
   unfolding check are_zero
   check_most r (Controllable q block) claims =
       most_behind (required (place.Header section.Body Generators) reason.Shape (nat_eq (length q.rows) r.cols)) _ _ (λ u.
-      check_exact_most l s section.Body (plain q) r block)
+      check_exact_most l s section.Body (row_matrix_of q) r block)
   check_most r (AutonomousElement element operator cofactor block) claims =
       most_behind (required (place.Header section.Body Element) reason.Shape (nat_eq (length element) r.cols)) _ _ (λ u.
       most_behind (required place.Operator reason.ZeroOperator (not (is_same operator_discrete operator.sum (empty_sum rationals plain_cmp)))) _ _ (λ u.
@@ -74,11 +74,11 @@ module _ (l : Limits) (s : Signature) where
       check_outside_most l s adjoint (unit_row rationals (length r.rows) i) block))
   check_most r (Kernel Left generators block) claims =
       most_behind (required (place.Header section.Body Generators) reason.Shape (nat_eq generators.cols (length r.rows))) _ _ (λ u.
-      check_exact_most l s section.Body r (plain generators) block)
+      check_exact_most l s section.Body r (row_matrix_of generators) block)
   check_most r (Kernel Right generators block) claims =
       most_behind (required (place.Header section.Body Generators) reason.Shape (nat_eq (length generators.rows) r.cols)) _ _ (λ u.
       most_then _ _ _ _ (most_checked (place.Block section.Body) _ _ (adjoint_at_most l s r)) (λ adjoint.
-      most_then _ _ _ _ (most_checked (place.Block section.Body) _ _ (adjoint_at_most l s (plain generators))) (λ generators_adjoint.
+      most_then _ _ _ _ (most_checked (place.Block section.Body) _ _ (adjoint_at_most l s (row_matrix_of generators))) (λ generators_adjoint.
       check_exact_most l s section.Body adjoint generators_adjoint block)))
   check_most r (Resolution links) claims = most_then _ _ _ _ (check_links_most 0 r r links) (λ last. most_same (Ok tt))
   check_most r (ExtZero links block) claims =

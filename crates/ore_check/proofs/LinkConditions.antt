@@ -16,7 +16,7 @@ use Rattle.ore_ring.specs.Belongs.{Belongs}
 use Rattle.ore_rows.specs.Stored.{OperatorMatrix}
 use Rattle.ore_parts.specs.OfSignature.{IsLinkOf}
 use Rattle.ore_parts.specs.declared.block.Link.{Link}
-use Rattle.ore_blocks.specs.CheckBlock.{RowMatrix, plain, check_exact}
+use Rattle.ore_blocks.specs.CheckBlock.{RowMatrix, row_matrix_of, check_exact}
 use Rattle.ore_blocks.specs.Conditions.{Checked, required}
 use Rattle.ore_blocks.specs.declared.place.Name.TheVariants.{Generators}
 use Rattle.ore_blocks.specs.declared.place.Place.TheVariants.{Header}
@@ -48,12 +48,12 @@ joined (Ok u) b k = refl
 joined (Err e) b k = refl
 
 module _ (l : Limits) (s : Signature) (before at : RowMatrix) (ks : List Link) (i : ℕ) where
-  pub links_next : (k : Link) → slice_get ks i ≡ Some k → check_links l s i before at (drop i ks) ≡ (check_link l s i at k >>= λ u. check_links l s (i + 1) at (plain k.l) (drop (i + 1) ks))
+  pub links_next : (k : Link) → slice_get ks i ≡ Some k → check_links l s i before at (drop i ks) ≡ (check_link l s i at k >>= λ u. check_links l s (i + 1) at (row_matrix_of k.l) (drop (i + 1) ks))
   unfolding check_links check_link
   links_next k here =
       ap (check_links l s i before at) (drop_read ks i k here)
-      ∙ joined (required (Header (section.Link i) Generators) Shape (nat_eq k.l.cols (length at.rows))) (check_exact l s (section.Link i) at (plain k.l) k.block) (check_links l s (suc i) at (plain k.l) (drop (i + 1) ks))
-      ∙ ap (λ n. check_link l s i at k >>= λ u. check_links l s n at (plain k.l) (drop (i + 1) ks)) (let e : suc i ≡ i + 1 = omega arith in e)
+      ∙ joined (required (Header (section.Link i) Generators) Shape (nat_eq k.l.cols (length at.rows))) (check_exact l s (section.Link i) at (row_matrix_of k.l) k.block) (check_links l s (suc i) at (row_matrix_of k.l) (drop (i + 1) ks))
+      ∙ ap (λ n. check_link l s i at k >>= λ u. check_links l s n at (row_matrix_of k.l) (drop (i + 1) ks)) (let e : suc i ≡ i + 1 = omega arith in e)
 
   pub links_end : length ks ≤ i → check_links l s i before at (drop i ks) ≡ Ok (before, at)
   unfolding check_links

@@ -108,9 +108,9 @@ module _ (l : Limits) (s : Signature) where
   right_kernel_most : (r : RowMatrix) → IsCourseAtMost (right_kernel l s r) (right_kernel unlimited s r)
   unfolding right_kernel IsCourseAtMost
   right_kernel_most r =
-      budgets.most_bind _ _ _ _ (adjoint_most r) (λ adjoint.
-      budgets.most_bind _ _ _ _ (run_most adjoint) (λ last.
-      budgets.most_bind _ _ _ _ (adjoint_most (syzygies_of adjoint last)) (λ generators. refl)))
+      budgets.IsCourseAtMost-bind _ _ _ _ (adjoint_most r) (λ adjoint.
+      budgets.IsCourseAtMost-bind _ _ _ _ (run_most adjoint) (λ last.
+      budgets.IsCourseAtMost-bind _ _ _ _ (adjoint_most (syzygies_of adjoint last)) (λ generators. refl)))
 
   -- the rows were reduced, or a rest was left
   ends_most : (f g : List (Row rationals) → RunCourse Certificate) (h k : ℕ → ReductionState rationals → RunCourse Certificate)
@@ -122,57 +122,57 @@ module _ (l : Limits) (s : Signature) where
   links_most : (n : ℕ) (so_far : Resolution) → IsCourseAtMost (links l s n so_far) (links unlimited s n so_far)
   unfolding links IsCourseAtMost
   links_most zero so_far = refl
-  links_most (suc n) so_far = budgets.most_bind _ _ _ _ (run_most so_far.last) (λ a. links_most n (next_link s so_far a))
+  links_most (suc n) so_far = budgets.IsCourseAtMost-bind _ _ _ _ (run_most so_far.last) (λ a. links_most n (next_link s so_far a))
 
   -- ---- the plans
 
   inverse_left_most : (r : RowMatrix) → IsCourseAtMost (inverse_left l s r) (inverse_left unlimited s r)
   unfolding inverse_left
   inverse_left_most r =
-      budgets.most_bind _ _ _ _ (run_most r) (λ a.
-      budgets.most_bind _ _ _ _ (reduced_most r a (identity_rows rationals r.cols)) (
+      budgets.IsCourseAtMost-bind _ _ _ _ (run_most r) (λ a.
+      budgets.IsCourseAtMost-bind _ _ _ _ (reduced_most r a (identity_rows rationals r.cols)) (
       ends_most _ _ _ _ (λ all. certified_most r _ tt) (λ k w. certified_most r _ tt)))
 
   inverse_right_most : (r : RowMatrix) → IsCourseAtMost (inverse_right l s r) (inverse_right unlimited s r)
   unfolding inverse_right
   inverse_right_most r =
-      budgets.most_bind _ _ _ _ (adjoint_most r) (λ adjoint.
-      budgets.most_bind _ _ _ _ (run_most adjoint) (λ a.
-      budgets.most_bind _ _ _ _ (reduced_most adjoint a (identity_rows rationals (length r.rows))) (
-      ends_most _ _ _ _ (λ all. budgets.most_bind _ _ _ _ (adjoint_most (record { cols = r.cols; rows = all })) (λ inverse. certified_most r _ tt)) (λ k w. certified_most r _ tt))))
+      budgets.IsCourseAtMost-bind _ _ _ _ (adjoint_most r) (λ adjoint.
+      budgets.IsCourseAtMost-bind _ _ _ _ (run_most adjoint) (λ a.
+      budgets.IsCourseAtMost-bind _ _ _ _ (reduced_most adjoint a (identity_rows rationals (length r.rows))) (
+      ends_most _ _ _ _ (λ all. budgets.IsCourseAtMost-bind _ _ _ _ (adjoint_most (record { cols = r.cols; rows = all })) (λ inverse. certified_most r _ tt)) (λ k w. certified_most r _ tt))))
 
   autonomous_most : (r : RowMatrix) (a : RunState rationals) (z : Row rationals) → IsCourseAtMost (autonomous l s r a z) (autonomous unlimited s r a z)
   unfolding autonomous
-  autonomous_most r a z = budgets.most_bind _ _ _ _ (run_most (stacked z r)) (λ d. certified_most r _ tt)
+  autonomous_most r a z = budgets.IsCourseAtMost-bind _ _ _ _ (run_most (stacked z r)) (λ d. certified_most r _ tt)
 
   analyse_most : (r : RowMatrix) → IsCourseAtMost (analyse l s r) (analyse unlimited s r)
   unfolding analyse
   analyse_most r =
-      budgets.most_bind _ _ _ _ (run_most r) (λ a.
-      budgets.most_bind _ _ _ _ (right_kernel_most r) (λ k.
-      budgets.most_bind _ _ _ _ (run_most k.generators) (λ c.
-      budgets.most_bind _ _ _ _ (reduced_most r a c.syzygies) (
+      budgets.IsCourseAtMost-bind _ _ _ _ (run_most r) (λ a.
+      budgets.IsCourseAtMost-bind _ _ _ _ (right_kernel_most r) (λ k.
+      budgets.IsCourseAtMost-bind _ _ _ _ (run_most k.generators) (λ c.
+      budgets.IsCourseAtMost-bind _ _ _ _ (reduced_most r a c.syzygies) (
       ends_most _ _ _ _ (λ all. certified_most r _ tt) (λ n w. autonomous_most r a w.row)))))
 
   ext_most : (k : ℕ) (r : RowMatrix) → IsCourseAtMost (ext l s k r) (ext unlimited s k r)
   unfolding ext
   ext_most k r =
-      budgets.most_bind _ _ _ _ (links_most k (record { links = []; before = r; last = r })) (λ resolved.
-      budgets.most_bind _ _ _ _ (adjoint_most resolved.last) (λ last.
-      budgets.most_bind _ _ _ _ (run_most last) (λ e.
-      budgets.most_bind _ _ _ _ (adjoint_most resolved.before) (λ before.
-      budgets.most_bind _ _ _ _ (run_most before) (λ f.
-      budgets.most_bind _ _ _ _ (reduced_most before f e.syzygies) (
+      budgets.IsCourseAtMost-bind _ _ _ _ (links_most k (record { links = []; before = r; last = r })) (λ resolved.
+      budgets.IsCourseAtMost-bind _ _ _ _ (adjoint_most resolved.last) (λ last.
+      budgets.IsCourseAtMost-bind _ _ _ _ (run_most last) (λ e.
+      budgets.IsCourseAtMost-bind _ _ _ _ (adjoint_most resolved.before) (λ before.
+      budgets.IsCourseAtMost-bind _ _ _ _ (run_most before) (λ f.
+      budgets.IsCourseAtMost-bind _ _ _ _ (reduced_most before f e.syzygies) (
       ends_most _ _ _ _ (λ all. certified_most r _ tt) (λ n w. certified_most r _ tt)))))))
 
   plan_most : (named : Plan) (r : RowMatrix) → IsCourseAtMost (course_of l s named r) (course_of unlimited s named r)
   unfolding kernel_left kernel_right resolve
   plan_most plan.Analyse r = analyse_most r
-  plan_most plan.KernelLeft r = budgets.most_bind _ _ _ _ (run_most r) (λ a. certified_most r _ tt)
-  plan_most plan.KernelRight r = budgets.most_bind _ _ _ _ (right_kernel_most r) (λ k. certified_most r _ tt)
+  plan_most plan.KernelLeft r = budgets.IsCourseAtMost-bind _ _ _ _ (run_most r) (λ a. certified_most r _ tt)
+  plan_most plan.KernelRight r = budgets.IsCourseAtMost-bind _ _ _ _ (right_kernel_most r) (λ k. certified_most r _ tt)
   plan_most plan.InverseLeft r = inverse_left_most r
   plan_most plan.InverseRight r = inverse_right_most r
-  plan_most (plan.Resolve k) r = budgets.most_bind _ _ _ _ (links_most k (record { links = []; before = r; last = r })) (λ resolved. certified_most r _ tt)
+  plan_most (plan.Resolve k) r = budgets.IsCourseAtMost-bind _ _ _ _ (links_most k (record { links = []; before = r; last = r })) (λ resolved. certified_most r _ tt)
   plan_most (plan.Ext k) r = ext_most k r
   plan_most plan.Adjoint r = adjoint_most r
 

@@ -42,7 +42,7 @@ use Rattle.ore_blocks.specs.declared.place.Place.TheVariants as place
 use Rattle.ore_blocks.specs.declared.reason.Reason.TheVariants as reason
 use Rattle.ore_blocks.specs.Conditions.{Checked, formed, required, is_none, is_same}
 use Rattle.ore_algebra.specs.Results.{◌>>=◌}
-use Rattle.ore_blocks.specs.CheckBlock.{RowMatrix, plain, are_zero, check_exact}
+use Rattle.ore_blocks.specs.CheckBlock.{RowMatrix, row_matrix_of, are_zero, check_exact}
 use Rattle.ore_blocks.specs.PlaceConditions.{same_row, same_rows}
 use Rattle.ore_blocks.specs.Same.{operator_discrete, row_discrete, rows_discrete}
 use Rattle.ore_blocks.specs.KernelCourse.{transposed_adjoint_within}
@@ -63,7 +63,7 @@ module _ (s : Signature) (r : RowMatrix) (long : AreLong rationals r.cols r.rows
   unfolding check
   controllable_iff q block of blocks =
       required_iff (place.Header section.Body Generators) reason.Shape (nat_eq (length q.rows) r.cols) _ tt (nat_eq_iff (length q.rows) r.cols) (λ rows.
-      exact_iff s section.Body (plain q) r block (wide_rows s q of) (subst (λ n. AreLong rationals n r.rows) (sym (rows_count q ∙ rows)) long) blocks)
+      exact_iff s section.Body (row_matrix_of q) r block (wide_rows s q of) (subst (λ n. AreLong rationals n r.rows) (sym (rows_count q ∙ rows)) long) blocks)
 
   autonomous_iff : (element : List Ordered) (operator : Ordered) (cofactor : List Ordered) (block : OutsideBlock) → IsOutsideOf s block
       → (check unlimited s r (AutonomousElement element operator cofactor block) tt ≡ Ok tt) ↔ IsValid s r (AutonomousElement element operator cofactor block)
@@ -80,7 +80,7 @@ module _ (s : Signature) (r : RowMatrix) (long : AreLong rationals r.cols r.rows
       (λ h. (h.0, h.1.0, h.1.1.0, h.1.1.1.0, h.1.1.1.1), λ h. (h.0, (h.1, (h.2, (h.3, h.4)))))
 
   -- the sizes of a matrix of the signature, told by its stored rows
-  inverse_size : (m : OperatorMatrix) → MatrixOf s m → ((length m.rows ≡ r.cols) × (m.cols ≡ length r.rows)) ↔ HasInverseSize r (plain m)
+  inverse_size : (m : OperatorMatrix) → MatrixOf s m → ((length m.rows ≡ r.cols) × (m.cols ≡ length r.rows)) ↔ HasInverseSize r (row_matrix_of m)
   inverse_size m of = (λ h. record { rows = rows_count m ∙ h.0; columns = h.1; long = wide_rows s m of }, λ h. (sym (rows_count m) ∙ h.rows, h.columns))
 
   left_inverse_iff : (m : OperatorMatrix) → MatrixOf s m → (check unlimited s r (LeftInverse m) tt ≡ Ok tt) ↔ IsValid s r (LeftInverse m)
@@ -118,7 +118,7 @@ module _ (s : Signature) (r : RowMatrix) (long : AreLong rationals r.cols r.rows
   unfolding check
   left_kernel_iff m block of blocks =
       required_iff (place.Header section.Body Generators) reason.Shape (nat_eq m.cols (length r.rows)) _ tt (nat_eq_iff m.cols (length r.rows)) (λ columns.
-      exact_iff s section.Body r (plain m) block long (subst (λ n. AreLong rationals n (rows_of m)) columns (wide_rows s m of)) blocks)
+      exact_iff s section.Body r (row_matrix_of m) block long (subst (λ n. AreLong rationals n (rows_of m)) columns (wide_rows s m of)) blocks)
 
 -- the adjoint of one matrix beside that of another, which has a row for each of its columns
 pub adjoint_wide : (s : Signature) (a m : RowMatrix) → a.cols ≡ length m.rows → AreLong rationals (length (transposed_adjoint s a).rows) (transposed_adjoint s m).rows
@@ -130,8 +130,8 @@ module _ (s : Signature) (r : RowMatrix) where
   right_kernel_iff m block blocks =
       required_iff (place.Header section.Body Generators) reason.Shape (nat_eq (length m.rows) r.cols) _ tt (nat_eq_iff (length m.rows) r.cols) (λ rows.
       formed_iff (place.Block section.Body) (transposed_adjoint_within unlimited s r) _ (transposed_adjoint s r) tt (adjoint_unlimited s r)
-      (formed_iff (place.Block section.Body) (transposed_adjoint_within unlimited s (plain m)) _ (transposed_adjoint s (plain m)) tt (adjoint_unlimited s (plain m))
-      (exact_iff s section.Body (transposed_adjoint s r) (transposed_adjoint s (plain m)) block (Rows.long_adjoint rationals s r.cols r.rows) (adjoint_wide s r (plain m) (sym rows ∙ sym (rows_count m))) blocks)))
+      (formed_iff (place.Block section.Body) (transposed_adjoint_within unlimited s (row_matrix_of m)) _ (transposed_adjoint s (row_matrix_of m)) tt (adjoint_unlimited s (row_matrix_of m))
+      (exact_iff s section.Body (transposed_adjoint s r) (transposed_adjoint s (row_matrix_of m)) block (Rows.long_adjoint rationals s r.cols r.rows) (adjoint_wide s r (row_matrix_of m) (sym rows ∙ sym (rows_count m))) blocks)))
 
 -- ---- links
 
@@ -141,17 +141,17 @@ pub record AreLinked (before last : RowMatrix) : Type 0 where
   pub last_long : AreLong rationals last.cols last.rows
   pub columns : last.cols ≡ length before.rows
 
--- links that are none or some, behind r
-abbrev pub Begins : RowMatrix → RowMatrix → List Link → Type 0
-Begins before r [] = AreLinked before r
-Begins before r (k ∷ ks) = AreLong rationals r.cols r.rows
+-- the first of the links fits r, or the last two matrices fit where there is none
+abbrev pub FitsFirst : RowMatrix → RowMatrix → List Link → Type 0
+FitsFirst before r [] = AreLinked before r
+FitsFirst before r (k ∷ ks) = AreLong rationals r.cols r.rows
 
-pub begins : (before r : RowMatrix) (ks : List Link) → AreLinked before r → Begins before r ks
-begins before r [] linked = linked
-begins before r (k ∷ ks) linked = linked.last_long
+pub fits_first : (before r : RowMatrix) (ks : List Link) → AreLinked before r → FitsFirst before r ks
+fits_first before r [] linked = linked
+fits_first before r (k ∷ ks) linked = linked.last_long
 
 module _ (s : Signature) where
-  links_iff : (i : ℕ) (before r : RowMatrix) (ks : List Link) (f : RowMatrix × RowMatrix → Checked (Unit {0})) (P : RowMatrix → RowMatrix → Type 0) → Begins before r ks → All (IsLinkOf s) ks
+  links_iff : (i : ℕ) (before r : RowMatrix) (ks : List Link) (f : RowMatrix × RowMatrix → Checked (Unit {0})) (P : RowMatrix → RowMatrix → Type 0) → FitsFirst before r ks → All (IsLinkOf s) ks
       → ((b last : RowMatrix) → AreLinked b last → (f (b, last) ≡ Ok tt) ↔ P b last) → ((check_links unlimited s i before r ks >>= f) ≡ Ok tt) ↔ AreValidLinks s before r ks P
   unfolding check_links
   links_iff i before r [] f P linked of h = h before r linked
@@ -159,11 +159,11 @@ module _ (s : Signature) where
       let link = All-head (IsLinkOf s) k ks of in map_iff
       (nested (required (place.Header (section.Link i) Generators) reason.Shape (nat_eq k.l.cols (length r.rows))) _ f tt
       (required_iff (place.Header (section.Link i) Generators) reason.Shape (nat_eq k.l.cols (length r.rows)) _ tt (nat_eq_iff k.l.cols (length r.rows)) (λ columns.
-      nested (check_exact unlimited s (section.Link i) r (plain k.l) k.block) _ f tt
-      (goes_iff (check_exact unlimited s (section.Link i) r (plain k.l) k.block) _ tt
-      (exact_iff s (section.Link i) r (plain k.l) k.block long (subst (λ n. AreLong rationals n (rows_of k.l)) columns (wide_rows s k.l link.l)) link.block) (λ block.
-      links_iff (suc i) r (plain k.l) ks f P
-      (begins r (plain k.l) ks (record { before_long = long; last_long = wide_rows s k.l link.l; columns = columns })) (All-tail (IsLinkOf s) k ks of) h)))))
+      nested (check_exact unlimited s (section.Link i) r (row_matrix_of k.l) k.block) _ f tt
+      (goes_iff (check_exact unlimited s (section.Link i) r (row_matrix_of k.l) k.block) _ tt
+      (exact_iff s (section.Link i) r (row_matrix_of k.l) k.block long (subst (λ n. AreLong rationals n (rows_of k.l)) columns (wide_rows s k.l link.l)) link.block) (λ block.
+      links_iff (suc i) r (row_matrix_of k.l) ks f P
+      (fits_first r (row_matrix_of k.l) ks (record { before_long = long; last_long = wide_rows s k.l link.l; columns = columns })) (All-tail (IsLinkOf s) k ks of) h)))))
       (λ v. (v.0, v.1.0, v.1.1), λ v. (v.0, (v.1, v.2)))
 
   adjoints_exact : (before last : RowMatrix) → adjoints_of unlimited s (before, last) ≡ Ok (transposed_adjoint s last, transposed_adjoint s before)
@@ -179,7 +179,7 @@ module _ (s : Signature) where
     λ h. (row_lead-zero rationals s.order n r h, refl),
   )
 
-  module _ (r : RowMatrix) (links : List Link) (of : All (IsLinkOf s) links) (begun : Begins r r links) where
+  module _ (r : RowMatrix) (links : List Link) (of : All (IsLinkOf s) links) (begun : FitsFirst r r links) where
     resolution_iff : (check unlimited s r (Resolution links) tt ≡ Ok tt) ↔ IsValid s r (Resolution links)
     unfolding check
     resolution_iff = links_iff 0 r r links _ (λ before last. Unit {0}) begun of (λ before last linked. (λ h. tt, λ u. refl))
@@ -210,9 +210,9 @@ module _ (s : Signature) where
 
   -- ---- all kinds
 
-  pub begun_at : (r : RowMatrix) (links : List Link) → AreLong rationals r.cols r.rows → AreLinksOf s links → Begins r r links
-  begun_at r [] long of = let few = of.count.0 in absurd (omega arith)
-  begun_at r (k ∷ ks) long of = long
+  pub fits_first_at : (r : RowMatrix) (links : List Link) → AreLong rationals r.cols r.rows → AreLinksOf s links → FitsFirst r r links
+  fits_first_at r [] long of = let few = of.count.0 in absurd (omega arith)
+  fits_first_at r (k ∷ ks) long of = long
 
   pub check_valid : (r : RowMatrix) (c : Certificate) → AreLong rationals r.cols r.rows → IsCertificateOf s c → (claims : IsNoReport c) → (check unlimited s r c claims ≡ Ok tt) ↔ IsValid s r c
   check_valid r (Controllable q block) long of claims = controllable_iff s r long q block of.0 of.1
@@ -223,7 +223,7 @@ module _ (s : Signature) where
   check_valid r (NoRightInverse i block) long of claims = no_right_iff s r long i block of.1
   check_valid r (Kernel Left m block) long of claims = left_kernel_iff s r long m block of.0 of.1
   check_valid r (Kernel Right m block) long of claims = right_kernel_iff s r m block of.1
-  check_valid r (Resolution links) long of claims = resolution_iff r links of.all (begun_at r links long of)
-  check_valid r (ExtZero links block) long of claims = ext_zero_iff r links of.0.all (begun_at r links long of.0) block of.1
-  check_valid r (ExtNonzero links element block) long of claims = ext_nonzero_iff r links of.0.all (begun_at r links long of.0) element block of.2
+  check_valid r (Resolution links) long of claims = resolution_iff r links of.all (fits_first_at r links long of)
+  check_valid r (ExtZero links block) long of claims = ext_zero_iff r links of.0.all (fits_first_at r links long of.0) block of.1
+  check_valid r (ExtNonzero links element block) long of claims = ext_nonzero_iff r links of.0.all (fits_first_at r links long of.0) element block of.2
   check_valid r (Halted report) long of claims = absurd claims

@@ -25,19 +25,19 @@ use Rattle.ore_cert.specs.CertificateOf.{IsCertificateOf, AreLinksOf}
 use Rattle.ore_cert.specs.declared.certificate.Side.TheVariants.{Left, Right}
 use Rattle.ore_cert.specs.declared.certificate.Certificate.{Certificate}
 use Rattle.ore_cert.specs.declared.certificate.Certificate.TheVariants.{Controllable, AutonomousElement, LeftInverse, RightInverse, NoLeftInverse, NoRightInverse, Kernel, Resolution, ExtZero, ExtNonzero, Halted}
-use Rattle.ore_blocks.specs.CheckBlock.{RowMatrix, plain}
+use Rattle.ore_blocks.specs.CheckBlock.{RowMatrix, row_matrix_of}
 use Rattle.ore_blocks.specs.Valid.{IsValidExactFor, IsValidOutsideFor}
 use Rattle.ore_blocks.proofs.Converted.{rows_count, wide_rows}
 use Rattle.ore_blocks.proofs.ValidBlocks.{exact_shows, outside_shows}
 use Rattle.ore_check.specs.Meaning.{transposed_adjoint, IsExactFor, IsResolution, Means}
 use Rattle.ore_check.specs.Valid.{AreValidLinks, IsValid}
 use Rattle.ore_check.proofs.Inverses.{no_left_inverse, no_right_inverse}
-use Rattle.ore_check.proofs.ValidKinds.{AreLinked, Begins, begins, begun_at, adjoint_wide}
+use Rattle.ore_check.proofs.ValidKinds.{AreLinked, FitsFirst, fits_first, fits_first_at, adjoint_wide}
 
 module _ (s : Signature) (r : RowMatrix) (long : AreLong rationals r.cols r.rows) where
   controllable : (q : OperatorMatrix) (block : ExactBlock) → MatrixOf s q → IsExactOf s block → IsValid s r (Controllable q block) → Means s r (Controllable q block)
   controllable q block of blocks (rows, v) =
-      let exact = exact_shows s (plain q) r block (subst (λ n. AreLong rationals n r.rows) (sym (rows_count q ∙ rows)) long) blocks v in (
+      let exact = exact_shows s (row_matrix_of q) r block (subst (λ n. AreLong rationals n r.rows) (sym (rows_count q ∙ rows)) long) blocks v in (
         rows,
         exact,
         subst (λ n. IsTorsionFree rationals s n r.rows) (rows_count q ∙ rows) (Rows.torsion_free rationals s (lawful s) q.cols (rows_of q) r.rows (wide_rows s q of) exact),
@@ -63,31 +63,31 @@ module _ (s : Signature) (r : RowMatrix) (long : AreLong rationals r.cols r.rows
   without_right_inverse i block blocks (within, v) = no_right_inverse s r long i within (outside_shows s (transposed_adjoint s r) (unit_row rationals (length r.rows) i) block blocks v)
 
   left_kernel : (m : OperatorMatrix) (block : ExactBlock) → MatrixOf s m → IsExactOf s block → IsValid s r (Kernel Left m block) → Means s r (Kernel Left m block)
-  left_kernel m block of blocks (columns, v) = exact_shows s r (plain m) block (wide_for m of columns) blocks v
+  left_kernel m block of blocks (columns, v) = exact_shows s r (row_matrix_of m) block (wide_for m of columns) blocks v
 
   right_kernel : (m : OperatorMatrix) (block : ExactBlock) → IsExactOf s block → IsValid s r (Kernel Right m block) → Means s r (Kernel Right m block)
-  right_kernel m block blocks (rows, v) = (rows, exact_shows s (transposed_adjoint s r) (transposed_adjoint s (plain m)) block (adjoint_wide s r (plain m) (sym rows ∙ sym (rows_count m))) blocks v)
+  right_kernel m block blocks (rows, v) = (rows, exact_shows s (transposed_adjoint s r) (transposed_adjoint s (row_matrix_of m)) block (adjoint_wide s r (row_matrix_of m) (sym rows ∙ sym (rows_count m))) blocks v)
 
 module _ (s : Signature) where
-  links_resolve : (before r : RowMatrix) (ks : List Link) (P Q : RowMatrix → RowMatrix → Type 0) → Begins before r ks → All (IsLinkOf s) ks → ((b last : RowMatrix) → AreLinked b last → P b last → Q b last)
+  links_resolve : (before r : RowMatrix) (ks : List Link) (P Q : RowMatrix → RowMatrix → Type 0) → FitsFirst before r ks → All (IsLinkOf s) ks → ((b last : RowMatrix) → AreLinked b last → P b last → Q b last)
       → AreValidLinks s before r ks P → IsResolution s before r ks Q
   links_resolve before r [] P Q linked of h v = h before r linked v
   links_resolve before r (k ∷ ks) P Q long of h (columns, block, rest) =
       let link = All-head (IsLinkOf s) k ks of in
       let wide = subst (λ n. AreLong rationals n (rows_of k.l)) columns (wide_rows s k.l link.l) in (
-        exact_shows s r (plain k.l) k.block wide link.block block,
-        links_resolve r (plain k.l) ks P Q (begins r (plain k.l) ks (record { before_long = long; last_long = wide_rows s k.l link.l; columns = columns })) (All-tail (IsLinkOf s) k ks of) h rest,
+        exact_shows s r (row_matrix_of k.l) k.block wide link.block block,
+        links_resolve r (row_matrix_of k.l) ks P Q (fits_first r (row_matrix_of k.l) ks (record { before_long = long; last_long = wide_rows s k.l link.l; columns = columns })) (All-tail (IsLinkOf s) k ks of) h rest,
       )
 
   module _ (r : RowMatrix) (long : AreLong rationals r.cols r.rows) (links : List Link) (of : AreLinksOf s links) where
     resolution : IsValid s r (Resolution links) → Means s r (Resolution links)
-    resolution v = (of.count, links_resolve r r links (λ before last. Unit {0}) (λ before last. Unit {0}) (begun_at s r links long of) of.all (λ before last linked u. tt) v)
+    resolution v = (of.count, links_resolve r r links (λ before last. Unit {0}) (λ before last. Unit {0}) (fits_first_at s r links long of) of.all (λ before last linked u. tt) v)
 
     ext_zero : (block : ExactBlock) → IsExactOf s block → IsValid s r (ExtZero links block) → Means s r (ExtZero links block)
     ext_zero block blocks v = (
       of.count,
       links_resolve r r links (λ before last. IsValidExactFor s (transposed_adjoint s last) (transposed_adjoint s before) block) (λ before last. IsExactFor s (transposed_adjoint s last) (transposed_adjoint s before).rows)
-          (begun_at s r links long of) of.all
+          (fits_first_at s r links long of) of.all
           (λ before last linked b. exact_shows s (transposed_adjoint s last) (transposed_adjoint s before) block (adjoint_wide s last before linked.columns) blocks b) v,
     )
 
@@ -101,7 +101,7 @@ module _ (s : Signature) where
           (λ before last. (length element ≡ length before.rows)
           × (combine rationals s (length last.rows) (sums_of element) (transposed_adjoint s last).rows ≡ zero_row rationals (length last.rows))
           × ¬ InRowModule rationals s (length before.rows) (transposed_adjoint s before).rows (sums_of element))
-          (begun_at s r links long of) of.all
+          (fits_first_at s r links long of) of.all
           (λ before last linked b. (b.0, b.1, outside_shows s (transposed_adjoint s before) (sums_of element) block blocks b.2)) v,
     )
 

@@ -45,7 +45,7 @@ use Rattle.ore_cert.specs.declared.certificate.Certificate.TheVariants.{Controll
 use Rattle.ore_cert.specs.CertificateOf.{IsCertificateOf}
 use Rattle.ore_cert.specs.Storable.{IsStorableStep, AreStorableSteps, IsStorableEntry, IsStorableRow, IsStorableMatrix, IsStorableExact, IsStorableOutside, IsStorableLink, IsStorableCertificate}
 use Rattle.ore_cert.specs.WholeText.{IsWrittenOperator, IsWrittenLink, IsWrittenCertificate}
-use Rattle.ore_blocks.specs.CheckBlock.{RowMatrix, plain, dealt_pairs}
+use Rattle.ore_blocks.specs.CheckBlock.{RowMatrix, row_matrix_of, dealt_pairs}
 use Rattle.ore_blocks.specs.Valid.{IsValidExactFor, IsValidOutsideFor}
 use Rattle.ore_check.specs.Meaning.{transposed_adjoint}
 use Rattle.ore_check.specs.NonZeroSteps.{IsNonZeroStep, IsNonZeroEntry, nonzero, HasNonZeroSteps}
@@ -174,12 +174,12 @@ module _ (s : Signature) (names : List (List ℕ)) (are : AreNames names) (fit :
     links_written before r (k ∷ links) v of number h =
         let own = All-head (IsLinkOf s) k links of in
         let fits = All-head IsStorableLink k links h in
-        All-cons (IsWrittenLink s names) k links (record { l = matrix_written k.l own.l fits.l; block = exact_written r (plain k.l) k.block own.block v.1 number.0.block fits.block })
-        (links_written r (plain k.l) links v.2 (All-tail (IsLinkOf s) k links of) number.1 (All-tail IsStorableLink k links h))
+        All-cons (IsWrittenLink s names) k links (record { l = matrix_written k.l own.l fits.l; block = exact_written r (row_matrix_of k.l) k.block own.block v.1 number.0.block fits.block })
+        (links_written r (row_matrix_of k.l) links v.2 (All-tail (IsLinkOf s) k links of) number.1 (All-tail IsStorableLink k links h))
 
     links_end : (before r : RowMatrix) (links : List Link) → AreValidLinks s before r links P → (x : RowMatrix) × (y : RowMatrix) × P x y
     links_end before r [] v = (before, r, v)
-    links_end before r (k ∷ links) v = links_end r (plain k.l) links v.2
+    links_end before r (k ∷ links) v = links_end r (row_matrix_of k.l) links v.2
 
   -- ---- certificates
 
@@ -193,7 +193,7 @@ module _ (s : Signature) (names : List (List ℕ)) (are : AreNames names) (fit :
       × IsValidOutsideFor s (transposed_adjoint s before) (sums_of element) block
 
   written_by_kind : (r : RowMatrix) (c : Certificate) → IsCertificateOf s c → IsValid s r c → HasNonZeroSteps c → IsStorableCertificate c → IsWrittenCertificate s names c
-  written_by_kind r (Controllable q block) of v number h = (matrix_written q of.0 h.0, exact_written (plain q) r block of.1 v.1 number h.1)
+  written_by_kind r (Controllable q block) of v number h = (matrix_written q of.0 h.0, exact_written (row_matrix_of q) r block of.1 v.1 number h.1)
   written_by_kind r (AutonomousElement element operator cofactor block) of v number h =
       (row_written element of.0 h.0, operator_written operator of.1 h.1, row_written cofactor of.2 h.2, outside_written r (sums_of element) block of.3 v.4 number h.3)
   written_by_kind r (LeftInverse m) of v number h = matrix_written m of h
@@ -202,9 +202,9 @@ module _ (s : Signature) (names : List (List ℕ)) (are : AreNames names) (fit :
       (column_written unit r.cols block v.0 v.1.basis_columns h, outside_written r (unit_row rationals r.cols unit) block of.1 v.1 number h)
   written_by_kind r (NoRightInverse unit block) of v number h =
       (column_written unit (length r.rows) block v.0 v.1.basis_columns h, outside_written (transposed_adjoint s r) (unit_row rationals (length r.rows) unit) block of.1 v.1 number h)
-  written_by_kind r (Kernel Left generators block) of v number h = (matrix_written generators of.0 h.0, exact_written r (plain generators) block of.1 v.1 number h.1)
+  written_by_kind r (Kernel Left generators block) of v number h = (matrix_written generators of.0 h.0, exact_written r (row_matrix_of generators) block of.1 v.1 number h.1)
   written_by_kind r (Kernel Right generators block) of v number h =
-      (matrix_written generators of.0 h.0, exact_written (transposed_adjoint s r) (transposed_adjoint s (plain generators)) block of.1 v.1 number h.1)
+      (matrix_written generators of.0 h.0, exact_written (transposed_adjoint s r) (transposed_adjoint s (row_matrix_of generators)) block of.1 v.1 number h.1)
   written_by_kind r (Resolution links) of v number h = record { count = of.count; all = links_written (λ before last. Unit {0}) r r links v of.all number h }
   written_by_kind r (ExtZero links block) of v number h =
       let last = links_end (IsZeroEnd block) r r links v in (

@@ -31,7 +31,7 @@ use Rattle.ore_check.specs.declared.answer.Checked.{Checked as Answer}
 use Rattle.ore_check.specs.declared.answer.Checked.TheVariants as answer
 use Rattle.ore_blocks.specs.Conditions.{Checked, Trouble, Fails, Stops, formed, required, is_same}
 use Rattle.ore_algebra.specs.Results.{◌>>=◌}
-use Rattle.ore_blocks.specs.CheckBlock.{RowMatrix, plain, rows_give, are_zero, check_exact, check_outside}
+use Rattle.ore_blocks.specs.CheckBlock.{RowMatrix, row_matrix_of, rows_give, are_zero, check_exact, check_outside}
 use Rattle.ore_blocks.specs.KernelCourse.{transposed_adjoint_within}
 use Rattle.ore_blocks.specs.PlaceConditions.{same_row, same_rows}
 use Rattle.ore_blocks.specs.Same.{operator_discrete}
@@ -47,8 +47,8 @@ module _ (l : Limits) (s : Signature) where
   check_links i before r [] = Ok (before, r)
   check_links i before r (k ∷ ks) = do
     _ ← required (place.Header (section.Link i) Generators) reason.Shape (nat_eq k.l.cols (length r.rows))
-    _ ← check_exact l s (section.Link i) r (plain k.l) k.block
-    check_links (suc i) r (plain k.l) ks
+    _ ← check_exact l s (section.Link i) r (row_matrix_of k.l) k.block
+    check_links (suc i) r (row_matrix_of k.l) ks
 
   -- the adjoints of the last two matrices of a resolution, the last first
   unfoldable pub adjoints_of : RowMatrix × RowMatrix → Checked (RowMatrix × RowMatrix)
@@ -61,7 +61,7 @@ module _ (l : Limits) (s : Signature) where
   unfoldable pub check : RowMatrix → (c : Certificate) → IsNoReport c → Checked (Unit {0})
   check r (Controllable q block) claims = do
     _ ← required (place.Header section.Body Generators) reason.Shape (nat_eq (length q.rows) r.cols)
-    check_exact l s section.Body (plain q) r block
+    check_exact l s section.Body (row_matrix_of q) r block
   check r (AutonomousElement element operator cofactor block) claims = do
     _ ← required (place.Header section.Body Element) reason.Shape (nat_eq (length element) r.cols)
     _ ← required place.Operator reason.ZeroOperator (not (is_same operator_discrete operator.sum (empty_sum rationals plain_cmp)))
@@ -86,11 +86,11 @@ module _ (l : Limits) (s : Signature) where
     check_outside l s adjoint (unit_row rationals (length r.rows) unit) block
   check r (Kernel Left generators block) claims = do
     _ ← required (place.Header section.Body Generators) reason.Shape (nat_eq generators.cols (length r.rows))
-    check_exact l s section.Body r (plain generators) block
+    check_exact l s section.Body r (row_matrix_of generators) block
   check r (Kernel Right generators block) claims = do
     _ ← required (place.Header section.Body Generators) reason.Shape (nat_eq (length generators.rows) r.cols)
     adjoint ← formed (place.Block section.Body) (transposed_adjoint_within l s r)
-    generators_adjoint ← formed (place.Block section.Body) (transposed_adjoint_within l s (plain generators))
+    generators_adjoint ← formed (place.Block section.Body) (transposed_adjoint_within l s (row_matrix_of generators))
     check_exact l s section.Body adjoint generators_adjoint block
   check r (Resolution links) claims = do
     _ ← check_links 0 r r links

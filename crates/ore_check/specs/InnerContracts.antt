@@ -16,7 +16,7 @@ use Rattle.ore_monomial.specs.declared.stop.RingStop.{RingStop}
 use Rattle.ore_monomial.specs.declared.stop.RingStop.TheVariants as stop
 use Rattle.ore_rows.specs.Stored.{OperatorMatrix}
 use Rattle.ore_parts.specs.declared.block.Link.{Link}
-use Rattle.ore_blocks.specs.CheckBlock.{RowMatrix, plain, check_exact}
+use Rattle.ore_blocks.specs.CheckBlock.{RowMatrix, row_matrix_of, check_exact}
 use Rattle.ore_blocks.specs.Conditions.{Checked, required}
 use Rattle.ore_blocks.specs.declared.place.Name.TheVariants.{Generators}
 use Rattle.ore_blocks.specs.declared.place.Place.{Place}
@@ -64,13 +64,13 @@ matrix_before r (x ∷ ks) (suc k) = matrix_before x.l ks k
 
 -- the matrix before the last link, and that of the last link
 abbrev pub last_two : OperatorMatrix → List Link → RowMatrix × RowMatrix
-last_two r ks = (plain (matrix_before r ks (length ks - 1)), plain (matrix_before r ks (length ks)))
+last_two r ks = (row_matrix_of (matrix_before r ks (length ks - 1)), row_matrix_of (matrix_before r ks (length ks)))
 
 -- of link i, on the matrix before it
 unfoldable pub check_link : Limits → Signature → ℕ → RowMatrix → Link → Checked (Unit {0})
 check_link l s i before k = do
   _ ← required (Header (section.Link i) Generators) Shape (nat_eq k.l.cols (length before.rows))
-  check_exact l s (section.Link i) before (plain k.l) k.block
+  check_exact l s (section.Link i) before (row_matrix_of k.l) k.block
 
 -- equal, or past 2^64 - 1
 abbrev pub AreSameLine : ℕ → ℕ → Type 0

@@ -23,7 +23,7 @@ use Rattle.ore_cert.specs.EachKind.{IsLength}
 use Rattle.ore_cert.specs.declared.certificate.Side.TheVariants.{Left, Right}
 use Rattle.ore_cert.specs.declared.certificate.Certificate.{Certificate}
 use Rattle.ore_cert.specs.declared.certificate.Certificate.TheVariants.{Controllable, AutonomousElement, LeftInverse, RightInverse, NoLeftInverse, NoRightInverse, Kernel, Resolution, ExtZero, ExtNonzero, Halted}
-use Rattle.ore_blocks.specs.CheckBlock.{RowMatrix, plain}
+use Rattle.ore_blocks.specs.CheckBlock.{RowMatrix, row_matrix_of}
 use Rattle.ore_check.specs.Reports.{IsHonestReport}
 
 -- m has a row for each column of r and a column for each row
@@ -64,20 +64,20 @@ module _ (s : Signature) where
   -- the links resolve r; the last two matrices are these
   abbrev pub IsResolution : RowMatrix → RowMatrix → List Link → (RowMatrix → RowMatrix → Type 0) → Type 0
   IsResolution before r [] P = P before r
-  IsResolution before r (k ∷ ks) P = IsExactFor r (rows_of k.l) × IsResolution r (plain k.l) ks P
+  IsResolution before r (k ∷ ks) P = IsExactFor r (rows_of k.l) × IsResolution r (row_matrix_of k.l) ks P
 
   -- kind by kind, of the matrix r; of the two verdicts only what is printed in brief is looked at
   abbrev pub Means : RowMatrix → Certificate → Type 0
   -- the rows of q parametrise what r describes, and so nothing is torsion
-  Means r (Controllable q block) = (length q.rows ≡ r.cols) × IsExactFor (plain q) r.rows × IsTorsionFree rationals s r.cols r.rows
+  Means r (Controllable q block) = (length q.rows ≡ r.cols) × IsExactFor (row_matrix_of q) r.rows × IsTorsionFree rationals s r.cols r.rows
   Means r (AutonomousElement element operator cofactor block) = (operator.sum ≢ empty_sum rationals plain_cmp)
       × InRowModule rationals s r.cols r.rows (row_scale rationals s operator.sum (sums_of element)) × ¬ InRowModule rationals s r.cols r.rows (sums_of element)
-  Means r (LeftInverse m) = IsLeftInverse r (plain m)
-  Means r (RightInverse m) = IsRightInverse r (plain m)
+  Means r (LeftInverse m) = IsLeftInverse r (row_matrix_of m)
+  Means r (RightInverse m) = IsRightInverse r (row_matrix_of m)
   Means r (NoLeftInverse unit block) = ¬ HasLeftInverse r
   Means r (NoRightInverse unit block) = ¬ HasRightInverse r
   Means r (Kernel Left generators block) = IsExactFor r (rows_of generators)
-  Means r (Kernel Right generators block) = (length generators.rows ≡ r.cols) × IsExactFor (transposed_adjoint r) (transposed_adjoint (plain generators)).rows
+  Means r (Kernel Right generators block) = (length generators.rows ≡ r.cols) × IsExactFor (transposed_adjoint r) (transposed_adjoint (row_matrix_of generators)).rows
   Means r (Resolution links) = IsLength (length links) × IsResolution r r links (λ before last. Unit {0})
   Means r (ExtZero links block) = IsLength (length links) × IsResolution r r links (λ before last. IsExactFor (transposed_adjoint last) (transposed_adjoint before).rows)
   Means r (ExtNonzero links element block) = IsLength (length links) × IsResolution r r links (λ before last. (length element ≡ length before.rows)

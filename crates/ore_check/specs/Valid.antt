@@ -13,7 +13,7 @@ use Rattle.ore_parts.specs.declared.block.Link.{Link}
 use Rattle.ore_cert.specs.declared.certificate.Side.TheVariants.{Left, Right}
 use Rattle.ore_cert.specs.declared.certificate.Certificate.{Certificate}
 use Rattle.ore_cert.specs.declared.certificate.Certificate.TheVariants.{Controllable, AutonomousElement, LeftInverse, RightInverse, NoLeftInverse, NoRightInverse, Kernel, Resolution, ExtZero, ExtNonzero, Halted}
-use Rattle.ore_blocks.specs.CheckBlock.{RowMatrix, plain}
+use Rattle.ore_blocks.specs.CheckBlock.{RowMatrix, row_matrix_of}
 use Rattle.ore_blocks.specs.Valid.{IsValidExactFor, IsValidOutsideFor}
 use Rattle.ore_check.specs.Meaning.{IsLeftInverse, IsRightInverse, transposed_adjoint}
 
@@ -21,19 +21,19 @@ module _ (s : Signature) where
   -- the links that stand behind r, whose matrix is before it, have valid blocks; the last two matrices meet P
   abbrev pub AreValidLinks : RowMatrix → RowMatrix → List Link → (RowMatrix → RowMatrix → Type 0) → Type 0
   AreValidLinks before r [] P = P before r
-  AreValidLinks before r (k ∷ ks) P = (k.l.cols ≡ length r.rows) × IsValidExactFor s r (plain k.l) k.block × AreValidLinks r (plain k.l) ks P
+  AreValidLinks before r (k ∷ ks) P = (k.l.cols ≡ length r.rows) × IsValidExactFor s r (row_matrix_of k.l) k.block × AreValidLinks r (row_matrix_of k.l) ks P
 
   -- kind by kind, of the matrix r
   abbrev pub IsValid : RowMatrix → Certificate → Type 0
-  IsValid r (Controllable q block) = (length q.rows ≡ r.cols) × IsValidExactFor s (plain q) r block
+  IsValid r (Controllable q block) = (length q.rows ≡ r.cols) × IsValidExactFor s (row_matrix_of q) r block
   IsValid r (AutonomousElement element operator cofactor block) = (length element ≡ r.cols) × (operator.sum ≢ empty_sum rationals plain_cmp) × (length cofactor ≡ length r.rows)
       × (row_scale rationals s operator.sum (sums_of element) ≡ combine rationals s r.cols (sums_of cofactor) r.rows) × IsValidOutsideFor s r (sums_of element) block
-  IsValid r (LeftInverse m) = IsLeftInverse s r (plain m)
-  IsValid r (RightInverse m) = IsRightInverse s r (plain m)
+  IsValid r (LeftInverse m) = IsLeftInverse s r (row_matrix_of m)
+  IsValid r (RightInverse m) = IsRightInverse s r (row_matrix_of m)
   IsValid r (NoLeftInverse unit block) = (unit < r.cols) × IsValidOutsideFor s r (unit_row rationals r.cols unit) block
   IsValid r (NoRightInverse unit block) = (unit < length r.rows) × IsValidOutsideFor s (transposed_adjoint s r) (unit_row rationals (length r.rows) unit) block
-  IsValid r (Kernel Left generators block) = (generators.cols ≡ length r.rows) × IsValidExactFor s r (plain generators) block
-  IsValid r (Kernel Right generators block) = (length generators.rows ≡ r.cols) × IsValidExactFor s (transposed_adjoint s r) (transposed_adjoint s (plain generators)) block
+  IsValid r (Kernel Left generators block) = (generators.cols ≡ length r.rows) × IsValidExactFor s r (row_matrix_of generators) block
+  IsValid r (Kernel Right generators block) = (length generators.rows ≡ r.cols) × IsValidExactFor s (transposed_adjoint s r) (transposed_adjoint s (row_matrix_of generators)) block
   IsValid r (Resolution links) = AreValidLinks r r links (λ before last. Unit {0})
   IsValid r (ExtZero links block) = AreValidLinks r r links (λ before last. IsValidExactFor s (transposed_adjoint s last) (transposed_adjoint s before) block)
   IsValid r (ExtNonzero links element block) = AreValidLinks r r links (λ before last. (length element ≡ length before.rows)

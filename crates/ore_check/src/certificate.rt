@@ -17,7 +17,7 @@ ghost use Rattle.ore_check.specs.Check.{Answers, IsNoReport, capped, check};
 ghost use Rattle.ore_check.specs.InnerContracts.{place_of};
 ghost use Rattle.ore_check.specs.Meaning.{Means};
 ghost use Rattle.ore_check.specs.Layout.{exact_line, line_in, outside_line};
-ghost use Rattle.ore_blocks.specs.CheckBlock.{check_exact, check_outside, plain};
+ghost use Rattle.ore_blocks.specs.CheckBlock.{check_exact, check_outside, row_matrix_of};
 ghost use Rattle.ore_blocks.specs.Conditions as conditions;
 ghost use Rattle.ore_blocks.specs.Judging.{Judges, Refuses};
 
@@ -44,8 +44,8 @@ pub fn check<R: OreRing>(ring: &R, alloc: Global, r: &Matrix, cert: &Certificate
     requires of { All (AllBelong (R.sig ring.now)) r.now.rows }
     requires cert_of { IsCertificateOf (R.sig ring.now) cert.now }
     requires claims { IsNoReport cert.now }
-    ensures answers { (claims : IsNoReport cert.now) → Answers (line_in cert.now) result (check program (R.sig ring.now) (plain r.now) cert.now claims) }
-    ensures valid { result ≡ Checked.Valid → Means (R.sig ring.now) (plain r.now) cert.now }
+    ensures answers { (claims : IsNoReport cert.now) → Answers (line_in cert.now) result (check program (R.sig ring.now) (row_matrix_of r.now) cert.now claims) }
+    ensures valid { result ≡ Checked.Valid → Means (R.sig ring.now) (row_matrix_of r.now) cert.now }
 {
     let _cols = r.cols();
     let Err(refusal) = whole(ring, alloc, r, cert) else {
@@ -70,7 +70,7 @@ pub fn check_exact<R: OreRing>(
     requires a_of { All (AllBelong (R.sig ring.now)) a.now.rows }
     requires l_of { All (AllBelong (R.sig ring.now)) l.now.rows }
     requires block_of { IsExactOf (R.sig ring.now) block.now }
-    ensures answers { Answers (exact_line first block.now) result (check_exact program (R.sig ring.now) Section.Body (plain a.now) (plain l.now) block.now) }
+    ensures answers { Answers (exact_line first block.now) result (check_exact program (R.sig ring.now) Section.Body (row_matrix_of a.now) (row_matrix_of l.now) block.now) }
     ensures exact { result ≡ Checked.Valid → IsExact rationals (R.sig ring.now) a.now.cols (rows_of a.now) (rows_of l.now) }
 {
     let _cols = a.cols();
@@ -98,7 +98,7 @@ pub fn check_outside<R: OreRing>(
     requires a_of { All (AllBelong (R.sig ring.now)) a.now.rows }
     requires w_of { AllBelong (R.sig ring.now) w.now }
     requires block_of { IsOutsideOf (R.sig ring.now) block.now }
-    ensures answers { Answers (outside_line first block.now) result (check_outside program (R.sig ring.now) (plain a.now) (sums_of w.now) block.now) }
+    ensures answers { Answers (outside_line first block.now) result (check_outside program (R.sig ring.now) (row_matrix_of a.now) (sums_of w.now) block.now) }
     ensures outside { result ≡ Checked.Valid → ¬ InRowModule rationals (R.sig ring.now) a.now.cols (rows_of a.now) (sums_of w.now) }
 {
     match outside_block(ring, alloc, a, w, block) {
@@ -154,7 +154,7 @@ fn whole<R: OreRing>(ring: &R, alloc: Global, r: &Matrix, cert: &Certificate) ->
     requires of { All (AllBelong (R.sig ring.now)) r.now.rows }
     requires cert_of { IsCertificateOf (R.sig ring.now) cert.now }
     requires claims { IsNoReport cert.now }
-    ensures { (claims : IsNoReport cert.now) → Judges (λ u. u) result (check program (R.sig ring.now) (plain r.now) cert.now claims) }
+    ensures { (claims : IsNoReport cert.now) → Judges (λ u. u) result (check program (R.sig ring.now) (row_matrix_of r.now) cert.now claims) }
 {
     match cert {
         Certificate::Controllable { q, block } => controllable(ring, alloc, r, q, block),
@@ -197,7 +197,7 @@ fn controllable<R: OreRing>(
     requires of { All (AllBelong (R.sig ring.now)) r.now.rows }
     requires q_of { MatrixOf (R.sig ring.now) q.now }
     requires block_of { IsExactOf (R.sig ring.now) block.now }
-    ensures { Judges (λ u. u) result (check program (R.sig ring.now) (plain r.now) (Certificate.Controllable q.now block.now) tt) }
+    ensures { Judges (λ u. u) result (check program (R.sig ring.now) (row_matrix_of r.now) (Certificate.Controllable q.now block.now) tt) }
 {
     required(
         Place::Header(Section::Body, Name::Generators),
@@ -222,7 +222,7 @@ fn autonomous<R: OreRing>(
     requires operator_of { Belongs (R.sig ring.now) operator.now }
     requires cofactor_of { AllBelong (R.sig ring.now) cofactor.now }
     requires block_of { IsOutsideOf (R.sig ring.now) block.now }
-    ensures { Judges (λ u. u) result (check program (R.sig ring.now) (plain r.now) (Certificate.AutonomousElement element.now operator.now cofactor.now block.now) tt) }
+    ensures { Judges (λ u. u) result (check program (R.sig ring.now) (row_matrix_of r.now) (Certificate.AutonomousElement element.now operator.now cofactor.now block.now) tt) }
 {
     required(
         Place::Header(Section::Body, Name::Element),
@@ -253,7 +253,7 @@ fn is_nonzero(operator: &Op) -> bool
 fn left_inverse<R: OreRing>(ring: &R, alloc: Global, r: &Matrix, s: &Matrix) -> Result<(), Refusal>
     requires of { All (AllBelong (R.sig ring.now)) r.now.rows }
     requires s_of { MatrixOf (R.sig ring.now) s.now }
-    ensures { Judges (λ u. u) result (check program (R.sig ring.now) (plain r.now) (Certificate.LeftInverse s.now) tt) }
+    ensures { Judges (λ u. u) result (check program (R.sig ring.now) (row_matrix_of r.now) (Certificate.LeftInverse s.now) tt) }
 {
     required(
         Place::Header(Section::Body, Name::Inverse),
@@ -277,7 +277,7 @@ fn left_inverse<R: OreRing>(ring: &R, alloc: Global, r: &Matrix, s: &Matrix) -> 
 fn right_inverse<R: OreRing>(ring: &R, alloc: Global, r: &Matrix, s: &Matrix) -> Result<(), Refusal>
     requires of { All (AllBelong (R.sig ring.now)) r.now.rows }
     requires s_of { MatrixOf (R.sig ring.now) s.now }
-    ensures { Judges (λ u. u) result (check program (R.sig ring.now) (plain r.now) (Certificate.RightInverse s.now) tt) }
+    ensures { Judges (λ u. u) result (check program (R.sig ring.now) (row_matrix_of r.now) (Certificate.RightInverse s.now) tt) }
 {
     required(
         Place::Header(Section::Body, Name::Inverse),
@@ -303,7 +303,7 @@ fn no_left_inverse<R: OreRing>(
 ) -> Result<(), Refusal>
     requires of { All (AllBelong (R.sig ring.now)) r.now.rows }
     requires block_of { IsOutsideOf (R.sig ring.now) block.now }
-    ensures { Judges (λ u. u) result (check program (R.sig ring.now) (plain r.now) (Certificate.NoLeftInverse unit block.now) tt) }
+    ensures { Judges (λ u. u) result (check program (R.sig ring.now) (row_matrix_of r.now) (Certificate.NoLeftInverse unit block.now) tt) }
 {
     required(Place::Unit, Reason::Unit, unit < r.cols())?;
     let row = unit_row(alloc, ring.signature(), r.cols(), unit)?;
@@ -320,7 +320,7 @@ fn no_right_inverse<R: OreRing>(
 ) -> Result<(), Refusal>
     requires of { All (AllBelong (R.sig ring.now)) r.now.rows }
     requires block_of { IsOutsideOf (R.sig ring.now) block.now }
-    ensures { Judges (λ u. u) result (check program (R.sig ring.now) (plain r.now) (Certificate.NoRightInverse unit block.now) tt) }
+    ensures { Judges (λ u. u) result (check program (R.sig ring.now) (row_matrix_of r.now) (Certificate.NoRightInverse unit block.now) tt) }
 {
     required(Place::Unit, Reason::Unit, unit < r.rows())?;
     let adjoint = transposed_adjoint(ring, alloc, Place::Block(Section::Body), r)?;
@@ -341,7 +341,7 @@ fn kernel<R: OreRing>(
     requires of { All (AllBelong (R.sig ring.now)) r.now.rows }
     requires generators_of { MatrixOf (R.sig ring.now) generators.now }
     requires block_of { IsExactOf (R.sig ring.now) block.now }
-    ensures { Judges (λ u. u) result (check program (R.sig ring.now) (plain r.now) (Certificate.Kernel side generators.now block.now) tt) }
+    ensures { Judges (λ u. u) result (check program (R.sig ring.now) (row_matrix_of r.now) (Certificate.Kernel side generators.now block.now) tt) }
 {
     let header = Place::Header(Section::Body, Name::Generators);
     match side {

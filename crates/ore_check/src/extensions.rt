@@ -8,7 +8,7 @@ ghost use Rattle.ore_rows.specs.Stored.{sums_of};
 ghost use Rattle.ore_parts.specs.OfSignature.{IsExactOf, IsOutsideOf};
 ghost use Rattle.ore_cert.specs.CertificateOf.{AreLinksOf};
 ghost use Rattle.ore_cert.specs.declared.certificate.Certificate.{Certificate};
-ghost use Rattle.ore_blocks.specs.CheckBlock.{are_zero, plain};
+ghost use Rattle.ore_blocks.specs.CheckBlock.{are_zero, row_matrix_of};
 ghost use Rattle.ore_blocks.specs.Judging.{Judges};
 ghost use Rattle.ore_check.specs.Check.{check};
 
@@ -37,7 +37,7 @@ pub fn resolution<R: OreRing>(
 ) -> Result<(), Refusal>
     requires of { All (AllBelong (R.sig ring.now)) r.now.rows }
     requires links_of { AreLinksOf (R.sig ring.now) links.now }
-    ensures { Judges (λ u. u) result (check program (R.sig ring.now) (plain r.now) (Certificate.Resolution links.now) tt) }
+    ensures { Judges (λ u. u) result (check program (R.sig ring.now) (row_matrix_of r.now) (Certificate.Resolution links.now) tt) }
 {
     check_links(ring, alloc, r, links)?;
     Ok(())
@@ -58,7 +58,7 @@ pub fn extension_zero<R: OreRing>(
     requires of { All (AllBelong (R.sig ring.now)) r.now.rows }
     requires links_of { AreLinksOf (R.sig ring.now) links.now }
     requires block_of { IsExactOf (R.sig ring.now) block.now }
-    ensures { Judges (λ u. u) result (check program (R.sig ring.now) (plain r.now) (Certificate.ExtZero links.now block.now) tt) }
+    ensures { Judges (λ u. u) result (check program (R.sig ring.now) (row_matrix_of r.now) (Certificate.ExtZero links.now block.now) tt) }
 {
     check_links(ring, alloc, r, links)?;
     let before = matrix_before(r, links, links.len() - 1);
@@ -85,7 +85,7 @@ pub fn extension_nonzero<R: OreRing>(
     requires links_of { AreLinksOf (R.sig ring.now) links.now }
     requires element_of { AllBelong (R.sig ring.now) element.now }
     requires block_of { IsOutsideOf (R.sig ring.now) block.now }
-    ensures { Judges (λ u. u) result (check program (R.sig ring.now) (plain r.now) (Certificate.ExtNonzero links.now element.now block.now) tt) }
+    ensures { Judges (λ u. u) result (check program (R.sig ring.now) (row_matrix_of r.now) (Certificate.ExtNonzero links.now element.now block.now) tt) }
 {
     check_links(ring, alloc, r, links)?;
     let before = matrix_before(r, links, links.len() - 1);

@@ -6,7 +6,7 @@ ghost use Rattle.ore_algebra.specs.Limits.{program};
 ghost use Rattle.ore_ring.specs.Belongs.{AllBelong, Belongs};
 ghost use Rattle.ore_rows.specs.RowsWithin.{scale_within};
 ghost use Rattle.ore_rows.specs.Stored.{sums_of};
-ghost use Rattle.ore_blocks.specs.CheckBlock.{plain};
+ghost use Rattle.ore_blocks.specs.CheckBlock.{row_matrix_of};
 ghost use Rattle.ore_blocks.specs.Conditions.{formed};
 ghost use Rattle.ore_blocks.specs.Judging.{Judges};
 ghost use Rattle.ore_blocks.specs.KernelCourse.{transposed_adjoint_within};
@@ -50,7 +50,7 @@ pub fn transposed_adjoint<R: OreRing>(
     m: &Matrix,
 ) -> Result<Matrix, Refusal>
     requires of { All (AllBelong (R.sig ring.now)) m.now.rows }
-    ensures judges { Judges plain result (formed place (transposed_adjoint_within program (R.sig ring.now) (plain m.now))) }
+    ensures judges { Judges row_matrix_of result (formed place (transposed_adjoint_within program (R.sig ring.now) (row_matrix_of m.now))) }
     ensures cols { IfOk result (λ t. t.cols ≡ length m.now.rows) }
     ensures count { IfOk result (λ t. length t.rows ≡ m.now.cols) }
     ensures of { IfOk result (λ t. All (AllBelong (R.sig ring.now)) t.rows) }

@@ -6,7 +6,7 @@ ghost use Rattle.ore_algebra.specs.Limits.{program};
 ghost use Rattle.ore_monomial.specs.Gives.{Gives};
 ghost use Rattle.ore_ring.specs.Belongs.{AllBelong};
 ghost use Rattle.ore_cert.specs.CertificateOf.{IsCertificateOf};
-ghost use Rattle.ore_blocks.specs.CheckBlock.{plain};
+ghost use Rattle.ore_blocks.specs.CheckBlock.{row_matrix_of};
 ghost use Rattle.ore_check.specs.Check.{IsNoReport, check};
 ghost use Rattle.ore_check.specs.InnerContracts.{answer_stop};
 ghost use Rattle.ore_check.specs.Plans.{IsFormed, formed_as};
@@ -35,7 +35,7 @@ pub fn certify<R: OreRing>(
     requires of { All (AllBelong (R.sig ring.now)) r.now.rows }
     requires cert_of { IsCertificateOf (R.sig ring.now) cert }
     requires claims { IsNoReport cert }
-    ensures formed { IsFormed (R.sig ring.now) (plain r.now) cert result }
+    ensures formed { IsFormed (R.sig ring.now) (row_matrix_of r.now) cert result }
     ensures same { IfOk result (λ c. c ≡ cert) }
 {
     form_identities(ring, alloc, r, &cert)?;
@@ -52,7 +52,7 @@ fn form_identities<R: OreRing>(
     requires of { All (AllBelong (R.sig ring.now)) r.now.rows }
     requires cert_of { IsCertificateOf (R.sig ring.now) cert.now }
     requires claims { IsNoReport cert.now }
-    ensures formed { (claims : IsNoReport cert.now) → Gives (λ _. cert.now) result (formed_as cert.now (check program (R.sig ring.now) (plain r.now) cert.now claims)) }
+    ensures formed { (claims : IsNoReport cert.now) → Gives (λ _. cert.now) result (formed_as cert.now (check program (R.sig ring.now) (row_matrix_of r.now) cert.now claims)) }
 {
     answer_stop(check(ring, alloc, r, cert))
 }

@@ -5,7 +5,7 @@ ghost use Rattle.std.specs.List.{All};
 ghost use Rattle.ore_algebra.specs.Limits.{program};
 ghost use Rattle.ore_ring.specs.Belongs.{AllBelong};
 ghost use Rattle.ore_parts.specs.OfSignature.{IsLinkOf};
-ghost use Rattle.ore_blocks.specs.CheckBlock.{plain};
+ghost use Rattle.ore_blocks.specs.CheckBlock.{row_matrix_of};
 ghost use Rattle.ore_blocks.specs.Judging.{Judges};
 ghost use Rattle.ore_check.specs.Check.{adjoints_of, check_links};
 ghost use Rattle.ore_check.specs.InnerContracts.{check_link, last_two, matrix_before};
@@ -30,7 +30,7 @@ pub fn check_links<R: OreRing>(
 ) -> Result<(), Refusal>
     requires of { All (AllBelong (R.sig ring.now)) r.now.rows }
     requires links_of { All (IsLinkOf (R.sig ring.now)) links.now }
-    ensures judges { Judges (λ _. last_two r.now links.now) result (check_links program (R.sig ring.now) 0 (plain r.now) (plain r.now) links.now) }
+    ensures judges { Judges (λ _. last_two r.now links.now) result (check_links program (R.sig ring.now) 0 (row_matrix_of r.now) (row_matrix_of r.now) links.now) }
     ensures fits { IfOk result (λ _. 1 ≤ length links.now → (matrix_before r.now links.now (length links.now)).cols ≡ length (matrix_before r.now links.now (length links.now - 1)).rows) }
 {
     for i in 0..links.len() {
@@ -50,7 +50,7 @@ fn check_link<R: OreRing>(
 ) -> Result<(), Refusal>
     requires of { All (AllBelong (R.sig ring.now)) before.now.rows }
     requires link_of { IsLinkOf (R.sig ring.now) link.now }
-    ensures judges { Judges (λ u. u) result (check_link program (R.sig ring.now) i (plain before.now) link.now) }
+    ensures judges { Judges (λ u. u) result (check_link program (R.sig ring.now) i (row_matrix_of before.now) link.now) }
     ensures fits { IfOk result (λ _. link.now.l.cols ≡ length before.now.rows) }
 {
     required(
@@ -82,7 +82,7 @@ pub fn adjoints_of<R: OreRing>(
 ) -> Result<(Matrix, Matrix), Refusal>
     requires before_of { All (AllBelong (R.sig ring.now)) before.now.rows }
     requires last_of { All (AllBelong (R.sig ring.now)) last.now.rows }
-    ensures judges { Judges (λ p. (plain p.0, plain p.1)) result (adjoints_of program (R.sig ring.now) (plain before.now, plain last.now)) }
+    ensures judges { Judges (λ p. (row_matrix_of p.0, row_matrix_of p.1)) result (adjoints_of program (R.sig ring.now) (row_matrix_of before.now, row_matrix_of last.now)) }
     ensures fits { IfOk result (λ p. last.now.cols ≡ length before.now.rows → p.1.cols ≡ length p.0.rows) }
     ensures of { IfOk result (λ p. All (AllBelong (R.sig ring.now)) p.0.rows × All (AllBelong (R.sig ring.now)) p.1.rows) }
 {

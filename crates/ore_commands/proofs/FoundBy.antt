@@ -29,7 +29,7 @@ use Rattle.ore_pairs.specs.Runner.{runner_within}
 use Rattle.ore_cert.specs.declared.certificate.Certificate.{Certificate}
 use Rattle.ore_cert.specs.declared.report.Plan.{Plan}
 use Rattle.ore_cert.specs.declared.report.Plan.TheVariants as plan
-use Rattle.ore_blocks.specs.CheckBlock.{RowMatrix, plain}
+use Rattle.ore_blocks.specs.CheckBlock.{RowMatrix, row_matrix_of}
 use Rattle.ore_blocks.specs.KernelCourse.{transposed_adjoint_within}
 use Rattle.ore_groebner.specs.Choosing.{Settings, AreWithinBudget}
 use Rattle.ore_groebner.specs.Courses.{FollowsTo, halt_in_course}
@@ -95,39 +95,39 @@ module _ (s : Signature) (allows : BasisLeads → List (ℕ × ℕ) → Choice �
   abbrev rule : Rule (RunState rationals) Choice
   rule = rule_of s allows allows_spent
 
-  begun : Follows runner rule (adjoint_course program s (plain r)) before before (adjoint_course program s (plain r))
-  begun = started runner rule (adjoint_course program s (plain r)) before
+  begun : Follows runner rule (adjoint_course program s (row_matrix_of r)) before before (adjoint_course program s (row_matrix_of r))
+  begun = started runner rule (adjoint_course program s (row_matrix_of r)) before
 
   module _ (answer : Result OperatorMatrix RingStop) (result : Result Found Halt) (is : result ≡ transposed_of answer) where
-    pub transposed-correct : (asked : Plan) → IfOk answer (λ m. All (AllBelong s) m.rows) → IfOk result (IsCorrectFound s (plain r) asked)
-    transposed-correct asked h = subst (λ x. IfOk x (IsCorrectFound s (plain r) asked)) (sym is) (by answer h)
+    pub transposed-correct : (asked : Plan) → IfOk answer (λ m. All (AllBelong s) m.rows) → IfOk result (IsCorrectFound s (row_matrix_of r) asked)
+    transposed-correct asked h = subst (λ x. IfOk x (IsCorrectFound s (row_matrix_of r) asked)) (sym is) (by answer h)
       where
-        by : (answer : Result OperatorMatrix RingStop) → IfOk answer (λ m. All (AllBelong s) m.rows) → IfOk (transposed_of answer) (IsCorrectFound s (plain r) asked)
+        by : (answer : Result OperatorMatrix RingStop) → IfOk answer (λ m. All (AllBelong s) m.rows) → IfOk (transposed_of answer) (IsCorrectFound s (row_matrix_of r) asked)
         by (Ok m) h = h
         by (Err stop) h = tt
 
     module _ (asked : Plan) (same : asked ≡ plan.Adjoint) (gives : Gives rows_of answer (transpose_adjoint_within program s r.cols (rows_of r))) where
-      pub transposed-found : IfOk answer (λ m. m.cols ≡ length r.rows) → IfOk result (IsFoundBy s (plain r) allows allows_spent asked before before)
-      transposed-found cols = subst (λ (plan : Plan). IfOk result (IsFoundBy s (plain r) allows allows_spent plan before before)) (sym same)
-          (subst (λ x. IfOk x (IsFoundBy s (plain r) allows allows_spent plan.Adjoint before before)) (sym is) (by answer gives cols))
+      pub transposed-found : IfOk answer (λ m. m.cols ≡ length r.rows) → IfOk result (IsFoundBy s (row_matrix_of r) allows allows_spent asked before before)
+      transposed-found cols = subst (λ (plan : Plan). IfOk result (IsFoundBy s (row_matrix_of r) allows allows_spent plan before before)) (sym same)
+          (subst (λ x. IfOk x (IsFoundBy s (row_matrix_of r) allows allows_spent plan.Adjoint before before)) (sym is) (by answer gives cols))
         where
           by : (answer : Result OperatorMatrix RingStop) → Gives rows_of answer (transpose_adjoint_within program s r.cols (rows_of r)) → IfOk answer (λ m. m.cols ≡ length r.rows)
-              → IfOk (transposed_of answer) (IsFoundBy s (plain r) allows allows_spent plan.Adjoint before before)
+              → IfOk (transposed_of answer) (IsFoundBy s (row_matrix_of r) allows allows_spent plan.Adjoint before before)
           by (Ok m) gives cols =
               let x : RowMatrix = record { cols = length (rows_of r); rows = rows_of m } in (
                 x,
-                worked_last runner rule (transposed_adjoint_within program s (plain r)) x (adjoint_value s (plain r) (rows_of m) gives) begun,
+                worked_last runner rule (transposed_adjoint_within program s (row_matrix_of r)) x (adjoint_value s (row_matrix_of r) (rows_of m) gives) begun,
                 λ i. record { cols = (length-map r.rows sums_of ∙ sym cols) i; rows = rows_of m },
               )
           by (Err stop) gives cols = tt
 
-      pub transposed-halts : (settings : Settings) → IfErr result (IsHaltedBy s (plain r) allows allows_spent asked before before settings)
-      transposed-halts settings = subst (λ (plan : Plan). IfErr result (IsHaltedBy s (plain r) allows allows_spent plan before before settings)) (sym same)
-          (subst (λ x. IfErr x (IsHaltedBy s (plain r) allows allows_spent plan.Adjoint before before settings)) (sym is) (by answer gives))
+      pub transposed-halts : (settings : Settings) → IfErr result (IsHaltedBy s (row_matrix_of r) allows allows_spent asked before before settings)
+      transposed-halts settings = subst (λ (plan : Plan). IfErr result (IsHaltedBy s (row_matrix_of r) allows allows_spent plan before before settings)) (sym same)
+          (subst (λ x. IfErr x (IsHaltedBy s (row_matrix_of r) allows allows_spent plan.Adjoint before before settings)) (sym is) (by answer gives))
         where
-          by : (answer : Result OperatorMatrix RingStop) → Gives rows_of answer (transpose_adjoint_within program s r.cols (rows_of r)) → IfErr (transposed_of answer) (IsHaltedBy s (plain r) allows allows_spent plan.Adjoint before before settings)
+          by : (answer : Result OperatorMatrix RingStop) → Gives rows_of answer (transpose_adjoint_within program s r.cols (rows_of r)) → IfErr (transposed_of answer) (IsHaltedBy s (row_matrix_of r) allows allows_spent plan.Adjoint before before settings)
           by (Ok m) gives = tt
-          by (Err stop) gives = work_halts_last s allows allows_spent before settings (transposed_adjoint_within program s (plain r)) stop (adjoint_stop s (plain r) stop gives) begun
+          by (Err stop) gives = work_halts_last s allows allows_spent before settings (transposed_adjoint_within program s (row_matrix_of r)) stop (adjoint_stop s (row_matrix_of r) stop gives) begun
 
 -- a search that began with no runs
 pub search-reported : (s : Signature) (r : RowMatrix) (allows : BasisLeads → List (ℕ × ℕ) → Choice → Bool) (allows_spent : BasisLeads → List (ℕ × ℕ) → Bool) (named : Plan) (before given : List (List Choice)) (old settings : Settings)

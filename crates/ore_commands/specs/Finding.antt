@@ -38,7 +38,7 @@ use Rattle.ore_cert.specs.declared.report.Cause.TheVariants as cause
 use Rattle.ore_cert.specs.declared.report.Plan.{Plan}
 use Rattle.ore_cert.specs.declared.report.Plan.TheVariants as plan
 use Rattle.ore_cert.specs.declared.report.Report.{Report}
-use Rattle.ore_blocks.specs.CheckBlock.{RowMatrix, plain}
+use Rattle.ore_blocks.specs.CheckBlock.{RowMatrix, row_matrix_of}
 use Rattle.ore_check.specs.Meaning.{transposed_adjoint}
 use Rattle.ore_check.specs.PlanLaws.{IsCorrect}
 use Rattle.ore_check.specs.Plans.{AnswerOf}
@@ -138,7 +138,7 @@ module _ (p : System) where
   -- of a certificate, or of the problem with another matrix
   abbrev pub found_text : Bool → Found → List ℕ
   found_text brief (Certified c) = shown_text brief c
-  found_text brief (Transposed m) = text_with_matrix (plain m)
+  found_text brief (Transposed m) = text_with_matrix (row_matrix_of m)
 
   -- ---- replies
 

@@ -23,7 +23,7 @@ use Rattle.ore_cert.specs.declared.certificate.Certificate.{Certificate}
 use Rattle.ore_cert.specs.Storable.{IsStorableCertificate}
 use Rattle.ore_cert.specs.declared.report.Plan.{Plan}
 use Rattle.ore_cert.specs.declared.report.Plan.TheVariants as plan
-use Rattle.ore_blocks.specs.CheckBlock.{RowMatrix, plain}
+use Rattle.ore_blocks.specs.CheckBlock.{RowMatrix, row_matrix_of}
 use Rattle.ore_groebner.specs.Choosing.{Settings}
 use Rattle.ore_groebner.specs.Courses.{FollowsTo, HaltsIn}
 use Rattle.ore_groebner.specs.Courses.{halt_in_course as course_halt}
@@ -66,7 +66,7 @@ IsFoundOf plan.InverseLeft x (Transposed m) = ⊥
 IsFoundOf plan.InverseRight x (Transposed m) = ⊥
 IsFoundOf (plan.Resolve k) x (Transposed m) = ⊥
 IsFoundOf (plan.Ext k) x (Transposed m) = ⊥
-IsFoundOf plan.Adjoint x (Transposed m) = x ≡ plain m
+IsFoundOf plan.Adjoint x (Transposed m) = x ≡ row_matrix_of m
 
 -- of plan analyse, one of the two verdicts; of an inverse, it or that there is none; of a resolution, one with so many links;
 -- of an extension module, that it is zero or isn't, behind so many links

@@ -4,7 +4,7 @@ ghost use Rattle.std.specs.Prelude.{◌≡◌, [], IfOk, IfErr};
 ghost use Rattle.std.specs.List.{All};
 ghost use Rattle.ore_cert.specs.WholeText.{IsWrittenPlan};
 ghost use Rattle.ore_ring.specs.Belongs.{AllBelong};
-ghost use Rattle.ore_blocks.specs.CheckBlock.{plain};
+ghost use Rattle.ore_blocks.specs.CheckBlock.{row_matrix_of};
 ghost use Rattle.ore_groebner.specs.Choosing.{AreWithinBudget};
 ghost use Rattle.ore_commands.specs.Search.{IsFoundBy, IsHaltedBy, IsReportedBy, IsCorrectFound, certified_of, transposed_of};
 
@@ -38,11 +38,11 @@ pub fn find<R: OreRing, C: Chooser>(
     requires plan { IsWrittenPlan plan }
     requires of { All (AllBelong (R.sig ring.now)) r.now.rows }
     // It is right and of the plan, and what the plan answers by the choices given; or these lead the plan to the halt.
-    ensures correct { IfOk result (IsCorrectFound (R.sig ring.now) (plain r.now) plan) }
-    ensures answered { IfOk result (IsFoundBy (R.sig ring.now) (plain r.now) C.allows C.allows_spent plan (C.given chooser.old) (C.given chooser.new)) }
-    ensures halts { IfErr result (IsHaltedBy (R.sig ring.now) (plain r.now) C.allows C.allows_spent plan (C.given chooser.old) (C.given chooser.new) (C.settings chooser.new)) }
+    ensures correct { IfOk result (IsCorrectFound (R.sig ring.now) (row_matrix_of r.now) plan) }
+    ensures answered { IfOk result (IsFoundBy (R.sig ring.now) (row_matrix_of r.now) C.allows C.allows_spent plan (C.given chooser.old) (C.given chooser.new)) }
+    ensures halts { IfErr result (IsHaltedBy (R.sig ring.now) (row_matrix_of r.now) C.allows C.allows_spent plan (C.given chooser.old) (C.given chooser.new) (C.settings chooser.new)) }
     // Where the chooser began with no runs, the report of the halt is honest by its rule and within its budget.
-    ensures reported { C.given chooser.old ≡ [] → IfErr result (IsReportedBy (R.sig ring.now) (plain r.now) C.allows C.allows_spent plan (C.given chooser.new) (C.settings chooser.new).budget) }
+    ensures reported { C.given chooser.old ≡ [] → IfErr result (IsReportedBy (R.sig ring.now) (row_matrix_of r.now) C.allows C.allows_spent plan (C.given chooser.new) (C.settings chooser.new).budget) }
     ensures within_budget { AreWithinBudget (C.given chooser.old) (C.settings chooser.old).budget → AreWithinBudget (C.given chooser.new) (C.settings chooser.new).budget }
     ensures settings { C.settings chooser.new ≡ C.settings chooser.old }
 {

@@ -14,7 +14,7 @@ ghost use Rattle.ore_course.specs.Replaying.{passed_of, replayed, stop_decided};
 ghost use Rattle.ore_pairs.specs.Runner.{treats_pair};
 ghost use Rattle.ore_rows.specs.declared.choices.Choice as rows;
 ghost use Rattle.ore_cert.specs.CourseReport.{course_report, reported_as, stop_as};
-ghost use Rattle.ore_blocks.specs.CheckBlock.{plain};
+ghost use Rattle.ore_blocks.specs.CheckBlock.{row_matrix_of};
 ghost use Rattle.ore_check.specs.Check.{capped};
 ghost use Rattle.ore_check.specs.Reports as reports;
 ghost use Rattle.ore_commands.specs.ReportAnswers.{answer_to, end_of, line_at};
@@ -36,8 +36,8 @@ use std::alloc::Global;
 pub fn check_report<R: OreRing>(ring: &R, alloc: Global, r: &Matrix, report: &Report) -> Checked
     requires plan { IsWrittenPlan report.now.plan }
     requires of { All (AllBelong (R.sig ring.now)) r.now.rows }
-    ensures answer { result ≢ Checked.Memory → result ≡ reports.check_report (R.sig ring.now) (plain r.now) report.now }
-    ensures honest { result ≢ Checked.Memory → (result ≡ Checked.Valid) ↔ reports.IsHonestReport (R.sig ring.now) (plain r.now) report.now }
+    ensures answer { result ≢ Checked.Memory → result ≡ reports.check_report (R.sig ring.now) (row_matrix_of r.now) report.now }
+    ensures honest { result ≢ Checked.Memory → (result ≡ Checked.Valid) ↔ reports.IsHonestReport (R.sig ring.now) (row_matrix_of r.now) report.now }
 {
     let Ok(mut chooser) = ReplayChooser::new(alloc, report) else {
         return Checked::Memory;

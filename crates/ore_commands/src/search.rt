@@ -4,7 +4,7 @@ ghost use Rattle.std.specs.Prelude.{◌≡◌, ◌≤◌, ◌↔◌, [], IsTrue,
 ghost use Rattle.std.specs.List.{All};
 ghost use Rattle.ore_cert.specs.WholeText.{IsWrittenPlan};
 ghost use Rattle.ore_ring.specs.Belongs.{AllBelong};
-ghost use Rattle.ore_blocks.specs.CheckBlock.{plain};
+ghost use Rattle.ore_blocks.specs.CheckBlock.{row_matrix_of};
 ghost use Rattle.ore_cert.specs.CertificateOf.{IsCertificateOf};
 ghost use Rattle.ore_course.specs.Following.{IsReportable};
 ghost use Rattle.ore_groebner.specs.Courses.{halt_in_course};
@@ -156,7 +156,7 @@ fn found_reply(
     found: Found,
 ) -> Result<Reply, NoMemory>
     requires problem { IsProblem problem }
-    requires right { IsCorrectFound problem.signature (plain problem.matrix) search.plan found }
+    requires right { IsCorrectFound problem.signature (row_matrix_of problem.matrix) search.plan found }
     ensures { IfOk result (λ r. reply_of r ≡ record { status = Status.Done; text = found_text (system_of problem) search.brief found }) }
 {
     let text = found_text(alloc, search, problem, found)?;
@@ -174,7 +174,7 @@ fn found_text(
     found: Found,
 ) -> Result<Vec<u8>, NoMemory>
     requires problem { IsProblem problem }
-    requires right { IsCorrectFound problem.signature (plain problem.matrix) search.plan found }
+    requires right { IsCorrectFound problem.signature (row_matrix_of problem.matrix) search.plan found }
     ensures { IfOk result (λ text. text.items ≡ found_text (system_of problem) search.brief found) }
 {
     match found {
@@ -201,7 +201,7 @@ fn certified_text(
 fn text_with(alloc: Global, problem: Problem, matrix: Matrix) -> Result<Vec<u8>, NoMemory>
     requires problem { IsProblem problem }
     requires of { All (AllBelong problem.signature) matrix.rows }
-    ensures { IfOk result (λ text. text.items ≡ text_with_matrix (system_of problem) (plain matrix)) }
+    ensures { IfOk result (λ text. text.items ≡ text_with_matrix (system_of problem) (row_matrix_of matrix)) }
 {
     let turned = Problem {
         names: problem.names,
@@ -220,7 +220,7 @@ fn halted_reply(
     halt: &Halt,
 ) -> Result<Reply, NoMemory>
     requires problem { IsProblem problem.now }
-    requires reported { IsReportedBy problem.now.signature (plain problem.now.matrix) chain_allows chain_allows_spent search.plan chooser.given search.budget halt.now }
+    requires reported { IsReportedBy problem.now.signature (row_matrix_of problem.now.matrix) chain_allows chain_allows_spent search.plan chooser.given search.budget halt.now }
     requires budget { chooser.budget ≡ search.budget }
     ensures { IfOk result (λ r. IsStoppedReply (system_of problem.now) search (reply_of r)) }
 {

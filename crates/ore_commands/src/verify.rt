@@ -4,7 +4,7 @@ ghost use Rattle.std.specs.Prelude.{◌≡◌, IfOk, MatchOption};
 ghost use Rattle.ore_cert.specs.CertificateOf.{IsCertificateOf};
 ghost use Rattle.ore_cert.specs.KindWords.{kind_word};
 ghost use Rattle.ore_cert.specs.declared.certificate.Certificate.TheVariants.{Halted};
-ghost use Rattle.ore_blocks.specs.CheckBlock.{plain};
+ghost use Rattle.ore_blocks.specs.CheckBlock.{row_matrix_of};
 ghost use Rattle.ore_check.specs.Check.{IsNoReport};
 ghost use Rattle.ore_check.specs.Meaning.{Means};
 ghost use Rattle.ore_problem.specs.Stored.{system_of, IsProblem};
@@ -41,7 +41,7 @@ pub fn certificate_reply(
     requires of { IsCertificateOf problem.now.signature cert.now }
     requires plan { verdict.HasWrittenPlan cert.now }
     ensures reply { IfOk result (λ r. verdict.IsCheckedReply (system_of problem.now) lines cert.now (reply_of r)) }
-    ensures valid { IfOk result (λ r. r.status ≡ Status.Done → Means problem.now.signature (plain problem.now.matrix) cert.now × (r.text.items ≡ (replies.valid (kind_word cert.now)).text)) }
+    ensures valid { IfOk result (λ r. r.status ≡ Status.Done → Means problem.now.signature (row_matrix_of problem.now.matrix) cert.now × (r.text.items ≡ (replies.valid (kind_word cert.now)).text)) }
 {
     let answer = checked(alloc, problem, cert);
     answer_reply(alloc, lines, cert.word(), answer)
@@ -53,8 +53,8 @@ fn checked(alloc: Global, problem: &Problem, cert: &Certificate) -> Checked
     requires problem { IsProblem problem.now }
     requires of { IsCertificateOf problem.now.signature cert.now }
     requires plan { verdict.HasWrittenPlan cert.now }
-    ensures answers { verdict.IsCheckAnswer problem.now.signature (plain problem.now.matrix) cert.now result }
-    ensures means { result ≡ Checked.Valid → Means problem.now.signature (plain problem.now.matrix) cert.now }
+    ensures answers { verdict.IsCheckAnswer problem.now.signature (row_matrix_of problem.now.matrix) cert.now result }
+    ensures means { result ≡ Checked.Valid → Means problem.now.signature (row_matrix_of problem.now.matrix) cert.now }
 {
     let signature = &problem.signature;
     if let Some(ring) = CommutativeRing::new(signature.copy()) {
@@ -72,8 +72,8 @@ fn checked_in<R: OreRing>(ring: &R, alloc: Global, problem: &Problem, cert: &Cer
     requires problem { IsProblem problem.now }
     requires of { IsCertificateOf problem.now.signature cert.now }
     requires plan { verdict.HasWrittenPlan cert.now }
-    ensures answers { verdict.IsCheckAnswer problem.now.signature (plain problem.now.matrix) cert.now result }
-    ensures means { result ≡ Checked.Valid → Means problem.now.signature (plain problem.now.matrix) cert.now }
+    ensures answers { verdict.IsCheckAnswer problem.now.signature (row_matrix_of problem.now.matrix) cert.now result }
+    ensures means { result ≡ Checked.Valid → Means problem.now.signature (row_matrix_of problem.now.matrix) cert.now }
 {
     match report_of(cert) {
         Some(report) => check_report(ring, alloc, &problem.matrix, report),

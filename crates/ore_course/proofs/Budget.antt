@@ -7,7 +7,7 @@
 --     short_forced, short_run, short_bind    how a course is shown to have such numbers
 --     within_exact               runs of a course that may stop are runs of the course that it is at most
 --     fewer, no_budget           reports have fewer treatments; no budget so great is spent
---     most_forced, most_run, most_bind    how a course is shown to be at most another
+--     most_forced, most_run, IsCourseAtMost-bind  how a course is shown to be at most another
 use Rattle.std.proofs.Common.{◌≡◌, ◌⊎◌, ◌≢◌, ℕ, zero, suc, ◌+◌, ◌≤◌, ◌<◌, Bool, true, false, cond, List, [], ◌∷◌, length, refl, sym, ap, ◌∙◌, subst, inl, inr, arith}
 use Rattle.std.specs.List.{Contains}
 use Rattle.std.specs.declared.result.Result.{Result}
@@ -274,12 +274,12 @@ most_run (Ok x) (Ok y) h = (sym (same_ok y x h), λ last. refl)
 most_run (Ok x) (Err c) h = absurd (no_ok h)
 
 -- one course behind another
-pub most_bind : {S X Y : Type 0} (p q : Course S X) (f g : X → Course S Y) → IsCourseAtMost p q → ((x : X) → IsCourseAtMost (f x) (g x)) → IsCourseAtMost (p >>= f) (q >>= g)
+pub IsCourseAtMost-bind : {S X Y : Type 0} (p q : Course S X) (f g : X → Course S Y) → IsCourseAtMost p q → ((x : X) → IsCourseAtMost (f x) (g x)) → IsCourseAtMost (p >>= f) (q >>= g)
 unfolding IsCourseAtMost ◌>>=◌
-most_bind (Stops c) q f g h more = tt
-most_bind (Done x) (Done y) f g h more = subst (λ z. IsCourseAtMost (f x) (g z)) h (more x)
-most_bind (Done x) (Stops c) f g h more = absurd h
-most_bind (Done x) (Runs first next) f g h more = absurd h
-most_bind (Runs first next) (Done y) f g h more = absurd h
-most_bind (Runs first next) (Stops c) f g h more = absurd h
-most_bind (Runs first next) (Runs other later) f g (e, h) more = (e, λ last. most_bind (next last) (later last) f g (h last) more)
+IsCourseAtMost-bind (Stops c) q f g h more = tt
+IsCourseAtMost-bind (Done x) (Done y) f g h more = subst (λ z. IsCourseAtMost (f x) (g z)) h (more x)
+IsCourseAtMost-bind (Done x) (Stops c) f g h more = absurd h
+IsCourseAtMost-bind (Done x) (Runs first next) f g h more = absurd h
+IsCourseAtMost-bind (Runs first next) (Done y) f g h more = absurd h
+IsCourseAtMost-bind (Runs first next) (Stops c) f g h more = absurd h
+IsCourseAtMost-bind (Runs first next) (Runs other later) f g (e, h) more = (e, λ last. IsCourseAtMost-bind (next last) (later last) f g (h last) more)

@@ -12,7 +12,7 @@ use Rattle.ore_algebra.specs.Limits.{Cause, Overflow, Degree}
 use Rattle.ore_course.specs.Choices.{Refusal, Unlawful, Stopped, Runner, cost, treatment_count, treatment_count_in}
 use Rattle.ore_course.specs.Course.{Course, ◌>>=◌, forced, run_from}
 use Rattle.ore_course.specs.Report.{Reported, ByStop, ByBudget, StopLine, AtForced, AtChoice, AtBudget}
-use Rattle.ore_course.specs.Failing.{ReportPlace, OfRun, OfChoice, OfStop, run_lines_before, report_line, is_cause, is_budget, follow, stops_so, is_stopped, stop_passes, failing, first_failing}
+use Rattle.ore_course.specs.Failing.{ReportPlace, OfRun, OfChoice, OfStop, run_lines_before, report_line, is_cause, is_budget, follow_lines, stops_so, is_stopped, stop_passes, failing, first_failing}
 
 data Pick : Type 0 where
   Take : Pick
@@ -48,7 +48,7 @@ two_runs work = do
   forced (Ok 7)
 
 answer : Result ℕ Cause → Reported → List (List Pick) → StopLine Pick → Option (ReportPlace Pick)
-unfolding two_runs toy pick is_zero is_take failing follow stop_passes is_stopped stops_so is_cause is_budget cost treatment_count treatment_count_in ◌>>=◌ forced run_from
+unfolding two_runs toy pick is_zero is_take failing follow_lines stop_passes is_stopped stops_so is_cause is_budget cost treatment_count treatment_count_in ◌>>=◌ forced run_from
 answer work cause runs stop = first_failing toy (two_runs work) (record { cause = cause; runs = runs; stop = stop })
 
 line : List (List Pick) → ReportPlace Pick → ℕ

@@ -1,5 +1,5 @@
 -- The place that is found is the first that fails, and no other is.
---     follow_refused, follow_here    the choice of a run that is refused is found, and what is found is refused
+--     follow_lines_refused, follow_lines_here    the choice of a run that is refused is found, and what is found is refused
 --     FailsFrom                  the lines before a place pass, and its own doesn't, from a run on
 --     one_more                   one run before others
 --     found                      what is found fails so
@@ -15,7 +15,7 @@ use Rattle.ore_course.specs.Choices.{Refusal, Runner, treatment_count_in}
 use Rattle.ore_course.specs.Course.{Course, Done, Stops, Runs}
 use Rattle.ore_course.specs.Leading.{run}
 use Rattle.ore_course.specs.Report.{Report}
-use Rattle.ore_course.specs.Failing.{ReportPlace, OfRun, OfChoice, OfStop, follow, is_over, stop_passes, failing, first_failing}
+use Rattle.ore_course.specs.Failing.{ReportPlace, OfRun, OfChoice, OfStop, follow_lines, is_over, stop_passes, failing, first_failing}
 use Rattle.ore_course.specs.FirstFailing.{AreFollowed, CannotBegin, IsRefused, IsFirstFailing}
 use Rattle.ore_course.proofs.Basics.{no_some, result_cases, bool_cases}
 use Rattle.ore_algebra.proofs.ResultLaws.{same_ok, no_ok}
@@ -32,34 +32,34 @@ cond_some false place e = (refl, same_Some OfStop place e)
 module _ {S C : Type 0} (R : Runner S C) where
   -- ---- the choices of a run
 
-  follow_refused : (k o : ℕ) (st : S) (cs : List C) (refusal : Refusal) → run R st cs ≡ Err refusal
-      → (n : ℕ) × (c : C) × (last : S) × (why : Refusal) × (follow R k o st cs ≡ Err (OfChoice k (o + n) c)) × (slice_get cs n ≡ Some c) × (run R st (take n cs) ≡ Ok last) × (R.step last c ≡ Err why)
-  unfolding run follow
-  follow_refused k o st [] refusal e = absurd (no_ok (sym e))
-  follow_refused k o st (c ∷ cs) refusal e = by (R.step st c) refl e (λ next. follow_refused k (suc o) next cs refusal)
+  follow_lines_refused : (k o : ℕ) (st : S) (cs : List C) (refusal : Refusal) → run R st cs ≡ Err refusal
+      → (n : ℕ) × (c : C) × (last : S) × (why : Refusal) × (follow_lines R k o st cs ≡ Err (OfChoice k (o + n) c)) × (slice_get cs n ≡ Some c) × (run R st (take n cs) ≡ Ok last) × (R.step last c ≡ Err why)
+  unfolding run follow_lines
+  follow_lines_refused k o st [] refusal e = absurd (no_ok (sym e))
+  follow_lines_refused k o st (c ∷ cs) refusal e = by (R.step st c) refl e (λ next. follow_lines_refused k (suc o) next cs refusal)
     where
       by : (r : Result S Refusal) → R.step st c ≡ r → ◌≡◌ {A = Result S Refusal} (elim r [ Ok next ↦ run R next cs | Err other ↦ Err other ]) (Err refusal)
           → ((next : S) → run R next cs ≡ Err refusal
-          → (n : ℕ) × (d : C) × (last : S) × (why : Refusal) × (follow R k (suc o) next cs ≡ Err (OfChoice k (suc o + n) d)) × (slice_get cs n ≡ Some d) × (run R next (take n cs) ≡ Ok last) × (R.step last d ≡ Err why))
-          → (n : ℕ) × (d : C) × (last : S) × (why : Refusal) × (◌≡◌ {A = Result S (ReportPlace C)} (elim r [ Ok next ↦ follow R k (suc o) next cs | Err other ↦ Err (OfChoice k o c) ]) (Err (OfChoice k (o + n) d)))
+          → (n : ℕ) × (d : C) × (last : S) × (why : Refusal) × (follow_lines R k (suc o) next cs ≡ Err (OfChoice k (suc o + n) d)) × (slice_get cs n ≡ Some d) × (run R next (take n cs) ≡ Ok last) × (R.step last d ≡ Err why))
+          → (n : ℕ) × (d : C) × (last : S) × (why : Refusal) × (◌≡◌ {A = Result S (ReportPlace C)} (elim r [ Ok next ↦ follow_lines R k (suc o) next cs | Err other ↦ Err (OfChoice k o c) ]) (Err (OfChoice k (o + n) d)))
           × (slice_get (c ∷ cs) n ≡ Some d) × (run R st (take n (c ∷ cs)) ≡ Ok last) × (R.step last d ≡ Err why)
       by (Ok next) s h more = let m = more next h in (suc m.0, m.1, m.2, m.3, m.4 ∙ ap (λ n. Err (OfChoice k n m.1)) (omega arith), m.5, run_step R st next m.2 c (take m.0 cs) s m.6, m.7)
       by (Err other) s h more = (0, c, st, other, ap (λ n. Err (OfChoice k n c)) (omega arith), refl, refl, s)
 
-  follow_here : (k o n : ℕ) (st : S) (cs : List C) (c : C) (last : S) (why : Refusal) → slice_get cs n ≡ Some c → run R st (take n cs) ≡ Ok last → R.step last c ≡ Err why
-      → follow R k o st cs ≡ Err (OfChoice k (o + n) c)
-  unfolding run follow
-  follow_here k o n st [] c last why g led w = absurd (nothing_there n c g)
-  follow_here k o zero st (d ∷ cs) c last why g led w = by (R.step st d) (subst (λ x. R.step x d ≡ Err why) (sym (same_ok st last led)) (subst (λ x. R.step last x ≡ Err why) (sym (same_Some d c g)) w))
+  follow_lines_here : (k o n : ℕ) (st : S) (cs : List C) (c : C) (last : S) (why : Refusal) → slice_get cs n ≡ Some c → run R st (take n cs) ≡ Ok last → R.step last c ≡ Err why
+      → follow_lines R k o st cs ≡ Err (OfChoice k (o + n) c)
+  unfolding run follow_lines
+  follow_lines_here k o n st [] c last why g led w = absurd (nothing_there n c g)
+  follow_lines_here k o zero st (d ∷ cs) c last why g led w = by (R.step st d) (subst (λ x. R.step x d ≡ Err why) (sym (same_ok st last led)) (subst (λ x. R.step last x ≡ Err why) (sym (same_Some d c g)) w))
     where
-      by : (r : Result S Refusal) → r ≡ Err why → ◌≡◌ {A = Result S (ReportPlace C)} (elim r [ Ok next ↦ follow R k (suc o) next cs | Err other ↦ Err (OfChoice k o d) ]) (Err (OfChoice k (o + 0) c))
+      by : (r : Result S Refusal) → r ≡ Err why → ◌≡◌ {A = Result S (ReportPlace C)} (elim r [ Ok next ↦ follow_lines R k (suc o) next cs | Err other ↦ Err (OfChoice k o d) ]) (Err (OfChoice k (o + 0) c))
       by (Ok next) s = absurd (no_ok (sym s))
       by (Err other) s = ap (λ m. Err (OfChoice k m d)) (omega arith) ∙ ap (λ x. Err (OfChoice k (o + 0) x)) (same_Some d c g)
-  follow_here k o (suc n) st (d ∷ cs) c last why g led w = by (R.step st d) led (λ next h. follow_here k (suc o) n next cs c last why g h w)
+  follow_lines_here k o (suc n) st (d ∷ cs) c last why g led w = by (R.step st d) led (λ next h. follow_lines_here k (suc o) n next cs c last why g h w)
     where
       by : (r : Result S Refusal) → ◌≡◌ {A = Result S Refusal} (elim r [ Ok next ↦ run R next (take n cs) | Err other ↦ Err other ]) (Ok last)
-          → ((next : S) → run R next (take n cs) ≡ Ok last → follow R k (suc o) next cs ≡ Err (OfChoice k (suc o + n) c))
-          → ◌≡◌ {A = Result S (ReportPlace C)} (elim r [ Ok next ↦ follow R k (suc o) next cs | Err other ↦ Err (OfChoice k o d) ]) (Err (OfChoice k (o + suc n) c))
+          → ((next : S) → run R next (take n cs) ≡ Ok last → follow_lines R k (suc o) next cs ≡ Err (OfChoice k (suc o + n) c))
+          → ◌≡◌ {A = Result S (ReportPlace C)} (elim r [ Ok next ↦ follow_lines R k (suc o) next cs | Err other ↦ Err (OfChoice k o d) ]) (Err (OfChoice k (o + suc n) c))
       by (Ok next) h more = more next h ∙ ap (λ m. Err (OfChoice k m c)) (omega arith)
       by (Err other) h more = absurd (no_ok h)
 
@@ -98,8 +98,8 @@ module _ {S C : Type 0} (R : Runner S C) where
             → ((st : S) → failing R report (suc k) (Some st) (next st) runs ≡ Some place → FailsFrom (suc k) (Some st) (next st) runs place) → FailsFrom k last (Runs first next) (cs ∷ runs) place
         by (inl over) (inl (st, led)) more = one_more k last first next cs runs st place over led (more st (sym (failing_on R report k last first next cs runs st over led) ∙ e))
         by (inl over) (inr (refusal, led)) more =
-            let f = follow_refused k 0 first cs refusal led in
-            let same : follow R k 0 first cs ≡ Err (OfChoice k f.0 f.1) = f.4 ∙ ap (λ n. Err (OfChoice k n f.1)) (omega arith) in
+            let f = follow_lines_refused k 0 first cs refusal led in
+            let same : follow_lines R k 0 first cs ≡ Err (OfChoice k f.0 f.1) = f.4 ∙ ap (λ n. Err (OfChoice k n f.1)) (omega arith) in
             subst (λ p. FailsFrom k last (Runs first next) (cs ∷ runs) p) (same_Some (OfChoice k f.0 f.1) place (sym (failing_at R report k last first next cs runs (OfChoice k f.0 f.1) over same) ∙ e))
             (0, omega arith, cs, refl, f.5, (over, f.2, f.3, f.6, f.7))
         by (inr over) r more = no_run k last (Runs first next) cs runs place over (same_Some (OfRun k) place (sym (failing_run R report k last (Runs first next) cs runs over) ∙ e))
@@ -128,7 +128,7 @@ module _ {S C : Type 0} (R : Runner S C) where
     refused_fails k n last (Done x) cs runs c g h = absurd h
     refused_fails k n last (Stops cause) cs runs c g h = absurd h
     refused_fails k n last (Runs first next) cs runs c g (over, st, why, led, w) =
-        failing_at R report k last first next cs runs (OfChoice k n c) over (follow_here k 0 n first cs c st why g led w ∙ ap (λ m. Err (OfChoice k m c)) (omega arith))
+        failing_at R report k last first next cs runs (OfChoice k n c) over (follow_lines_here k 0 n first cs c st why g led w ∙ ap (λ m. Err (OfChoice k m c)) (omega arith))
 
     choice_fails : (k m n : ℕ) (last : Option S) (rest : Course S X) (runs : List (List C)) (cs : List C) (c : C) → slice_get runs m ≡ Some cs → slice_get cs n ≡ Some c
         → AreFollowed R (IsRefused R (take n cs) c) last rest (take m runs) → failing R report k last rest runs ≡ Some (OfChoice (k + m) n c)

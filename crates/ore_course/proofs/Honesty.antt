@@ -1,6 +1,6 @@
 -- No line of a report fails exactly where the report is honest.
 --     is_cause, is_budget, stops_so    what these tests say
---     follow_ok, follow_err      choices that lead on, and choices that don't, line by line
+--     follow_lines_ok, follow_lines_err      choices that lead on, and choices that don't, line by line
 --     failing_on, failing_at, failing_run    what fails where a run is followed, where one of its choices fails, and where it can't begin
 --     fails_not, not_fails       no line fails exactly where the runs are followed and the stop line passes
 --     forced_stops, forced_ends  this is honesty where forced work stops
@@ -19,7 +19,7 @@ use Rattle.ore_course.specs.Choices.{Refusal, Runner, treatment_count_in, Unlawf
 use Rattle.ore_course.specs.Course.{Course, Done, Stops, Runs}
 use Rattle.ore_course.specs.Leading.{run, LeadsTo, IsIn}
 use Rattle.ore_course.specs.Report.{Reported, StopLine, Report, IsHonestAt, IsHonest, ByStop, ByBudget, AtForced, AtChoice, AtBudget}
-use Rattle.ore_course.specs.Failing.{OfChoice, ReportPlace, is_cause, is_budget, follow, is_over, stops_so, is_stopped, stop_passes, failing, first_failing, OfRun}
+use Rattle.ore_course.specs.Failing.{OfChoice, ReportPlace, is_cause, is_budget, follow_lines, is_over, stops_so, is_stopped, stop_passes, failing, first_failing, OfRun}
 use Rattle.ore_course.specs.FirstFailing.{AreFollowed}
 use Rattle.ore_course.proofs.Basics.{result_cases, bool_cases, true_false, no_some}
 use Rattle.ore_algebra.proofs.ResultLaws.{same_ok, no_ok}
@@ -71,25 +71,25 @@ module _ {S C : Type 0} (R : Runner S C) where
 
   -- ---- the choices of a run
 
-  pub follow_ok : (k n : ℕ) (st : S) (cs : List C) (last : S) → run R st cs ≡ Ok last → follow R k n st cs ≡ Ok last
-  unfolding run follow
-  follow_ok k n st [] last e = ap Ok (same_ok _ _ e)
-  follow_ok k n st (c ∷ cs) last e = by (R.step st c) e (λ next h. follow_ok k (suc n) next cs last h)
+  pub follow_lines_ok : (k n : ℕ) (st : S) (cs : List C) (last : S) → run R st cs ≡ Ok last → follow_lines R k n st cs ≡ Ok last
+  unfolding run follow_lines
+  follow_lines_ok k n st [] last e = ap Ok (same_ok _ _ e)
+  follow_lines_ok k n st (c ∷ cs) last e = by (R.step st c) e (λ next h. follow_lines_ok k (suc n) next cs last h)
     where
       by : (r : Result S Refusal) → ◌≡◌ {A = Result S Refusal} (elim r [ Ok next ↦ run R next cs | Err refusal ↦ Err refusal ]) (Ok last)
-          → ((next : S) → run R next cs ≡ Ok last → follow R k (suc n) next cs ≡ Ok last)
-          → ◌≡◌ {A = Result S (ReportPlace C)} (elim r [ Ok next ↦ follow R k (suc n) next cs | Err refusal ↦ Err (OfChoice k n c) ]) (Ok last)
+          → ((next : S) → run R next cs ≡ Ok last → follow_lines R k (suc n) next cs ≡ Ok last)
+          → ◌≡◌ {A = Result S (ReportPlace C)} (elim r [ Ok next ↦ follow_lines R k (suc n) next cs | Err refusal ↦ Err (OfChoice k n c) ]) (Ok last)
       by (Ok next) h more = more next h
       by (Err refusal) h more = absurd (no_ok h)
 
-  pub follow_err : (k n : ℕ) (st : S) (cs : List C) (refusal : Refusal) → run R st cs ≡ Err refusal → (f : ReportPlace C) × (follow R k n st cs ≡ Err f)
-  unfolding run follow
-  follow_err k n st [] refusal e = absurd (no_ok (sym e))
-  follow_err k n st (c ∷ cs) refusal e = by (R.step st c) e (λ next h. follow_err k (suc n) next cs refusal h)
+  pub follow_lines_err : (k n : ℕ) (st : S) (cs : List C) (refusal : Refusal) → run R st cs ≡ Err refusal → (f : ReportPlace C) × (follow_lines R k n st cs ≡ Err f)
+  unfolding run follow_lines
+  follow_lines_err k n st [] refusal e = absurd (no_ok (sym e))
+  follow_lines_err k n st (c ∷ cs) refusal e = by (R.step st c) e (λ next h. follow_lines_err k (suc n) next cs refusal h)
     where
       by : (r : Result S Refusal) → ◌≡◌ {A = Result S Refusal} (elim r [ Ok next ↦ run R next cs | Err other ↦ Err other ]) (Err refusal)
-          → ((next : S) → run R next cs ≡ Err refusal → (f : ReportPlace C) × (follow R k (suc n) next cs ≡ Err f))
-          → (f : ReportPlace C) × (◌≡◌ {A = Result S (ReportPlace C)} (elim r [ Ok next ↦ follow R k (suc n) next cs | Err other ↦ Err (OfChoice k n c) ]) (Err f))
+          → ((next : S) → run R next cs ≡ Err refusal → (f : ReportPlace C) × (follow_lines R k (suc n) next cs ≡ Err f))
+          → (f : ReportPlace C) × (◌≡◌ {A = Result S (ReportPlace C)} (elim r [ Ok next ↦ follow_lines R k (suc n) next cs | Err other ↦ Err (OfChoice k n c) ]) (Err f))
       by (Ok next) h more = more next h
       by (Err other) h more = (OfChoice k n c, refl)
 
@@ -105,10 +105,10 @@ module _ {S C : Type 0} (R : Runner S C) where
     pub failing_on : (report : Report C) (k : ℕ) (last : Option S) (first : S) (next : S → Course S X) (cs : List C) (runs : List (List C)) (st : S)
         → is_over R last ≡ true → run R first cs ≡ Ok st → failing R report k last (Runs first next) (cs ∷ runs) ≡ failing R report (suc k) (Some st) (next st) runs
     unfolding failing
-    failing_on report k last first next cs runs st over led = rw (over, failing, follow_ok k 0 first cs st led, failing) refl
+    failing_on report k last first next cs runs st over led = rw (over, failing, follow_lines_ok k 0 first cs st led, failing) refl
 
     pub failing_at : (report : Report C) (k : ℕ) (last : Option S) (first : S) (next : S → Course S X) (cs : List C) (runs : List (List C)) (f : ReportPlace C)
-        → is_over R last ≡ true → follow R k 0 first cs ≡ Err f → failing R report k last (Runs first next) (cs ∷ runs) ≡ Some f
+        → is_over R last ≡ true → follow_lines R k 0 first cs ≡ Err f → failing R report k last (Runs first next) (cs ∷ runs) ≡ Some f
     unfolding failing
     failing_at report k last first next cs runs f over led = rw (over, failing, led, failing) refl
 
@@ -136,7 +136,7 @@ module _ {S C : Type 0} (R : Runner S C) where
             → ((st : S) → failing R report (suc k) (Some st) (next st) runs ≡ None → AreFollowed R (Passes report.cause (treatment_count_in R.is_treatment report.runs) report.stop) (Some st) (next st) runs)
             → (is_over R last ≡ true) × (st : S) × (run R first cs ≡ Ok st) × AreFollowed R (Passes report.cause (treatment_count_in R.is_treatment report.runs) report.stop) (Some st) (next st) runs
         by (inl over) (inl (st, led)) more = (over, st, led, more st (sym (failing_on report k last first next cs runs st over led) ∙ e))
-        by (inl over) (inr (c, led)) more = let f = follow_err k 0 first cs c led in absurd (no_some (sym (failing_at report k last first next cs runs f.0 over f.1) ∙ e))
+        by (inl over) (inr (c, led)) more = let f = follow_lines_err k 0 first cs c led in absurd (no_some (sym (failing_at report k last first next cs runs f.0 over f.1) ∙ e))
         by (inr over) r more = absurd (no_some (sym (failing_run report k last (Runs first next) cs runs over) ∙ e))
 
     not_fails : (report : Report C) (k : ℕ) (last : Option S) (rest : Course S X) (runs : List (List C))

@@ -3,7 +3,7 @@
 --     fronts                     what is kept, run by run
 --     next_first, next_later     of that the choice whose turn it is, in the first run and behind it
 --     kept_cons, front_cases     the first run that is kept, and the choices given of it
---     run_split, follow_at       one choice more; the choice that is refused
+--     run_split, follow_lines_at       one choice more; the choice that is refused
 --     stops_not, choice_stops, only_forced    what the stop line says
 --     decided_at, decided_on, decided_stop    how the lengths decide
 --     refused_here, treated_too, all_given, one_over    a run of which some choice was refused, or all were given, or that was completed
@@ -21,7 +21,7 @@ use Rattle.ore_course.specs.Choices.{IsClosed, Refusal, Runner, treatment_count_
 use Rattle.ore_course.specs.Course.{Course, forced, Done, Stops, Runs}
 use Rattle.ore_course.specs.Leading.{Rule, run, LeadsTo, IsIn}
 use Rattle.ore_course.specs.Report.{Reported, StopLine, Report, AtForced, AtChoice, AtBudget}
-use Rattle.ore_course.specs.Failing.{ReportPlace, is_cause, follow, is_over, stops_so, is_stopped, stop_passes, failing, first_failing, OfRun, OfChoice, OfStop}
+use Rattle.ore_course.specs.Failing.{ReportPlace, is_cause, follow_lines, is_over, stops_so, is_stopped, stop_passes, failing, first_failing, OfRun, OfChoice, OfStop}
 use Rattle.ore_course.specs.Following.{Halt, Follows, IsHaltedIn, InForced, InChoice, Passed, Spent, NoLawful, Memory}
 use Rattle.ore_course.specs.Replaying.{End, kept_with, kept_of, stop_decided, AreFronts, decided, replayed}
 use Rattle.ore_course.proofs.Basics.{no_nil, true_false}
@@ -165,19 +165,19 @@ module _ {S C : Type 0} (R : Runner S C) where
       by (Ok next) g more = more next g
       by (Err refusal) g more = absurd (no_ok g)
 
-  follow_at : (k n : ℕ) (st : S) (gs : List C) (c : C) (tail : List C) (last : S) (refusal : Refusal)
-      → run R st gs ≡ Ok last → R.step last c ≡ Err refusal → follow R k n st (gs ++ c ∷ tail) ≡ Err (OfChoice k (n + length gs) c)
-  unfolding run follow
-  follow_at k n st [] c tail last refusal e s = by (R.step st c) (ap (λ x. R.step x c) (same_ok st last e) ∙ s)
+  follow_lines_at : (k n : ℕ) (st : S) (gs : List C) (c : C) (tail : List C) (last : S) (refusal : Refusal)
+      → run R st gs ≡ Ok last → R.step last c ≡ Err refusal → follow_lines R k n st (gs ++ c ∷ tail) ≡ Err (OfChoice k (n + length gs) c)
+  unfolding run follow_lines
+  follow_lines_at k n st [] c tail last refusal e s = by (R.step st c) (ap (λ x. R.step x c) (same_ok st last e) ∙ s)
     where
-      by : (r : Result S Refusal) → r ≡ Err refusal → ◌≡◌ {A = Result S (ReportPlace C)} (elim r [ Ok next ↦ follow R k (suc n) next tail | Err other ↦ Err (OfChoice k n c) ]) (Err (OfChoice k (n + 0) c))
+      by : (r : Result S Refusal) → r ≡ Err refusal → ◌≡◌ {A = Result S (ReportPlace C)} (elim r [ Ok next ↦ follow_lines R k (suc n) next tail | Err other ↦ Err (OfChoice k n c) ]) (Err (OfChoice k (n + 0) c))
       by (Ok next) g = absurd (no_ok (sym g))
       by (Err other) g = ap (λ m. Err (OfChoice k m c)) (omega arith)
-  follow_at k n st (d ∷ gs) c tail last refusal e s = by (R.step st d) e (λ next g. follow_at k (suc n) next gs c tail last refusal g s)
+  follow_lines_at k n st (d ∷ gs) c tail last refusal e s = by (R.step st d) e (λ next g. follow_lines_at k (suc n) next gs c tail last refusal g s)
     where
       by : (r : Result S Refusal) → ◌≡◌ {A = Result S Refusal} (elim r [ Ok next ↦ run R next gs | Err other ↦ Err other ]) (Ok last)
-          → ((next : S) → run R next gs ≡ Ok last → follow R k (suc n) next (gs ++ c ∷ tail) ≡ Err (OfChoice k (suc n + length gs) c))
-          → ◌≡◌ {A = Result S (ReportPlace C)} (elim r [ Ok next ↦ follow R k (suc n) next (gs ++ c ∷ tail) | Err other ↦ Err (OfChoice k n d) ]) (Err (OfChoice k (n + suc (length gs)) c))
+          → ((next : S) → run R next gs ≡ Ok last → follow_lines R k (suc n) next (gs ++ c ∷ tail) ≡ Err (OfChoice k (suc n + length gs) c))
+          → ◌≡◌ {A = Result S (ReportPlace C)} (elim r [ Ok next ↦ follow_lines R k (suc n) next (gs ++ c ∷ tail) | Err other ↦ Err (OfChoice k n d) ]) (Err (OfChoice k (n + suc (length gs)) c))
       by (Ok next) g more = more next g ∙ ap (λ m. Err (OfChoice k m c)) (omega arith)
       by (Err other) g more = absurd (no_ok g)
 
@@ -268,7 +268,7 @@ module _ {S C : Type 0} (R : Runner S C) where
           → failing R report k last (Runs first next) (cs ∷ more) ≡ decided R report end k (gs ∷ passed) (cs ∷ more)
       refused_here k last first next gs passed cs more c tail st refusal over e led s =
           failing_at R report k last first next cs more (OfChoice k (length gs) c) over
-          (subst (λ ds. follow R k 0 first ds ≡ Err (OfChoice k (length gs) c)) (sym e) (follow_at k 0 first gs c tail st refusal led s ∙ ap (λ m. Err (OfChoice k m c)) (omega arith)))
+          (subst (λ ds. follow_lines R k 0 first ds ≡ Err (OfChoice k (length gs) c)) (sym e) (follow_lines_at k 0 first gs c tail st refusal led s ∙ ap (λ m. Err (OfChoice k m c)) (omega arith)))
           ∙ sym (decided_at k gs passed cs more c (subst (λ ds. slice_get ds (length gs) ≡ Some c) (sym e) (at_length gs c tail)))
 
       -- the choice of the stop line was given, too, and led on

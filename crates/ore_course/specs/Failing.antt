@@ -1,7 +1,7 @@
 -- The first line of a report that fails. A line is told by its place, and its number in a text is worked out from that.
 --     ReportPlace          that of a run, of a choice in a run, or of the stop line
 --     run_lines_before, report_line  how many lines the first k runs have; the number of the line of a place
---     follow               the choices of a run line by line: the state to which they lead, or the place that fails
+--     follow_lines         the choices of a run line by line: the state to which they lead, or the place that fails
 --     is_over              no run was begun, or the last one is complete
 --     is_cause, is_budget  the report says that an operation stopped for this cause; that its budget is so many treatments
 --     stops_so             what a choice makes of a state is a stop for the cause of the report
@@ -52,9 +52,9 @@ is_budget (ByBudget m) n = nat_eq m n
 
 module _ {S C : Type 0} (R : Runner S C) where
   -- the choices from number n of run k on
-  unfoldable pub follow : ℕ → ℕ → S → List C → Result S (ReportPlace C)
-  follow k n st [] = Ok st
-  follow k n st (c ∷ cs) = elim (R.step st c) [ Ok next ↦ follow k (suc n) next cs | Err refusal ↦ Err (OfChoice k n c) ]
+  unfoldable pub follow_lines : ℕ → ℕ → S → List C → Result S (ReportPlace C)
+  follow_lines k n st [] = Ok st
+  follow_lines k n st (c ∷ cs) = elim (R.step st c) [ Ok next ↦ follow_lines k (suc n) next cs | Err refusal ↦ Err (OfChoice k n c) ]
 
   -- the next run may begin
   abbrev pub is_over : Option S → Bool
@@ -89,7 +89,7 @@ module _ {S C : Type 0} (R : Runner S C) where
     failing report k last (Stops cause) (cs ∷ runs) = Some (OfRun k)
     failing report k last (Runs first next) (cs ∷ runs) = elim (is_over last) [
       | false ↦ Some (OfRun k)
-      | true ↦ elim (follow k 0 first cs) [ Err place ↦ Some place | Ok st ↦ failing report (suc k) (Some st) (next st) runs ]
+      | true ↦ elim (follow_lines k 0 first cs) [ Err place ↦ Some place | Ok st ↦ failing report (suc k) (Some st) (next st) runs ]
     ]
 
     -- the first place of the report that fails

@@ -35,14 +35,14 @@
 //!
 //! | here | there |
 //! |---|---|
-//! | runner | `runner` of `ore_pairs` (`specs/Runner.antt`), and `runner_within` for limits |
+//! | runner | `runner` of `ore_pairs/specs/Runner.antt`, and `runner_within` for limits |
 //! | state, first state | `RunState` and `begin` of `ore_pairs` |
 //! | choice, treatment | `Choice` of `ore_rows`; `Treat` |
 //! | step, refusal | `step` of `ore_pairs`; `Refusal` is the one here |
 //! | complete | each pair with equal lead columns is listed: `is_complete` of `ore_pairs` |
 //! | a course of one run | `run_on_rows` and `run_within` of `ore_pairs` |
 //! | rule | `rule_of` of `ore_pairs`: what a chooser allows, on what is shown of the state and on its listed pairs |
-//! | halt | `halt_in_course` of `ore_groebner` (`specs/Courses.antt`): `Treat` stands for the choice that treats this pair |
+//! | halt | `halt_in_course` of `ore_groebner/specs/Courses.antt`: `Treat` stands for the choice that treats this pair |
 //! | report, its lines | `course_report` of `ore_cert`, without the plan, which names the course; the first run has line 4 |
 #![tactic(auto)]
 

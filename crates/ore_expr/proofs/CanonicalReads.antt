@@ -13,8 +13,9 @@ use Rattle.ore_monomial.specs.Monomial.{degree, plain_cmp}
 use Rattle.ore_monomial.specs.Signature.{Signature}
 use Rattle.ore_monomial.specs.declared.order.Order.{Order}
 use Rattle.ore_monomial.specs.LetterRule.{Operator}
+use Rattle.ore_monomial.specs.Numbers.{AreNonZero}
 use Rattle.ore_ring.specs.Belongs.{OperatorOf}
-use Rattle.ore_ring.specs.Terms.{Summand, Terms, falling, AreApart}
+use Rattle.ore_ring.specs.Terms.{Summand, Terms, falling}
 use Rattle.ore_ring.proofs.TermLaws.{collect-falling}
 use Rattle.ore_ring.proofs.AllTerms.{falls-falling, all_terms}
 use Rattle.ore_ring.proofs.Falls.{left_true, right_true}
@@ -61,7 +62,7 @@ storable_falling o f h =
 -- ---- the terms have values
 
 module _ (s : Signature) (names : List (List ℕ)) (indexed : IsIndexed names 0 names) (count : length names ≡ length s.kinds) where
-  terms_give : (f : Operator rationals) → OperatorOf rationals s f → (ts : Terms) → AllByRecursion IsStorableTerm ts → AreApart ts → AllByRecursion (λ (u : Summand). coefficient rationals plain_cmp f u.0 ≡ u.1) ts → AllByRecursion (TermGives s names) ts
+  terms_give : (f : Operator rationals) → OperatorOf rationals s f → (ts : Terms) → AllByRecursion IsStorableTerm ts → AreNonZero rationals ts → AllByRecursion (λ (u : Summand). coefficient rationals plain_cmp f u.0 ≡ u.1) ts → AllByRecursion (TermGives s names) ts
   terms_give f of [] h a c = tt
   terms_give f of (t ∷ ts) h a c = (term_gives s names indexed count t h.0 (of t.0 (λ e. a.0 (sym c.0 ∙ e))) a.0, terms_give f of ts h.1 a.1 c.1)
 

@@ -25,7 +25,7 @@ use Rattle.ore_ring.specs.Within.{times_within}
 use Rattle.ore_ring.proofs.Falls.{left_true, right_true}
 use Rattle.ore_expr.specs.Grammar.{Term, Alone, Product, Factor, Bare, Power, Whole, Quotient, Variable}
 use Rattle.ore_expr.specs.Faults.{index_of}
-use Rattle.ore_expr.specs.Values.{constant, power_of_variable, variable_index, term_value, factor_value, atom_value}
+use Rattle.ore_expr.specs.Values.{power_of_variable, variable_index, term_value, factor_value, atom_value}
 use Rattle.ore_text.specs.CanonicalText.{is_one}
 use Rattle.ore_expr.specs.Laws.{IsStorableTerm}
 use Rattle.ore_expr.proofs.CanonicalTree.{factor_trees, product_tree, magnitude_tree, with_trees, term_tree, numeral, head_small, small_sum}
@@ -64,7 +64,7 @@ module _ (s : Signature) (all : List (List ℕ)) where
   value t = term_value program s all t
 
   magnitude_value : (q : Fraction) → nat_abs q.num < 2 ^ 127 → q.den < 2 ^ 127 → value (Alone (Bare (magnitude_tree q))) ≡ Ok (single rationals plain_cmp unit (size q))
-  unfolding term_value factor_value atom_value constant
+  unfolding term_value factor_value atom_value
   magnitude_value q h k = by (nat_eq q.den 1) refl
     where
       by : (b : Bool) → nat_eq q.den 1 ≡ b → atom_value program s all (if b then Whole (decimal (nat_abs q.num)) else Quotient (decimal (nat_abs q.num)) (decimal q.den)) ≡ Ok (single rationals plain_cmp unit (size q))

@@ -37,7 +37,7 @@ use Rattle.ore_ring.proofs.Falls.{first, second, less_of}
 use Rattle.ore_ring.proofs.OpSums.{minus_one_times}
 use Rattle.ore_ring.proofs.TermLaws.{C}
 use Rattle.ore_expr.specs.Grammar.{Expression, Term}
-use Rattle.ore_expr.specs.Values.{zero_operator, constant, expression_value, term_value, factor_value, atom_value}
+use Rattle.ore_expr.specs.Values.{zero_operator, expression_value, term_value, factor_value, atom_value}
 use Rattle.ore_expr.proofs.CanonicalTree.{term_tree, first_tree, next_tree, later_tree, canonical_tree}
 use Rattle.ore_expr.proofs.CanonicalTermValue.{size}
 
@@ -197,7 +197,7 @@ module _ (s : Signature) (all : List (List ℕ)) where
   lacks_first t (u ∷ ts) h = (Operators.coefficient-other rationals t.0 t.1 u.0 h.0, lacks_first t ts h.1)
 
   pub canonical_value : (ts : Terms) → AreOwn ts → AllByRecursion TermGives ts → value (canonical_tree all ts) ≡ Ok (C ts)
-  unfolding expression_value term_value factor_value atom_value constant empty_sum
+  unfolding expression_value term_value factor_value atom_value empty_sum
   canonical_value [] o g = ap Ok (Operators.single_zero rationals _)
   canonical_value (t ∷ ts) o g =
       later_value (first_tree t.1.num (term_tree all t)) (one_of t.0 t.1) ts o.1 (lacks_first t ts o.0) g.1 (first_value t g.0)

@@ -24,7 +24,7 @@ use Rattle.ore_expr.specs.Grammar.{Expression, expression_tokens}
 use Rattle.ore_expr.specs.Faults.{own_fault, IsSoundAt, IsSound, IsFirstFault, IsExpression, IsFault}
 use Rattle.ore_expr.specs.Values.{expression_value}
 use Rattle.ore_expr.specs.Evaluation.{expression_code, value_of}
-use Rattle.ore_expr.specs.Parsing.{follow, ends, parse}
+use Rattle.ore_expr.specs.Parsing.{takes_all, ends, parse}
 use Rattle.ore_algebra.specs.Results.{◌>>=◌}
 use Rattle.ore_expr.specs.Laws.{ReadsExpressions, FindsFaults}
 use Rattle.ore_expr.proofs.PartialTrees.{Partial, first, before, moves}
@@ -43,7 +43,7 @@ module _ (names : List (List ℕ)) (end : ℕ) where
   Reading ks xs (Err f) = IsFirstFault names end ks xs f
 
   abbrev read_from : Partial → List Lexeme → Result (List Instruction) TextFault
-  read_from z xs = follow names (state_of names z) xs >>= λ s. ends end s
+  read_from z xs = takes_all names (state_of names z) xs >>= λ s. ends end s
 
   reading_end : (z : Partial) → Reached z → Reading (before z) [] (ends end (state_of names z))
   reading_end z r = subst (Reading (before z) []) (sym (ends-state_of names end z)) (go (is_whole z) refl)
@@ -58,7 +58,7 @@ module _ (names : List (List ℕ)) (end : ℕ) where
 
   reading_step : (x : Lexeme) (xs : List Lexeme) (z : Partial) → Reached z → ((w : Partial) → Reached w → Reading (before w) xs (read_from w xs)) →
       (m : Option Partial) → moves z x.token ≡ m → (o : Option TextFault) → own_fault names (before z) x.place x.token ≡ o →
-      Reading (before z) (x ∷ xs) ((outcome names x.place m o >>= λ t. follow names t xs) >>= λ s. ends end s)
+      Reading (before z) (x ∷ xs) ((outcome names x.place m o >>= λ t. takes_all names t xs) >>= λ s. ends end s)
   reading_step x xs z r ih None e o u = inl (inl (not_begun z x.token r e, refl))
   reading_step x xs z r ih (Some w) e None u =
       reading_cons
@@ -74,7 +74,7 @@ module _ (names : List (List ℕ)) (end : ℕ) where
   reading [] z r = reading_end z r
   reading (x ∷ xs) z r =
       subst
-      (λ q. Reading (before z) (x ∷ xs) ((q >>= λ t. follow names t xs) >>= λ s. ends end s))
+      (λ q. Reading (before z) (x ∷ xs) ((q >>= λ t. takes_all names t xs) >>= λ s. ends end s))
       (sym (takes-state_of names z x.place x.token))
       (reading_step x xs z r (reading xs) (moves z x.token) refl (own_fault names (before z) x.place x.token) refl)
 

@@ -15,13 +15,13 @@ use Rattle.ore_rational.specs.Fraction.{whole}
 use Rattle.ore_rational.specs.Field.{rationals}
 use Rattle.ore_monomial.specs.Monomial.{unit}
 use Rattle.ore_monomial.specs.Signature.{Signature}
-use Rattle.ore_monomial.specs.LetterRule.{Operator}
+use Rattle.ore_monomial.specs.LetterRule.{Operator, constant}
 use Rattle.ore_monomial.proofs.Operators
 use Rattle.ore_ring.specs.Within.{plus_within, minus_within, times_within}
 use Rattle.ore_expr.specs.declared.instruction.Instruction.{Instruction}
 use Rattle.ore_expr.specs.declared.instruction.Instruction.TheVariants as code
 use Rattle.ore_expr.specs.Grammar.{Expression, Single, Negated, Sum, Difference, Term, Alone, Product, Factor, Bare, Power, Atom, Whole, Quotient, Variable, Group}
-use Rattle.ore_expr.specs.Values.{zero_operator, constant, power_within, expression_value, term_value, factor_value, atom_value}
+use Rattle.ore_expr.specs.Values.{zero_operator, power_within, expression_value, term_value, factor_value, atom_value}
 use Rattle.ore_expr.specs.Evaluation.{expression_code, term_code, factor_code, atom_code, applied, top, value_of}
 
 pub onward : {A B C : Type 0} (v : Result A Cause) (k : A → Result C Cause) (o : A → Result B Cause) (next : B → Result C Cause)
@@ -29,8 +29,7 @@ pub onward : {A B C : Type 0} (v : Result A Cause) (k : A → Result C Cause) (o
 onward (Ok x) k o next h = h x
 onward (Err e) k o next h = refl
 
-pub constant_zero : constant (whole (pos 0)) ≡ zero_operator
-unfolding constant
+pub constant_zero : constant rationals (whole (pos 0)) ≡ zero_operator
 constant_zero = Operators.single_zero rationals unit
 
 module _ (l : Limits) (s : Signature) where
@@ -68,7 +67,7 @@ module _ (l : Limits) (s : Signature) where
     unfolding applied
     negated is w leaves =
         subst (λ z. Leaves (code.Constant (whole (pos 0)) ∷ (is ++ code.Subtract ∷ [])) (w >>= λ g. minus_within l z g)) constant_zero
-        (leaves_both (code.Constant (whole (pos 0)) ∷ []) is (Ok (constant (whole (pos 0)))) w code.Subtract (minus_within l) (λ f g fs. refl) (λ fs rest. refl) leaves)
+        (leaves_both (code.Constant (whole (pos 0)) ∷ []) is (Ok (constant rationals (whole (pos 0)))) w code.Subtract (minus_within l) (λ f g fs. refl) (λ fs rest. refl) leaves)
 
     -- factors of an atom
     raised : (a : Atom) (digits : List ℕ) → Leaves (atom_code names a) (atom_value l s names a)

@@ -24,7 +24,7 @@ use Rattle.ore_expr.specs.declared.parser.Waiting.{Waiting}
 use Rattle.ore_expr.specs.declared.parser.Waiting.TheVariants as waiting
 use Rattle.ore_expr.specs.Evaluation.{IsOf}
 use Rattle.ore_expr.specs.Faults.{greatest_number, greatest_exponent, index_of}
-use Rattle.ore_expr.specs.Parsing.{State, start, no_level, goes_on, ends_atom, ends_factor, ends_sum, ends_product, ends_term, has_value, wants_atom, fault_where, taken_where, number_atom, takes_number, takes_name, takes_sum, takes_minus, takes_slash, takes_caret, takes_open, takes_close, takes_token, follow, ends, parse, is_empty}
+use Rattle.ore_expr.specs.Parsing.{State, start, no_level, goes_on, ends_atom, ends_factor, ends_sum, ends_product, ends_term, has_value, wants_atom, fault_where, taken_where, number_atom, takes_number, takes_name, takes_sum, takes_minus, takes_slash, takes_caret, takes_open, takes_close, takes_token, takes_all, ends, parse, is_empty}
 use Rattle.ore_algebra.specs.Results.{◌>>=◌}
 use Rattle.ore_expr.specs.Reading.{Reads}
 use Rattle.ore_expr.specs.Tokens.{Token, Number, Name, Plus, Minus, Star, Slash, Caret, Open, Close, Stray, Lexeme, lexemes}
@@ -187,13 +187,13 @@ module _ (names : List (List ℕ)) where
   takes_token-of s of place Close = taken_where-ok (IsParserStateOf (length names)) (has_value s.due) place _ (takes_close-of (length names) s of place s.outside)
   takes_token-of s of place (Stray b) = tt
 
-  follow-of : (xs : List Lexeme) (s : State) → IsParserStateOf (length names) s → IfOk (follow names s xs) (IsParserStateOf (length names))
-  follow-of [] s of = of
-  follow-of (x ∷ xs) s of = bind-ok (IsParserStateOf (length names)) (IsParserStateOf (length names)) _ _ (takes_token-of s of x.place x.token) (λ t after. follow-of xs t after)
+  takes_all-of : (xs : List Lexeme) (s : State) → IsParserStateOf (length names) s → IfOk (takes_all names s xs) (IsParserStateOf (length names))
+  takes_all-of [] s of = of
+  takes_all-of (x ∷ xs) s of = bind-ok (IsParserStateOf (length names)) (IsParserStateOf (length names)) _ _ (takes_token-of s of x.place x.token) (λ t after. takes_all-of xs t after)
 
   pub parse-of : (text : List ℕ) → IfOk (parse names text) (All (IsOf (length names)))
   parse-of text =
-      bind-ok (IsParserStateOf (length names)) (All (IsOf (length names))) _ _ (follow-of (lexemes text) start (record { due = tt; made = All-nil (IsOf (length names)) }))
+      bind-ok (IsParserStateOf (length names)) (All (IsOf (length names))) _ _ (takes_all-of (lexemes text) start (record { due = tt; made = All-nil (IsOf (length names)) }))
       (λ s of. ends-of (length names) s of (length text))
 
 -- what a call answers has what the function that it reads by gives

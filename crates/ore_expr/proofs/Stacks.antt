@@ -25,7 +25,7 @@ use Rattle.ore_rational.specs.Field.{rationals}
 use Rattle.ore_monomial.specs.Monomial.{Monomial, unit, with_exponent, plain_cmp}
 use Rattle.ore_monomial.specs.declared.order.Order.{Order}
 use Rattle.ore_monomial.specs.Signature.{Signature, MonomialOf}
-use Rattle.ore_monomial.specs.LetterRule.{Operator}
+use Rattle.ore_monomial.specs.LetterRule.{Operator, constant}
 use Rattle.ore_monomial.proofs.Monomials.{exponent-unit, exponent-other}
 use Rattle.ore_ring.specs.Belongs.{Belongs}
 use Rattle.ore_ring.specs.Ordered.{Ordered}
@@ -35,7 +35,7 @@ use Rattle.ore_expr.specs.declared.evaluation.Operation.{Operation}
 use Rattle.ore_expr.specs.declared.evaluation.Operation.TheVariants as operation
 use Rattle.ore_expr.specs.declared.instruction.Instruction.{Instruction}
 use Rattle.ore_expr.specs.declared.instruction.Instruction.TheVariants as code
-use Rattle.ore_expr.specs.Values.{zero_operator, constant, power_of_variable, power_within}
+use Rattle.ore_expr.specs.Values.{zero_operator, power_of_variable, power_within}
 use Rattle.ore_expr.specs.Evaluation.{applied, top, value_of}
 use Rattle.ore_expr.specs.Stack.{values_of, outcome, instruction_of}
 
@@ -61,8 +61,7 @@ All-two P all fs f g e h =
 abbrev IsSame : Operator rationals → Ordered → Type 0
 IsSame v f = ◌≡◌ {A = Result (Operator rationals) Cause} (Ok v) (Ok f.sum)
 
-pub constant_is : (o : Order) (m : Monomial) (q : Fraction) (f : Ordered) → f ≡ record { by = o; sum = single rationals plain_cmp m q } → m ≡ unit → IsSame (constant q) f
-unfolding constant
+pub constant_is : (o : Order) (m : Monomial) (q : Fraction) (f : Ordered) → f ≡ record { by = o; sum = single rationals plain_cmp m q } → m ≡ unit → IsSame (constant rationals q) f
 constant_is o m q f e h = ap Ok (ap (λ n. single rationals plain_cmp n q) (sym h) ∙ ap (λ (w : Ordered). w.sum) (sym e))
 
 pub power_of_variable_is : (o : Order) (m : Monomial) (q : Fraction) (x e : ℕ) (f : Ordered) → f ≡ record { by = o; sum = single rationals plain_cmp m q } → m ≡ with_exponent x e unit → q ≡ whole (pos 1) → IsSame (power_of_variable x e) f
@@ -98,9 +97,9 @@ module _ (l : Limits) (s : Signature) where
   pushes : (i : Instruction) (old new : List Ordered) (v : Operator rationals) (f : Ordered) → applied l s (values_of old) i ≡ Ok (v ∷ values_of old) → IsSame v f → new ≡ old ++ f ∷ [] → applied l s (values_of old) i ≡ Ok (values_of new)
   pushes i old new v f a e n = a ∙ ap (λ r. r >>= λ h. Ok (h ∷ values_of old)) e ∙ ap Ok (sym (ap values_of n ∙ values_of-push old f))
 
-  pub constant_pushed : (old new : List Ordered) (q : Fraction) (f : Ordered) → IsSame (constant q) f → new ≡ old ++ f ∷ [] → applied l s (values_of old) (code.Constant q) ≡ Ok (values_of new)
+  pub constant_pushed : (old new : List Ordered) (q : Fraction) (f : Ordered) → IsSame (constant rationals q) f → new ≡ old ++ f ∷ [] → applied l s (values_of old) (code.Constant q) ≡ Ok (values_of new)
   unfolding applied
-  constant_pushed old new q f = pushes (code.Constant q) old new (constant q) f refl
+  constant_pushed old new q f = pushes (code.Constant q) old new (constant rationals q) f refl
 
   pub power_pushed : (old new : List Ordered) (x e : ℕ) (f : Ordered) → IsSame (power_of_variable x e) f → new ≡ old ++ f ∷ [] → applied l s (values_of old) (code.Power x e) ≡ Ok (values_of new)
   unfolding applied

@@ -15,7 +15,7 @@ use Rattle.ore_expr.specs.declared.fault.TextFault.TheVariants as fault
 use Rattle.ore_rational.specs.Fraction.{whole}
 use Rattle.ore_expr.specs.declared.instruction.Instruction.TheVariants as code
 use Rattle.ore_expr.specs.Tokens.{Token, token_at, more_bytes, lexemes_from, lexemes}
-use Rattle.ore_expr.specs.Parsing.{State, start, takes_token, follow, ends, parse}
+use Rattle.ore_expr.specs.Parsing.{State, start, takes_token, takes_all, ends, parse}
 use Rattle.ore_algebra.specs.Results.{◌>>=◌}
 use Rattle.ore_expr.specs.Reading.{fault_in_text, FaultReads}
 use Rattle.ore_expr.specs.ReadStep.{rest_read}
@@ -83,11 +83,11 @@ unfolding lexemes_from
 parse-zero names = refl
 
 module _ (names : List (List ℕ)) (text : List ℕ) where
-  pub parse-ends : (s : State) (skipped place : ℕ) → place ≡ length text → rest_read names text s skipped place ≡ follow names start (lexemes text) → parse names text ≡ ends (length text) s
+  pub parse-ends : (s : State) (skipped place : ℕ) → place ≡ length text → rest_read names text s skipped place ≡ takes_all names start (lexemes text) → parse names text ≡ ends (length text) s
   parse-ends s skipped place end read =
       let none : drop place text ≡ [] = drop_all place text (omega arith) in
       let rest : rest_read names text s skipped place ≡ Ok s = rw (none, lexemes-none skipped place) refl in
       ap (λ r. r >>= ends (length text)) (sym read ∙ rest)
 
-  pub parse-fault : (s : State) (skipped place : ℕ) (f : TextFault) → rest_read names text s skipped place ≡ follow names start (lexemes text) → FaultReads f (rest_read names text s skipped place) → FaultReads f (parse names text)
-  parse-fault s skipped place f read faulty = refused_on (Unit {0}) (fault_in_text f) (follow names start (lexemes text)) (ends (length text)) (subst (FaultReads f) read faulty)
+  pub parse-fault : (s : State) (skipped place : ℕ) (f : TextFault) → rest_read names text s skipped place ≡ takes_all names start (lexemes text) → FaultReads f (rest_read names text s skipped place) → FaultReads f (parse names text)
+  parse-fault s skipped place f read faulty = refused_on (Unit {0}) (fault_in_text f) (takes_all names start (lexemes text)) (ends (length text)) (subst (FaultReads f) read faulty)

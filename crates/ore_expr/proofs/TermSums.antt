@@ -36,10 +36,11 @@ use Rattle.ore_monomial.proofs.Monomials.{plain_cmp_total, plain_cmp_apart, same
 use Rattle.ore_monomial.proofs.Operators
 use Rattle.ore_ring.specs.Belongs.{Belongs}
 use Rattle.ore_ring.specs.Ordered.{Ordered}
-use Rattle.ore_ring.specs.Terms.{Summand, Terms, falling, AreApart, IsFalling}
+use Rattle.ore_ring.specs.Terms.{Summand, Terms, falling, IsFalling}
 use Rattle.ore_ring.specs.Within.{shared_fits, all_shared_fit, plus_within, add_term_within}
 use Rattle.ore_ring.proofs.AllTerms.{AreDistinct, sorted_distinct, falls-falling, at_skip, at_own, distinct-terms, apart-terms, passes_of_all, all_of_passes}
 use Rattle.ore_monomial.proofs.FallingTerms.{back_order, back_apart}
+use Rattle.ore_monomial.specs.Numbers.{AreNonZero}
 use Rattle.ore_ring.proofs.OpSums.{plus_belongs}
 use Rattle.ore_ring.proofs.MergeIs.{shared_none, shared_some}
 use Rattle.ore_ring.proofs.TermLaws.{C}
@@ -218,7 +219,7 @@ drop_distinct ts zero d = d
 drop_distinct [] (suc k) d = tt
 drop_distinct (t ∷ ts) (suc k) d = drop_distinct ts k d.1
 
-drop_apart : (ts : Terms) (k : ℕ) → AreApart ts → AreApart (drop k ts)
+drop_apart : (ts : Terms) (k : ℕ) → AreNonZero rationals ts → AreNonZero rationals (drop k ts)
 drop_apart ts zero d = d
 drop_apart [] (suc k) d = tt
 drop_apart (t ∷ ts) (suc k) d = drop_apart ts k d.1
@@ -235,7 +236,7 @@ module _ (v : Ordered) (k : ℕ) (t : Summand) (e : Some t ≡ slice_get (fallin
   distinct = subst AreDistinct left (drop_distinct (falling v.by v.sum) k (sorted_distinct (back_order v.by) (back_apart v.by) (falling v.by v.sum) stored.falls))
 
   apart : t.1 ≢ whole (pos 0)
-  apart = (subst AreApart left (drop_apart (falling v.by v.sum) k stored.apart)).0
+  apart = (subst (AreNonZero rationals) left (drop_apart (falling v.by v.sum) k stored.apart)).0
 
   pub next_told : (h : Operator rationals) → add_term_within program f t.0 t.1 ≡ Ok h → plus_within program h (C (drop (k + 1) (falling v.by v.sum))) ≡ plus_within program given v.sum
   next_told h a = term_added program f t (drop (k + 1) (falling v.by v.sum)) distinct apart alone h a ∙ ap (λ ts. plus_within program f (C ts)) (sym left) ∙ told

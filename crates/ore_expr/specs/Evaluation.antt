@@ -12,13 +12,13 @@ use Rattle.ore_algebra.specs.Limits.{Limits, Cause, ◌>>=◌, fold_within}
 use Rattle.ore_rational.specs.Fraction.{whole, reduce}
 use Rattle.ore_rational.specs.Field.{rationals}
 use Rattle.ore_monomial.specs.Signature.{Signature}
-use Rattle.ore_monomial.specs.LetterRule.{Operator}
+use Rattle.ore_monomial.specs.LetterRule.{Operator, constant}
 use Rattle.ore_ring.specs.Within.{plus_within, minus_within, times_within}
 use Rattle.ore_expr.specs.declared.instruction.Instruction.{Instruction}
 use Rattle.ore_expr.specs.declared.instruction.Instruction.TheVariants as code
 use Rattle.ore_expr.specs.Grammar.{Expression, Single, Negated, Sum, Difference, Term, Alone, Product, Factor, Bare, Power, Atom, Whole, Quotient, Variable, Group}
 use Rattle.ore_expr.specs.Faults.{greatest_exponent}
-use Rattle.ore_expr.specs.Values.{zero_operator, constant, power_of_variable, variable_index, power_within}
+use Rattle.ore_expr.specs.Values.{zero_operator, power_of_variable, variable_index, power_within}
 
 module _ (names : List (List ℕ)) where
   unfoldable mutual
@@ -55,7 +55,7 @@ IsOf count instruction = Unit {0}
 module _ (l : Limits) (s : Signature) where
   -- the top of the stack stands first
   unfoldable pub applied : List (Operator rationals) → Instruction → Result (List (Operator rationals)) Cause
-  applied fs (code.Constant q) = Ok (constant q ∷ fs)
+  applied fs (code.Constant q) = Ok (constant rationals q ∷ fs)
   applied fs (code.Power x e) = Ok (power_of_variable x e ∷ fs)
   applied (g ∷ f ∷ fs) code.Add = do
     h ← plus_within l f g

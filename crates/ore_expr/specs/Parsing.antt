@@ -11,7 +11,7 @@
 --     takes_name, takes_sum, takes_minus, takes_product, takes_slash, takes_caret, takes_open, takes_close
 --                        the state after a name, a sum, a minus, a product and so on
 --     takes_token, takes                     the state after a token, after a lexeme
---     follow             the state after some lexemes
+--     takes_all          the state after some lexemes
 --     is_empty           no parenthesis is open
 --     ends               the instructions where the text ends here
 --     parse              the instructions of a text
@@ -178,9 +178,9 @@ takes names s x = takes_token names s x.place x.token
 -- ---- texts
 
 -- the lexemes are taken in order, up to the first fault
-abbrev pub follow : List (List ℕ) → State → List Lexeme → Result State TextFault
-follow names s [] = Ok s
-follow names s (x ∷ xs) = takes names s x >>= λ t. follow names t xs
+abbrev pub takes_all : List (List ℕ) → State → List Lexeme → Result State TextFault
+takes_all names s [] = Ok s
+takes_all names s (x ∷ xs) = takes names s x >>= λ t. takes_all names t xs
 
 -- no parenthesis is open
 abbrev pub is_empty : List Level → Bool
@@ -193,4 +193,4 @@ ends place s = cond (has_value s.due && is_empty s.outside) (Ok (ends_term s)) (
 
 -- the lexemes of the text from the start, and the end at the length of the text
 abbrev pub parse : List (List ℕ) → List ℕ → Result (List Instruction) TextFault
-parse names text = follow names start (lexemes text) >>= λ s. ends (length text) s
+parse names text = takes_all names start (lexemes text) >>= λ s. ends (length text) s

@@ -1,7 +1,7 @@
 -- The value of an expression: its operations in the order in which they are formed, inner ones first and the left side
 -- before the right, each within limits.
 --     zero_operator                    zero
---     constant, power_of_variable      a number as an operator; a power of a variable
+--     power_of_variable                a power of a variable
 --     variable_index                   the index of a name, 0 where it isn't declared
 --     power_within                     so many factors, from the left
 --     expression_value, term_value, factor_value, atom_value      the value of each
@@ -16,7 +16,7 @@ use Rattle.ore_rational.specs.Fraction.{Fraction, whole, reduce}
 use Rattle.ore_rational.specs.Field.{rationals}
 use Rattle.ore_monomial.specs.Monomial.{unit, with_exponent, plain_cmp}
 use Rattle.ore_monomial.specs.Signature.{Signature}
-use Rattle.ore_monomial.specs.LetterRule.{Operator}
+use Rattle.ore_monomial.specs.LetterRule.{Operator, constant}
 use Rattle.ore_ring.specs.Within.{plus_within, minus_within, times_within}
 use Rattle.ore_expr.specs.Grammar.{Expression, Single, Negated, Sum, Difference, Term, Alone, Product, Factor, Bare, Power, Atom, Whole, Quotient, Variable, Group}
 use Rattle.ore_expr.specs.Faults.{index_of}
@@ -24,10 +24,6 @@ use Rattle.ore_expr.specs.Faults.{index_of}
 -- the operator without terms
 abbrev pub zero_operator : Operator rationals
 zero_operator = empty_sum rationals plain_cmp
-
--- the number times the monomial 1
-unfoldable pub constant : Fraction → Operator rationals
-constant q = single rationals plain_cmp unit q
 
 -- the variable x with this exponent, as one monomial
 unfoldable pub power_of_variable : ℕ → ℕ → Operator rationals
@@ -40,7 +36,7 @@ variable_index names name = unwrap_or (index_of names name) 0
 module _ (l : Limits) (s : Signature) where
   -- no factor gives 1, and n factors are multiplied from the left
   unfoldable pub power_within : ℕ → Operator rationals → Result (Operator rationals) Cause
-  power_within zero f = Ok (constant (whole (pos 1)))
+  power_within zero f = Ok (constant rationals (whole (pos 1)))
   power_within (suc zero) f = Ok f
   power_within (suc (suc n)) f = do
     p ← power_within (suc n) f
@@ -81,7 +77,7 @@ module _ (l : Limits) (s : Signature) (names : List (List ℕ)) where
 
     -- the quotient of two numbers is one fraction, in lowest terms
     pub atom_value : Atom → Result (Operator rationals) Cause
-    atom_value (Whole digits) = Ok (constant (whole (pos (digits_value 10 digits))))
-    atom_value (Quotient digits others) = Ok (constant (reduce (pos (digits_value 10 digits)) (digits_value 10 others)))
+    atom_value (Whole digits) = Ok (constant rationals (whole (pos (digits_value 10 digits))))
+    atom_value (Quotient digits others) = Ok (constant rationals (reduce (pos (digits_value 10 digits)) (digits_value 10 others)))
     atom_value (Variable name) = Ok (power_of_variable (variable_index names name) 1)
     atom_value (Group e) = expression_value e

@@ -3,13 +3,15 @@
 ghost use Rattle.std.specs.Prelude.{◌≡◌, ◌<◌, ◌≤◌, ◌++◌, [], ◌∷◌, length, IfOk, MatchOption};
 ghost use Rattle.std.specs.List.{All};
 ghost use Rattle.ore_algebra.specs.Limits.{program};
+ghost use Rattle.ore_rational.specs.Field.{rationals};
 ghost use Rattle.ore_monomial.specs.Gives.{Gives, Turns};
+ghost use Rattle.ore_monomial.specs.LetterRule.{constant as constant_of};
 ghost use Rattle.ore_ring.specs.Belongs.{Belongs, AllBelong};
 ghost use Rattle.ore_ring.specs.Within.{opposite as opposite_of, times_within};
 ghost use Rattle.ore_expr.specs.declared.instruction.Instruction.TheVariants as code;
 ghost use Rattle.ore_expr.specs.Evaluation.{IsOf, applied, value_of};
 ghost use Rattle.ore_expr.specs.Stack.{instruction_of, outcome as outcome_of, values_of};
-ghost use Rattle.ore_expr.specs.Values.{constant as constant_of, power_of_variable as power_of, power_within};
+ghost use Rattle.ore_expr.specs.Values.{power_of_variable as power_of, power_within};
 
 use crate::instruction::Instruction;
 use crate::operand::{Operand, added};
@@ -234,7 +236,7 @@ fn pop_two(stack: &mut Vec<Operand>) -> Option<(Operand, Operand)>
 
 // A number as an operator.
 fn constant<R: OreRing>(ring: &R, alloc: Global, number: Rational) -> Result<Op, RingStop>
-    ensures gives { Gives (λ f. f.sum) result (Ok (constant_of number)) }
+    ensures gives { Gives (λ f. f.sum) result (Ok (constant_of rationals number)) }
     ensures of { IfOk result (Belongs (R.sig ring.now)) }
 {
     Ok(Op::term(alloc, ring.signature().order(), Exps::zero(), number)?)

@@ -22,7 +22,7 @@ use Rattle.ore_rational.specs.Fraction.{Fraction, whole, abs-neg}
 use Rattle.ore_rational.specs.Field.{rationals}
 use Rattle.ore_monomial.specs.declared.order.Order.{Order}
 use Rattle.ore_monomial.specs.Monomial.{Monomial, degree, unit, with_exponent, plain_cmp}
-use Rattle.ore_monomial.specs.LetterRule.{Operator}
+use Rattle.ore_monomial.specs.LetterRule.{Operator, constant}
 use Rattle.ore_monomial.proofs.Monomials.{plain_cmp_total, plain_cmp_apart}
 use Rattle.ore_monomial.proofs.Operators
 use Rattle.ore_ring.specs.Ordered.{Ordered}
@@ -31,7 +31,7 @@ use Rattle.ore_text.specs.Names.{index_of, IsAdded, AreNames}
 use Rattle.ore_text.specs.Printable.{IsStorableTerm, IsStorable, IsPrintable}
 use Rattle.ore_text.proofs.NameLemmas.{AreNames-push}
 use Rattle.ore_text.proofs.PrintableTerms.{in_terms}
-use Rattle.ore_expr.specs.Values.{zero_operator, constant, power_of_variable}
+use Rattle.ore_expr.specs.Values.{zero_operator, power_of_variable}
 use Rattle.ore_expr.proofs.Stacks.{unit_of, power_of}
 use Rattle.ore_problem.specs.Stored.{IsPrintableSystem}
 use Rattle.ore_generate.specs.Chain.{is_cut, gain, entry, equation, equations, names, signature, generated}
@@ -51,8 +51,7 @@ pub term_sum : {E : Type 0} (o : Order) (m : Monomial) (q : Fraction) (r : Resul
 term_sum o m q (Ok v) f same h = ap (λ (w : Ordered). w.sum) h ∙ same
 term_sum o m q (Err e) f same h = tt
 
-pub constant_is : (m : Monomial) (q k : Fraction) → m ≡ unit → q ≡ k → single rationals plain_cmp m q ≡ constant k
-unfolding constant
+pub constant_is : (m : Monomial) (q k : Fraction) → m ≡ unit → q ≡ k → single rationals plain_cmp m q ≡ constant rationals k
 constant_is m q k e f = λ i. single rationals plain_cmp (e i) (f i)
 
 pub power_of_variable_is : (m : Monomial) (q : Fraction) (x e : ℕ) → m ≡ with_exponent x e unit → q ≡ whole (pos 1) → single rationals plain_cmp m q ≡ power_of_variable x e
@@ -62,7 +61,7 @@ power_of_variable_is m q x e f g = λ i. single rationals plain_cmp (f i) (g i)
 -- the operator of an equation, by whether the variable is that of the equation, or the next one
 module _ (n i : ℕ) where
   choice : Bool → Bool → Operator rationals
-  choice own next = cond own (power_of_variable 1 1) (cond next (constant (whole (neg_ℤ (pos (gain n i))))) zero_operator)
+  choice own next = cond own (power_of_variable 1 1) (cond next (constant rationals (whole (neg_ℤ (pos (gain n i))))) zero_operator)
 
 pub few_gain : (n i : ℕ) → gain n i ≤ 4
 few_gain n i = by (is_cut n i)
@@ -119,8 +118,8 @@ power_printable =
     small : degree (with_exponent 1 1 unit) ≤ 32767
     small = let e : degree (with_exponent 1 1 unit) ≡ 1 = refl in omega (arith, e)
 
-constant_printable : (k : ℕ) → k ≤ 4 → IsPrintable signature names (constant (whole (neg_ℤ (pos k))))
-unfolding constant degree unit
+constant_printable : (k : ℕ) → k ≤ 4 → IsPrintable signature names (constant rationals (whole (neg_ℤ (pos k))))
+unfolding degree unit
 constant_printable k few =
     record {
       names_fit = are_names;

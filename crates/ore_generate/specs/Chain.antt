@@ -14,8 +14,8 @@ use Rattle.ore_rational.specs.Field.{rationals}
 use Rattle.ore_monomial.specs.declared.order.Order.TheVariants.{DegRevLex}
 use Rattle.ore_monomial.specs.declared.signature.VarKind.TheVariants.{Coordinate, Differential}
 use Rattle.ore_monomial.specs.Signature.{Signature}
-use Rattle.ore_monomial.specs.LetterRule.{Operator}
-use Rattle.ore_expr.specs.Values.{zero_operator, constant, power_of_variable}
+use Rattle.ore_monomial.specs.LetterRule.{Operator, constant}
+use Rattle.ore_expr.specs.Values.{zero_operator, power_of_variable}
 use Rattle.ore_rows.specs.Rows.{Row}
 use Rattle.ore_problem.specs.Problems.{System}
 
@@ -29,7 +29,7 @@ gain n i = if is_cut n i then 0 else 1 + (n + i) % 4
 
 -- d, which is the variable of the algebra with the index 1, at variable i; minus the gain at the next one; and zero elsewhere
 abbrev pub entry : ℕ → ℕ → ℕ → Operator rationals
-entry n i j = if nat_eq j i then power_of_variable 1 1 else if nat_eq j (i + 1) then constant (whole (neg_ℤ (pos (gain n i)))) else zero_operator
+entry n i j = if nat_eq j i then power_of_variable 1 1 else if nat_eq j (i + 1) then constant rationals (whole (neg_ℤ (pos (gain n i)))) else zero_operator
 
 -- at the variables from 1 to 41
 unfoldable pub equation : ℕ → ℕ → Row rationals

@@ -2,9 +2,11 @@
 
 ghost use Rattle.std.specs.Prelude.{◌≡◌, ◌≤◌, pos, neg_ℤ, length, IfOk};
 ghost use Rattle.std.specs.List.{All};
-ghost use Rattle.ore_expr.specs.Values.{constant as constant_of, power_of_variable};
+ghost use Rattle.ore_expr.specs.Values.{power_of_variable};
 ghost use Rattle.ore_rational.specs.Fraction.{whole};
 ghost use Rattle.ore_rational.specs.Range.{InRange};
+ghost use Rattle.ore_rational.specs.Field.{rationals};
+ghost use Rattle.ore_monomial.specs.LetterRule.{constant as constant_of};
 ghost use Rattle.ore_ring.specs.Belongs.{Belongs, AllBelong};
 ghost use Rattle.ore_rows.specs.Stored.{rows_of, sums_of};
 ghost use Rattle.ore_problem.specs.Stored.{system_of, IsProblem};
@@ -121,7 +123,7 @@ fn derivative(alloc: Global) -> Result<Op, NoMemory>
 // A whole number as an operator.
 fn constant(alloc: Global, number: i128) -> Result<Op, NoMemory>
     requires { InRange number }
-    ensures value { IfOk result (λ f. f.sum ≡ constant_of (whole number)) }
+    ensures value { IfOk result (λ f. f.sum ≡ constant_of rationals (whole number)) }
     ensures of { IfOk result (Belongs chain.signature) }
 {
     Op::term(alloc, ORDER, Exps::zero(), Rational::whole(number))

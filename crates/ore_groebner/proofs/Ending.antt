@@ -48,7 +48,7 @@ module _ (s : Signature) (a : OperatorMatrix) (allows : BasisLeads → List (ℕ
   module _ (runs : List (List Choice)) (settings : Settings) where
     answered_in : IsLed s a allows (present runs) p → (x : Next) → IsChooserAnswer (leads_of p.basis.items) p.listed runs settings x → IsChooserAnswer (leads_of (run_state p).basis) (pairs_of (run_state p).listed) runs settings x
     answered_in led x h = subst (λ leads. IsChooserAnswer leads (pairs_of (run_state p).listed) runs settings x) (sym (leads_monics p.basis.items))
-        (answer_same (leads_of p.basis.items) p.listed (pairs_of (run_state p).listed) led.kept.listed runs settings x h)
+        (answer_same (leads_of p.basis.items) p.listed (pairs_of (run_state p).listed) led.fits.listed runs settings x h)
 
     pub refusal_halts : IsLed s a allows (present runs) p → (h : Halt) → IsChooserRefusal (leads_of p.basis.items) p.listed runs settings h → IsHalted s a runs settings h
     refusal_halts led halt.Spent r = record { last = run_state p; reached = led_reached s a allows (present runs) p led; answered = answered_in led next.Spent r }
@@ -82,7 +82,7 @@ module _ (s : Signature) (a : OperatorMatrix) (allows : BasisLeads → List (ℕ
   refusal_spent cs led have allows_spent h r e = spent_here s a allows cs p led have allows_spent (subst (IsRefusalAllowed allows_spent (basis_leads p.basis) (chosen_pairs cs)) e r)
 
   pub all_complete : IsProgressOf s p → AreAllListed (leads_of p.basis.items) p.listed → IsComplete rationals (run_state p)
-  all_complete kept all = subst (λ leads. AreAllListed leads (pairs_of (run_state p).listed)) (sym (leads_monics p.basis.items)) (λ i j pair. sym (kept.listed i j) ∙ all i j pair)
+  all_complete fits all = subst (λ leads. AreAllListed leads (pairs_of (run_state p).listed)) (sym (leads_monics p.basis.items)) (λ i j pair. sym (fits.listed i j) ∙ all i j pair)
 
   -- where the rows of the matrix are multiples of the n rows of the basis
   pub record IsEnded (n : ℕ) (f : Finished) : Type 0 where
@@ -100,19 +100,19 @@ module _ (s : Signature) (a : OperatorMatrix) (allows : BasisLeads → List (ℕ
     last = run_state p;
     begun = led.begun;
     led = led.led;
-    complete = all_complete led.kept all;
+    complete = all_complete led.fits all;
     basis = ap monics (sym e.basis);
     listed = (λ k. entries_from (led.first k) (sym e.events k));
     syzygies = ap rows_of (sym e.syzygies);
     origins = sym e.origins;
     events = ap choices_of e.events ∙ led.events;
-    counted = length-map p.basis.items monic_of ∙ led.kept.counted ∙ (λ k. led.first k + new_rows (sym e.events k));
+    counted = length-map p.basis.items monic_of ∙ led.fits.counted ∙ (λ k. led.first k + new_rows (sym e.events k));
     from = e.from ∙ ap (λ m. from_rows rationals s.order m 0 (rows_of a)) (size ∙ sym (length-map p.basis.items monic_of));
     from_cols = e.from_cols ∙ size ∙ sym (length-map p.basis.items monic_of);
     syzygy_cols = ap (λ (m : OperatorMatrix). m.cols) e.syzygies ∙ led.width;
     cols = ap (λ (b : StoredBasis). b.cols) e.basis ∙ led.cols;
     width = ap (λ (b : StoredBasis). b.width) e.basis ∙ led.width;
-    basis_of = subst (λ (b : StoredBasis). BasisBelongs s b.items) (sym e.basis) led.kept.belongs;
+    basis_of = subst (λ (b : StoredBasis). BasisBelongs s b.items) (sym e.basis) led.fits.belongs;
     from_of = e.from_of;
-    syzygies_of = subst (λ (m : OperatorMatrix). All (All (Belongs s)) m.rows) (sym e.syzygies) led.kept.of;
+    syzygies_of = subst (λ (m : OperatorMatrix). All (All (Belongs s)) m.rows) (sym e.syzygies) led.fits.of;
   }

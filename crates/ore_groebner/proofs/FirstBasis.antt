@@ -1,11 +1,11 @@
 -- The first basis of a run.
 --     begin_none, begin_some     a row that is zero, and one that isn't
 --     with_basis_row_stops, with_basis_row_gives   one more basis row
---     begun_entries, monic_kept    what is kept still fits together
+--     begun_entries, monic_fits    what is kept still fits together
 --     begun_first                the number of rows that is kept
 --     drop_at                    a list from a place in it on
 --     rows_start, rows_next, rows_stop, rows_end     the rows from a place on
---     empty_kept                 before the first row
+--     empty_fits                 before the first row
 use Rattle.std.proofs.Common.{◌≡◌, ℕ, suc, ◌≤◌, ◌+◌, List, [], ◌∷◌, ◌++◌, length, map, drop, refl, sym, ap, ◌∙◌, subst, arith}
 use Rattle.std.specs.List.{All, slice_get}
 use Rattle.std.specs.declared.option.Option.{Option}
@@ -83,8 +83,8 @@ none_new = refl
 pub begun_entries : (p : Progress) (n : ℕ) → IsBegun p → entries_from n p.events.items ≡ []
 begun_entries p n b = ap (entries_from n) b.events ∙ no_entries n
 
-pub monic_kept : (s : Signature) (q : Progress) → IsBegun q → q.first ≡ length q.basis.items → BasisBelongs s q.basis.items → All (λ r. length r ≡ q.basis.width) q.syzygies.items → All (All (Belongs s)) q.syzygies.items → IsProgressOf s q
-monic_kept s q begun first belongs wide of = record {
+pub monic_fits : (s : Signature) (q : Progress) → IsBegun q → q.first ≡ length q.basis.items → BasisBelongs s q.basis.items → All (λ r. length r ≡ q.basis.width) q.syzygies.items → All (All (Belongs s)) q.syzygies.items → IsProgressOf s q
+monic_fits s q begun first belongs wide of = record {
   belongs = belongs;
   listed = λ x y. ap (is_listed x y) begun.listed ∙ ap (λ es. is_listed x y (pairs_of es)) (sym (begun_entries q q.first begun));
   counted = counts (length q.basis.items) q.first (new_rows q.events.items) first (ap new_rows begun.events ∙ none_new);
@@ -97,7 +97,7 @@ monic_kept s q begun first belongs wide of = record {
 
 -- what a run begins with counts the rows of its basis
 pub begun_first : (s : Signature) (p : Progress) → IsProgressOf s p → IsBegun p → p.first ≡ length p.basis.items
-begun_first s p kept begun = counts (length p.basis.items) p.first (new_rows p.events.items) kept.counted (ap new_rows begun.events ∙ none_new)
+begun_first s p fits begun = counts (length p.basis.items) p.first (new_rows p.events.items) fits.counted (ap new_rows begun.events ∙ none_new)
   where
     counts : (a f n : ℕ) → a ≡ f + n → n ≡ 0 → f ≡ a
     counts a f n h k = omega arith
@@ -129,5 +129,5 @@ module _ (s : Signature) (rows : List (Row rationals)) where
   unfolding run.begin
   rows_start p basis begun syzygies origins = λ n. begin_at (length rows) 0 rows (record { basis = sym basis n; listed = sym (begun_entries p p.first begun) n; syzygies = map sums_of (sym syzygies n); origins = sym origins n })
 
-pub empty_kept : (s : Signature) (p : Progress) (n m : ℕ) → p.basis ≡ record { cols = n; width = m; items = [] } → p.first ≡ 0 → IsBegun p → p.syzygies.items ≡ [] → IsProgressOf s p
-empty_kept s p n m basis first begun syzygies = monic_kept s p begun (first ∙ ap (λ (b : StoredBasis). length b.items) (sym basis)) (subst (λ (b : StoredBasis). BasisBelongs s b.items) (sym basis) (All-nil _)) (subst (All (λ (r : List Ordered). length r ≡ p.basis.width)) (sym syzygies) (All-nil _)) (subst (All (All (Belongs s))) (sym syzygies) (All-nil _))
+pub empty_fits : (s : Signature) (p : Progress) (n m : ℕ) → p.basis ≡ record { cols = n; width = m; items = [] } → p.first ≡ 0 → IsBegun p → p.syzygies.items ≡ [] → IsProgressOf s p
+empty_fits s p n m basis first begun syzygies = monic_fits s p begun (first ∙ ap (λ (b : StoredBasis). length b.items) (sym basis)) (subst (λ (b : StoredBasis). BasisBelongs s b.items) (sym basis) (All-nil _)) (subst (All (λ (r : List Ordered). length r ≡ p.basis.width)) (sym syzygies) (All-nil _)) (subst (All (All (Belongs s))) (sym syzygies) (All-nil _))

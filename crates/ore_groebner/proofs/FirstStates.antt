@@ -20,7 +20,7 @@ use Rattle.ore_rows.specs.Rows.{Row, RowOf, AreLong, zero_row, unit_row, row_sca
 use Rattle.ore_rows.specs.RowLead.{coefficient_at, row_lead}
 use Rattle.ore_rows.specs.Arithmetic.{Arithmetic, exact}
 use Rattle.ore_rows.specs.Reduction.{BasisRow}
-use Rattle.ore_pairs.specs.Run.{RunState, constant, monic_multiple, begin_row, begin_rows, begin}
+use Rattle.ore_pairs.specs.Run.{RunState, monic_multiple, begin_row, begin_rows, begin}
 use Rattle.ore_rows.specs.declared.choices.Origin.{Origin}
 use Rattle.ore_rows.specs.declared.choices.Origin.TheVariants.{ZeroRow, Event}
 use Rattle.ore_rows.proofs.GreatestTerms.{zero_from}
@@ -29,6 +29,7 @@ use Rattle.ore_pairs.specs.PairList.{DealtPair, AreLawful, AreEntriesOf}
 use Rattle.ore_groebner.specs.RunLaws.{IsBasisRow, IsSyzygy, IsNone, IsFrom, IsPlaceIn, HaveTheirSyzygies}
 use Rattle.ore_groebner.proofs.Limited.{monic_of, monic_exact}
 use Rattle.ore_algebra.proofs.ResultLaws.{same_ok}
+use Rattle.ore_monomial.specs.LetterRule.{constant}
 use Rattle.ore_groebner.proofs.Growing.{map_grow, map_last}
 use Rattle.ore_groebner.proofs.Sources.{all_imply, none_other, none_more, from_more, from_new, row_place}
 use Rattle.ore_groebner.proofs.Holding.{AreBack, Holds}

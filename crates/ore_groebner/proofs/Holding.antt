@@ -18,10 +18,11 @@ use Rattle.ore_algebra.specs.Domain.{Domain}
 use Rattle.ore_monomial.specs.Signature.{Signature}
 use Rattle.ore_monomial.specs.Term.{Term}
 use Rattle.ore_monomial.specs.declared.order.Order.{Order}
+use Rattle.ore_monomial.specs.LetterRule.{constant}
 use Rattle.ore_rows.specs.Rows.{Row, RowOf, AreLong, zero_row, unit_row, row_scale, combine, matrix_times}
 use Rattle.ore_rows.specs.RowLead.{coefficient_at, IsRowLead, row_lead}
 use Rattle.ore_rows.specs.Reduction.{BasisRow, AreMonic, basis_rows, cofactors_of, leads_of, origin, row_at}
-use Rattle.ore_pairs.specs.Run.{RunState, constant}
+use Rattle.ore_pairs.specs.Run.{RunState}
 use Rattle.ore_rows.specs.declared.choices.Origin.{Origin}
 use Rattle.ore_rows.specs.declared.choices.Origin.TheVariants.{ZeroRow}
 use Rattle.ore_pairs.specs.Steps.{AreLeads, lead_at}

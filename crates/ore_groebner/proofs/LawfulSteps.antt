@@ -42,7 +42,7 @@ abbrev pub IsLawfulIn : RunState rationals → Choice → Type 0
 IsLawfulIn st c = is_lawful (leads_of st.basis) (pairs_of st.listed) c ≡ true
 
 pub lawful_kept : (s : Signature) (p : Progress) (c : Choice) → IsProgressOf s p → is_lawful (leads_of p.basis.items) p.listed c ≡ true → IsLawfulIn (run_state p) c
-lawful_kept s p c kept h = ap (λ leads. is_lawful leads (pairs_of (run_state p).listed) c) (leads_monics p.basis.items) ∙ sym (lawful_same (leads_of p.basis.items) p.listed (pairs_of (run_state p).listed) kept.listed c) ∙ h
+lawful_kept s p c fits h = ap (λ leads. is_lawful leads (pairs_of (run_state p).listed) c) (leads_monics p.basis.items) ∙ sym (lawful_same (leads_of p.basis.items) p.listed (pairs_of (run_state p).listed) fits.listed c) ∙ h
 
 module _ (s : Signature) (st : RunState rationals) (c : Choice) (lawful : IsLawfulIn st c) where
   abbrev outcome : Result (RunState rationals) Cause

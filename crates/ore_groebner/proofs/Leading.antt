@@ -86,7 +86,7 @@ module _ (s : Signature) (a : OperatorMatrix) where
     led_pairs cs p led = pairs_of-entries_from p.first p.events.items ∙ ap chosen_pairs led.events
 
     allowed_here : (cs : List Choice) (p : Progress) → IsLed s a allows cs p → HaveLeads p.basis.items → (allowed : BasisLeads → List (ℕ × ℕ) → Bool) → allowed (basis_leads p.basis) (chosen_pairs cs) ≡ true → IsAllowedAt s allowed (run_state p)
-    allowed_here cs p led have allowed h = (λ k. allowed (state_leads-state s a p led.kept have k) (led_pairs cs p led k)) ∙ h
+    allowed_here cs p led have allowed h = (λ k. allowed (state_leads-state s a p led.fits have k) (led_pairs cs p led k)) ∙ h
 
     pub allowed_push : (cs : List Choice) (c : Choice) (p : Progress) → IsLed s a allows cs p → HaveLeads p.basis.items → allows (basis_leads p.basis) (chosen_pairs cs) c ≡ true → RuleAllowsEach s a allows (cs ++ c ∷ [])
     allowed_push cs c p led have here k d st e reached = by (slice_get-push cs c k d e)
@@ -105,7 +105,7 @@ module _ (s : Signature) (a : OperatorMatrix) where
       start = led.start;
       begun = led.begun;
       led = state_after-push led.start (run_state p) (run_state q) cs c led.led f.made;
-      kept = f.kept;
+      fits = f.fits;
       lists = lists_next p.listed q.listed cs c led.lists f.listed;
       events = f.shape.events ∙ ap (λ ds. ds ++ c ∷ []) led.events;
       first = f.shape.first ∙ led.first;
@@ -116,11 +116,11 @@ module _ (s : Signature) (a : OperatorMatrix) where
 
     pub led_start : (p : Progress) → first_state s a ≡ Ok (run_state p) → IsProgressOf s p → IsBegun p → p.first ≡ length p.basis.items → p.basis.cols ≡ a.cols → p.basis.width ≡ length a.rows → IsLed s a allows [] p
     unfolding course.run is_listed
-    led_start p starts kept begun first cols width = record {
+    led_start p starts fits begun first cols width = record {
       start = run_state p;
       begun = starts;
       led = refl;
-      kept = kept;
+      fits = fits;
       lists = λ i j. ap (is_listed i j) begun.listed;
       events = ap choices_of begun.events;
       first = first ∙ sym (length-map p.basis.items monic_of);

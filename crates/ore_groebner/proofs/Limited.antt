@@ -20,13 +20,14 @@ use Rattle.ore_monomial.specs.Monomial.{degree, unit}
 use Rattle.ore_monomial.specs.Signature.{Signature}
 use Rattle.ore_monomial.specs.Term.{Term}
 use Rattle.ore_monomial.specs.declared.order.Order.{Order}
+use Rattle.ore_monomial.specs.LetterRule.{constant}
 use Rattle.ore_rows.specs.Rows.{Row, unit_row, row_scale}
 use Rattle.ore_rows.specs.RowLead.{coefficient_at, row_lead}
 use Rattle.ore_rows.specs.Arithmetic.{Arithmetic, exact, IsSoundArithmetic}
 use Rattle.ore_rows.specs.Reduction.{BasisRow, ReductionState, basis_rows, cofactors_of, leads_of}
 use Rattle.ore_pairs.specs.PairList.{pairs_of}
 use Rattle.ore_pairs.specs.PairRule.{is_lawful}
-use Rattle.ore_pairs.specs.Run.{RunState, Refusal, Unlawful, Stopped, constant, entries_with, as_refusal, inverse_of, s_rows, with_syzygy, monic_multiple, with_row, with_remainder, treat, follow, step, begin_row, begin_rows, begin}
+use Rattle.ore_pairs.specs.Run.{RunState, Refusal, Unlawful, Stopped, entries_with, as_refusal, inverse_of, s_rows, with_syzygy, monic_multiple, with_row, with_remainder, treat, follow, step, begin_row, begin_rows, begin}
 use Rattle.ore_pairs.specs.Steps.{lcm_of_leads, s_row}
 use Rattle.ore_pairs.proofs.SRows.{s_row_exact, s_row_most}
 use Rattle.ore_pairs.specs.Runner.{run}

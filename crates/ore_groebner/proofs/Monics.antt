@@ -13,7 +13,7 @@ use Rattle.ore_monomial.specs.Monomial.{unit, plain_cmp}
 use Rattle.ore_monomial.specs.Signature.{Signature, IsLawful}
 use Rattle.ore_monomial.specs.Term.{Term, shift}
 use Rattle.ore_monomial.specs.declared.order.Order.{Order}
-use Rattle.ore_monomial.specs.LetterRule.{Operator}
+use Rattle.ore_monomial.specs.LetterRule.{Operator, constant}
 use Rattle.ore_monomial.proofs.Declared.{MonomialOf-unit}
 use Rattle.ore_monomial.proofs.Monomials.{product-unit}
 use Rattle.ore_monomial.proofs.Operators
@@ -22,7 +22,7 @@ use Rattle.ore_ring.specs.Belongs.{OperatorOf}
 use Rattle.ore_ring.proofs.Belonging.{of_single}
 use Rattle.ore_rows.specs.Rows.{Row, RowOf, row_scale, combine}
 use Rattle.ore_rows.specs.RowLead.{coefficient_at, IsRowLead, row_lead}
-use Rattle.ore_pairs.specs.Run.{constant, inverse_of}
+use Rattle.ore_pairs.specs.Run.{inverse_of}
 use Rattle.ore_rows.proofs.Differences.{number-times}
 use Rattle.ore_rows.proofs.GreatestTerms.{row_lead-Some}
 use Rattle.ore_rows.proofs.RowLeads.{lead-row_scale_term}

@@ -11,14 +11,14 @@ use Rattle.std.proofs.lemmas.List.FromFn.{length-range_with_len}
 use Rattle.std.proofs.lemmas.List.{drop_all}
 use Rattle.ore_algebra.specs.Free.{empty_sum}
 use Rattle.ore_rational.specs.Field.{rationals}
-use Rattle.ore_monomial.specs.LetterRule.{Operator}
+use Rattle.ore_monomial.specs.LetterRule.{Operator, constant}
 use Rattle.ore_monomial.specs.Monomial.{unit, plain_cmp}
 use Rattle.ore_monomial.specs.Term.{Term}
 use Rattle.ore_monomial.specs.declared.order.Order.{Order}
 use Rattle.ore_monomial.proofs.Operators.{single_zero}
 use Rattle.ore_rows.specs.RowLead.{IsRowLead, coefficient_at, row_lead}
 use Rattle.ore_rows.specs.Rows.{Row, zero_row}
-use Rattle.ore_pairs.specs.Run.{constant, entry_row, from_rows}
+use Rattle.ore_pairs.specs.Run.{entry_row, from_rows}
 use Rattle.ore_rows.proofs.GreatestTerms.{row_lead_from}
 use Rattle.ore_groebner.proofs.FirstBasis.{drop_at}
 

@@ -3,7 +3,7 @@
 --     new_rows-push, entries_from-push, choices_push     one more event
 --     length-entries_from, pairs_of-entries_from     there is an entry for each event, with the pair of its choice
 --     entry_zero, entry_row, entry_skip     its entry
---     kept_more                  what is kept still fits together
+--     fits_more                  what is kept still fits together
 use Rattle.std.proofs.Common.{◌≡◌, ℕ, suc, ◌+◌, List, [], ◌∷◌, ◌++◌, length, map, refl, sym, ap, ◌∙◌, subst, arith}
 use Rattle.std.specs.Prelude.{◌&&◌, ◌||◌, nat_eq}
 use Rattle.std.specs.List.{All}
@@ -142,29 +142,29 @@ module _ (p q : Progress) (e : Event) (i j : ℕ) (entry : DealtPair rationals) 
   pub entries_more : entries_from q.first q.events.items ≡ entries_from p.first p.events.items ++ entry ∷ []
   entries_more = (λ k. entries_from (first k) (events k)) ∙ entries_from-push p.first p.events.items e ∙ ap (λ ls. entries_from p.first p.events.items ++ ls) entry_is
 
-  pub kept_more : (s : Signature) → IsProgressOf s p → HaveSamePairs q.listed ((i, j) ∷ p.listed) → BasisBelongs s q.basis.items → length q.basis.items ≡ length p.basis.items + new_rows (e ∷ []) → q.basis.width ≡ p.basis.width → q.syzygies.items ≡ p.syzygies.items → IsProgressOf s q
+  pub fits_more : (s : Signature) → IsProgressOf s p → HaveSamePairs q.listed ((i, j) ∷ p.listed) → BasisBelongs s q.basis.items → length q.basis.items ≡ length p.basis.items + new_rows (e ∷ []) → q.basis.width ≡ p.basis.width → q.syzygies.items ≡ p.syzygies.items → IsProgressOf s q
   unfolding is_listed
-  kept_more s kept adds belongs count width syzygies = record {
+  fits_more s fits adds belongs count width syzygies = record {
     belongs = belongs;
-    listed = λ x y. adds x y ∙ ap (λ b. (nat_eq x i && nat_eq y j) || b) (kept.listed x y)
+    listed = λ x y. adds x y ∙ ap (λ b. (nat_eq x i && nat_eq y j) || b) (fits.listed x y)
         ∙ sym (ap (is_listed x y) (ap pairs_of entries_more ∙ map-append (λ (e : DealtPair rationals). (pair.first e, pair.second e)) (entries_from p.first p.events.items) (entry ∷ []))
         ∙ is_listed-push x y (pairs_of (entries_from p.first p.events.items)) (pair.first entry, pair.second entry)
         ∙ (λ k. (nat_eq x (one k) && nat_eq y (other k)) || is_listed x y (pairs_of (entries_from p.first p.events.items))));
-    counted = counts (length q.basis.items) (length p.basis.items) p.first (new_rows p.events.items) (new_rows (e ∷ [])) (new_rows q.events.items) count kept.counted (ap new_rows events ∙ new_rows-push p.events.items e) ∙ ap (λ n. n + new_rows q.events.items) (sym first);
-    wide = subst (λ n. All (λ (r : List Ordered). length r ≡ n) q.syzygies.items) (sym width) (subst (λ rs. All (λ (r : List Ordered). length r ≡ p.basis.width) rs) (sym syzygies) kept.wide);
-    of = subst (All (All (Belongs s))) (sym syzygies) kept.of;
+    counted = counts (length q.basis.items) (length p.basis.items) p.first (new_rows p.events.items) (new_rows (e ∷ [])) (new_rows q.events.items) count fits.counted (ap new_rows events ∙ new_rows-push p.events.items e) ∙ ap (λ n. n + new_rows q.events.items) (sym first);
+    wide = subst (λ n. All (λ (r : List Ordered). length r ≡ n) q.syzygies.items) (sym width) (subst (λ rs. All (λ (r : List Ordered). length r ≡ p.basis.width) rs) (sym syzygies) fits.wide);
+    of = subst (All (All (Belongs s))) (sym syzygies) fits.of;
   }
     where
       counts : (a b f m d n : ℕ) → a ≡ b + d → b ≡ f + m → n ≡ m + d → a ≡ f + n
       counts a b f m d n h k l = omega arith
 
 pub more_syzygies : (s : Signature) (p q : Progress) (r : List Ordered) → IsProgressOf s p → q.first ≡ p.first → q.basis ≡ p.basis → q.listed ≡ p.listed → q.events.items ≡ p.events.items → q.syzygies.items ≡ p.syzygies.items ++ r ∷ [] → length r ≡ p.basis.width → All (Belongs s) r → IsProgressOf s q
-more_syzygies s p q r kept first basis listed events syzygies wide of = record {
-  belongs = subst (λ b. BasisBelongs s b.items) (sym basis) kept.belongs;
-  listed = λ x y. ap (is_listed x y) listed ∙ kept.listed x y ∙ (λ k. is_listed x y (pairs_of (entries_from (sym first k) (sym events k))));
-  counted = (λ k. length (basis k).items) ∙ kept.counted ∙ (λ k. sym first k + new_rows (sym events k));
-  wide = subst (λ n. All (λ (r : List Ordered). length r ≡ n) q.syzygies.items) (λ k. (sym basis k).width) (subst (λ rs. All (λ (r : List Ordered). length r ≡ p.basis.width) rs) (sym syzygies) (All-push (λ (r : List Ordered). length r ≡ p.basis.width) p.syzygies.items r kept.wide wide));
-  of = subst (All (All (Belongs s))) (sym syzygies) (All-push (All (Belongs s)) p.syzygies.items r kept.of of);
+more_syzygies s p q r fits first basis listed events syzygies wide of = record {
+  belongs = subst (λ b. BasisBelongs s b.items) (sym basis) fits.belongs;
+  listed = λ x y. ap (is_listed x y) listed ∙ fits.listed x y ∙ (λ k. is_listed x y (pairs_of (entries_from (sym first k) (sym events k))));
+  counted = (λ k. length (basis k).items) ∙ fits.counted ∙ (λ k. sym first k + new_rows (sym events k));
+  wide = subst (λ n. All (λ (r : List Ordered). length r ≡ n) q.syzygies.items) (λ k. (sym basis k).width) (subst (λ rs. All (λ (r : List Ordered). length r ≡ p.basis.width) rs) (sym syzygies) (All-push (λ (r : List Ordered). length r ≡ p.basis.width) p.syzygies.items r fits.wide wide));
+  of = subst (All (All (Belongs s))) (sym syzygies) (All-push (All (Belongs s)) p.syzygies.items r fits.of of);
 }
 
 -- ---- the states of a run

@@ -17,7 +17,7 @@ use Rattle.ore_monomial.specs.Monomial.{unit, plain_cmp}
 use Rattle.ore_monomial.specs.Signature.{Signature, IsLawful}
 use Rattle.ore_monomial.specs.Term.{Term}
 use Rattle.ore_monomial.specs.declared.order.Order.{Order}
-use Rattle.ore_monomial.specs.LetterRule.{Operator}
+use Rattle.ore_monomial.specs.LetterRule.{Operator, constant}
 use Rattle.ore_monomial.proofs.Declared.{MonomialOf-unit}
 use Rattle.ore_monomial.proofs.Operators
 use Rattle.ore_ring.specs.Product.{times}
@@ -26,7 +26,7 @@ use Rattle.ore_ring.proofs.Product.{times-linear_right, times-one}
 use Rattle.ore_rows.specs.Rows.{Row, RowOf, AreLong, zero_row, unit_entry, unit_row, row_plus, row_minus, row_scale, combine, matrix_times}
 use Rattle.ore_rows.specs.RowLead.{coefficient_at, row_lead}
 use Rattle.ore_rows.specs.Reduction.{BasisRow, basis_rows, cofactors_of, row_at}
-use Rattle.ore_pairs.specs.Run.{RunState, constant, entry_row, from_rows}
+use Rattle.ore_pairs.specs.Run.{RunState, entry_row, from_rows}
 use Rattle.ore_rows.specs.declared.choices.Origin.{Origin}
 use Rattle.ore_rows.specs.declared.choices.Origin.TheVariants.{ZeroRow}
 use Rattle.ore_rows.proofs.Differences.{row_minus_self}

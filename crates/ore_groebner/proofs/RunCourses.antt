@@ -58,13 +58,13 @@ left_open leads listed (i, j, h) = treatable_left leads listed i j h
 
 -- the parts of the answer are those of the progress
 pub last_led : (s : Signature) (p : Progress) (f : Finished) → IsProgressOf s p → f.basis ≡ p.basis → f.events ≡ p.events.items → rows_of f.syzygies ≡ map sums_of p.syzygies.items → f.origins ≡ p.origins.items → run_state p ≡ last_of f
-last_led s p f kept basis events syzygies origins = λ k. record { basis = monics (sym basis k); listed = entries_from (first k) (sym events k); syzygies = sym syzygies k; origins = sym origins k }
+last_led s p f fits basis events syzygies origins = λ k. record { basis = monics (sym basis k); listed = entries_from (first k) (sym events k); syzygies = sym syzygies k; origins = sym origins k }
   where
     taken : (m first rows : ℕ) → m ≡ first + rows → first ≡ m - rows
     taken m first rows h = omega (arith, h)
 
     first : p.first ≡ length f.basis.items - new_rows f.events
-    first = taken (length p.basis.items) p.first (new_rows p.events.items) kept.counted ∙ (λ k. length (sym basis k).items - new_rows (sym events k))
+    first = taken (length p.basis.items) p.first (new_rows p.events.items) fits.counted ∙ (λ k. length (sym basis k).items - new_rows (sym events k))
 
 module _ (s : Signature) (allows : BasisLeads → List (ℕ × ℕ) → Choice → Bool) (allows_spent : BasisLeads → List (ℕ × ℕ) → Bool) (a : OperatorMatrix) where
   abbrev rule : Rule (RunState rationals) Choice
@@ -85,7 +85,7 @@ module _ (s : Signature) (allows : BasisLeads → List (ℕ × ℕ) → Choice �
   module _ (before given : List (List Choice)) where
     pub run_answered : (p : Progress) (f : Finished) → IsLed s a allows (present given) p → AreAllListed (leads_of p.basis.items) p.listed → run_state p ≡ last_of f → HasOneMoreRun before given → FollowsTo s allows allows_spent course before given (last_of f)
     run_answered p f led all same more = subst (λ last. Follows R rule course before given (Done last)) same
-        (one_run_answered R rule (first_state s a) led.start led.begun (present given) before given (run_state p) more led.led (tested rationals (run_state p) (all_complete s a allows p led.kept all)) (allowed led.start (present given) led.begun led.allowed))
+        (one_run_answered R rule (first_state s a) led.start led.begun (present given) before given (run_state p) more led.led (tested rationals (run_state p) (all_complete s a allows p led.fits all)) (allowed led.start (present given) led.begun led.allowed))
 
     -- the first basis stops, and no run is begun
     pub forced_halts : given ≡ before → (settings : Settings) (r : RingStop) (h : Halt) → h ≡ halting.halt_of r at.Forced → Fails r (first_state s a)

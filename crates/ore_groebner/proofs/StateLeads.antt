@@ -62,4 +62,4 @@ module _ (s : Signature) where
       cons_nil e = cc
 
   pub state_leads-state : (a : OperatorMatrix) (p : Progress) → IsProgressOf s p → HaveLeads p.basis.items → state_leads s (run_state p) ≡ basis_leads p.basis
-  state_leads-state a p kept have = λ n. record { order = order_of_state p.basis.items kept.belongs (are_monic s p.basis kept.belongs have) n; leads = leads_monics p.basis.items n }
+  state_leads-state a p fits have = λ n. record { order = order_of_state p.basis.items fits.belongs (are_monic s p.basis fits.belongs have) n; leads = leads_monics p.basis.items n }

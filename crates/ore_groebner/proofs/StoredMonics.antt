@@ -21,7 +21,7 @@ use Rattle.ore_rational.specs.Within.{fits}
 use Rattle.ore_rational.specs.Field.{rationals, rational_inverses}
 use Rattle.ore_rational.specs.FractionRing.{mul-inverse}
 use Rattle.ore_rational.proofs.Reciprocals.{inverse_negative, inverse_positive}
-use Rattle.ore_monomial.specs.LetterRule.{Operator}
+use Rattle.ore_monomial.specs.LetterRule.{Operator, constant}
 use Rattle.ore_monomial.specs.Monomial.{unit, plain_cmp}
 use Rattle.ore_monomial.specs.Signature.{Signature}
 use Rattle.ore_monomial.specs.Term.{Term, shift}
@@ -32,7 +32,7 @@ use Rattle.ore_rows.specs.Arithmetic.{within, scaled}
 use Rattle.ore_rows.specs.Reduction.{BasisRow}
 use Rattle.ore_rows.specs.RowLead.{IsRowLead, coefficient_at}
 use Rattle.ore_rows.specs.Rows.{Row, row_scale}
-use Rattle.ore_pairs.specs.Run.{constant, inverse_of, monic_multiple}
+use Rattle.ore_pairs.specs.Run.{inverse_of, monic_multiple}
 use Rattle.ore_rows.specs.StoredBasis.{StoredBasis, monic_of, monics}
 use Rattle.ore_rows.proofs.RowLeads.{one_row_lead, lead-row_scale_term}
 use Rattle.ore_rows.proofs.WithinValues.{scale_value}

@@ -18,12 +18,13 @@ use Rattle.ore_monomial.specs.Signature.{Signature, MonomialOf, IsLawful}
 use Rattle.ore_monomial.specs.Term.{Term, term_cmp, shift}
 use Rattle.ore_monomial.specs.declared.order.Order.{Order}
 use Rattle.ore_monomial.proofs.Declared.{MonomialOf-unit, MonomialOf-lcm}
+use Rattle.ore_monomial.specs.LetterRule.{constant}
 use Rattle.ore_rows.specs.Rows.{Row, RowOf, AreLong, zero_row, row_minus, row_scale, combine, matrix_times}
 use Rattle.ore_rows.specs.RowLead.{coefficient_at, row_lead}
 use Rattle.ore_rows.specs.Arithmetic.{exact}
 use Rattle.ore_rows.specs.Reduction.{BasisRow, Step, ReductionState, basis_rows, cofactors_of, leads_of, origin, remainder_after, reduce}
 use Rattle.ore_pairs.specs.PairRule.{may_treat, may_skip}
-use Rattle.ore_pairs.specs.Run.{RunState, constant, entries_with, unless_zero, with_syzygy}
+use Rattle.ore_pairs.specs.Run.{RunState, entries_with, unless_zero, with_syzygy}
 use Rattle.ore_pairs.proofs.PairRuleLaws.{CanTreat, SameLeads, treat_to, treat_same, skip_same, treat_longer}
 use Rattle.ore_pairs.proofs.SRows.{of_s_row, below_s_row}
 use Rattle.ore_rows.specs.declared.choices.Origin.{Origin}

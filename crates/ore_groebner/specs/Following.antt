@@ -81,7 +81,7 @@ state_after_choice s st c = run.step rationals rational_inverses s.order (within
 -- the state is the one that the choice makes, and what is kept fits it; one pair is added, in one more event
 pub record IsFollowed (s : Signature) (p : Progress) (c : Choice) (q : Progress) : Type 0 where
   pub made : state_after_choice s (run_state p) c ≡ Ok (run_state q)
-  pub kept : IsProgressOf s q
+  pub fits : IsProgressOf s q
   pub shape : HasShapeOf p c q
   pub listed : HaveSamePairs q.listed ((first_of c, second_of c) ∷ p.listed)
 
@@ -104,7 +104,7 @@ pub record IsLed (s : Signature) (a : OperatorMatrix) (allows : BasisLeads → L
   pub start : RunState rationals
   pub begun : first_state s a ≡ Ok start
   pub led : state_after s a start choices ≡ Ok (run_state p)
-  pub kept : IsProgressOf s p
+  pub fits : IsProgressOf s p
   pub lists : HaveSamePairs p.listed (chosen_pairs choices)
   pub events : choices_of p.events.items ≡ choices
   pub first : p.first ≡ length start.basis

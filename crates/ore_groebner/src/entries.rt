@@ -5,6 +5,7 @@ ghost use Rattle.std.specs.List.{All};
 ghost use Rattle.ore_algebra.specs.Free.{empty_sum};
 ghost use Rattle.ore_rational.specs.Field.{rationals};
 ghost use Rattle.ore_monomial.specs.Monomial.{plain_cmp};
+ghost use Rattle.ore_monomial.specs.LetterRule.{constant};
 ghost use Rattle.ore_ring.specs.Belongs.{AllBelong, Belongs};
 ghost use Rattle.ore_rows.specs.Rows as rows;
 ghost use Rattle.ore_pairs.specs.Run as run;
@@ -70,7 +71,7 @@ pub fn entry_row(
     i: usize,
     coef: Rational,
 ) -> Result<Row, NoMemory>
-    ensures value { IfOk result (λ r. sums_of r ≡ run.entry_row rationals n i (run.constant rationals coef)) }
+    ensures value { IfOk result (λ r. sums_of r ≡ run.entry_row rationals n i (constant rationals coef)) }
     ensures width { IfOk result (λ r. length r ≡ n) }
     ensures of { IfOk result (AllBelong sig.now) }
 {
@@ -83,7 +84,7 @@ pub fn entry_row(
 
 // A fraction as an operator, or the operator 0.
 fn coef_or_zero(alloc: Global, sig: &Signature, here: bool, coef: Rational) -> Result<Op, NoMemory>
-    ensures value { IfOk result (λ f. f.sum ≡ cond here (run.constant rationals coef) (empty_sum rationals plain_cmp)) }
+    ensures value { IfOk result (λ f. f.sum ≡ cond here (constant rationals coef) (empty_sum rationals plain_cmp)) }
     ensures of { IfOk result (Belongs sig.now) }
 {
     if !here {

@@ -32,7 +32,7 @@ use std::alloc::Global;
 pub fn begin<R: OreRing>(ring: &R, alloc: Global, a: &Matrix) -> Result<Progress, RingStop>
     requires { All (AllBelong (R.sig ring.now)) a.now.rows }
     ensures gives { Gives run_state result (run.begin rationals rational_inverses (R.sig ring.now).order (within program (R.sig ring.now)) (rows_of a.now)) }
-    ensures kept { IfOk result (IsProgressOf (R.sig ring.now)) }
+    ensures fits { IfOk result (IsProgressOf (R.sig ring.now)) }
     ensures begun { IfOk result IsBegun }
     ensures cols { IfOk result (λ p. p.basis.cols ≡ a.now.cols) }
     ensures width { IfOk result (λ p. p.basis.width ≡ length a.now.rows) }
@@ -62,10 +62,10 @@ fn begin_row<R: OreRing>(
 ) -> Result<Progress, RingStop>
     requires row_width { length row.now ≡ progress.basis.cols }
     requires row_of { AllBelong (R.sig ring.now) row.now }
-    requires kept { IsProgressOf (R.sig ring.now) progress }
+    requires fits { IsProgressOf (R.sig ring.now) progress }
     requires begun { IsBegun progress }
     ensures gives { Gives run_state result (run.begin_row rationals rational_inverses (R.sig ring.now).order (within program (R.sig ring.now)) progress.basis.width k (sums_of row.now) (run_state progress)) }
-    ensures kept { IfOk result (IsProgressOf (R.sig ring.now)) }
+    ensures fits { IfOk result (IsProgressOf (R.sig ring.now)) }
     ensures begun { IfOk result IsBegun }
     ensures widths { IfOk result (HasWidthsOf progress) }
     ensures count { IfOk result (λ p. length p.basis.items ≤ length progress.basis.items + 1) }
@@ -86,10 +86,10 @@ fn begin_zero(
 ) -> Result<Progress, NoMemory>
     requires width { length unit ≡ progress.basis.width }
     requires of { AllBelong sig.now unit }
-    requires kept { IsProgressOf sig.now progress }
+    requires fits { IsProgressOf sig.now progress }
     requires begun { IsBegun progress }
     ensures state { IfOk result (λ p. run_state p ≡ record (run_state progress) { syzygies = (run_state progress).syzygies ++ sums_of unit ∷ []; origins = (run_state progress).origins ++ origins.ZeroRow k ∷ [] }) }
-    ensures kept { IfOk result (IsProgressOf sig.now) }
+    ensures fits { IfOk result (IsProgressOf sig.now) }
     ensures begun { IfOk result IsBegun }
     ensures widths { IfOk result (HasWidthsOf progress) }
     ensures basis { IfOk result (λ p. p.basis ≡ progress.basis) }
@@ -115,10 +115,10 @@ fn begin_monic<R: OreRing>(
     requires unit_width { length unit.now ≡ progress.basis.width }
     requires row_of { AllBelong (R.sig ring.now) row.now }
     requires unit_of { AllBelong (R.sig ring.now) unit.now }
-    requires kept { IsProgressOf (R.sig ring.now) progress }
+    requires fits { IsProgressOf (R.sig ring.now) progress }
     requires begun { IsBegun progress }
     ensures gives { (t : Term) → IsRowLead rationals (R.sig ring.now).order (sums_of row.now) t coef → Gives run_state result (with_basis_row (run_state progress) (run.monic_multiple rationals rational_inverses (within program (R.sig ring.now)) (sums_of row.now) (sums_of unit.now) t)) }
-    ensures kept { IfOk result (IsProgressOf (R.sig ring.now)) }
+    ensures fits { IfOk result (IsProgressOf (R.sig ring.now)) }
     ensures begun { IfOk result IsBegun }
     ensures widths { IfOk result (HasWidthsOf progress) }
     ensures count { IfOk result (λ p. length p.basis.items ≡ length progress.basis.items + 1) }

@@ -22,7 +22,7 @@ pub(crate) fn follow<R: OreRing>(
     progress: Progress,
     choice: Choice,
 ) -> Result<Progress, Halt>
-    requires kept { IsProgressOf (R.sig ring.now) progress }
+    requires fits { IsProgressOf (R.sig ring.now) progress }
     requires lawful { is_lawful (leads_of progress.basis.items) progress.listed choice ≡ true }
     ensures followed { IfOk result (IsFollowed (R.sig ring.now) progress choice) }
     ensures halted { IfErr result (IsStopOf (R.sig ring.now) (run_state progress) choice) }
@@ -44,7 +44,7 @@ fn follow_treat<R: OreRing>(
     i: usize,
     j: usize,
 ) -> Result<Progress, Halt>
-    requires kept { IsProgressOf (R.sig ring.now) progress }
+    requires fits { IsProgressOf (R.sig ring.now) progress }
     requires lawful { is_lawful (leads_of progress.basis.items) progress.listed (choices.Treat i j) ≡ true }
     ensures followed { IfOk result (IsFollowed (R.sig ring.now) progress (choices.Treat i j)) }
     ensures halted { IfErr result (IsStopOf (R.sig ring.now) (run_state progress) (choices.Treat i j)) }
@@ -63,7 +63,7 @@ fn follow_skip(
     j: usize,
     via: usize,
 ) -> Result<Progress, NoMemory>
-    requires kept { IsProgressOf sig.now progress }
+    requires fits { IsProgressOf sig.now progress }
     requires lawful { is_lawful (leads_of progress.basis.items) progress.listed (choices.Skip i j via) ≡ true }
     ensures followed { IfOk result (IsFollowed sig.now progress (choices.Skip i j via)) }
 {

@@ -60,9 +60,9 @@ pub fn treat<R: OreRing>(
     requires ordered { i < j }
     requires inside { j < length progress.basis.items }
     requires columns { (basis_lead progress.basis.items i).column ≡ (basis_lead progress.basis.items j).column }
-    requires kept { IsProgressOf (R.sig ring.now) progress }
+    requires fits { IsProgressOf (R.sig ring.now) progress }
     ensures gives { Gives run_state result (run.treat rationals rational_inverses (R.sig ring.now).order (within program (R.sig ring.now)) (run_state progress) i j) }
-    ensures kept { IfOk result (IsProgressOf (R.sig ring.now)) }
+    ensures fits { IfOk result (IsProgressOf (R.sig ring.now)) }
     ensures shape { IfOk result (HasShapeOf progress (choices.Treat i j)) }
     ensures listed { IfOk result (λ p. HaveSamePairs p.listed ((i, j) ∷ progress.listed)) }
 {
@@ -78,7 +78,7 @@ pub fn treat<R: OreRing>(
 pub fn skip(progress: Progress, i: usize, j: usize, via: usize) -> Result<Progress, NoMemory>
     requires { i < j }
     ensures state { IfOk result (λ p. run_state p ≡ record (run_state progress) { listed = run.entries_with rationals (run_state progress) (pair.Skip i j via) }) }
-    ensures kept { IfOk result (λ p. (s : Lawful) → IsProgressOf s progress → IsProgressOf s p) }
+    ensures fits { IfOk result (λ p. (s : Lawful) → IsProgressOf s progress → IsProgressOf s p) }
     ensures shape { IfOk result (HasShapeOf progress (choices.Skip i j via)) }
     ensures listed { IfOk result (λ p. HaveSamePairs p.listed ((i, j) ∷ progress.listed)) }
 {
@@ -98,13 +98,13 @@ fn add_remainder<R: OreRing>(
     work: Reduced,
 ) -> Result<Progress, RingStop>
     requires ordered { i < j }
-    requires kept { IsProgressOf (R.sig ring.now) progress }
+    requires fits { IsProgressOf (R.sig ring.now) progress }
     requires row_width { length work.row ≡ progress.basis.cols }
     requires cofactor_width { length work.cofactor ≡ progress.basis.width }
     requires row_of { AllBelong (R.sig ring.now) work.row }
     requires cofactor_of { AllBelong (R.sig ring.now) work.cofactor }
     ensures gives { Gives run_state result (run.with_remainder rationals rational_inverses (R.sig ring.now).order (within program (R.sig ring.now)) (run_state progress) i j (work_of work)) }
-    ensures kept { IfOk result (IsProgressOf (R.sig ring.now)) }
+    ensures fits { IfOk result (IsProgressOf (R.sig ring.now)) }
     ensures shape { IfOk result (HasShapeOf progress (choices.Treat i j)) }
     ensures listed { IfOk result (λ p. HaveSamePairs p.listed ((i, j) ∷ progress.listed)) }
 {
@@ -124,11 +124,11 @@ fn add_syzygy(
 ) -> Result<Progress, NoMemory>
     requires ordered { i < j }
     requires left { IsZeroRow work.row }
-    requires kept { IsProgressOf sig.now progress }
+    requires fits { IsProgressOf sig.now progress }
     requires cofactor_width { length work.cofactor ≡ progress.basis.width }
     requires cofactor_of { AllBelong sig.now work.cofactor }
     ensures state { IfOk result (λ p. run_state p ≡ run.with_syzygy rationals sig.now.order (run_state progress) i j (work_of work)) }
-    ensures kept { IfOk result (IsProgressOf sig.now) }
+    ensures fits { IfOk result (IsProgressOf sig.now) }
     ensures shape { IfOk result (HasShapeOf progress (choices.Treat i j)) }
     ensures listed { IfOk result (λ p. HaveSamePairs p.listed ((i, j) ∷ progress.listed)) }
 {
@@ -156,11 +156,11 @@ fn with_syzygy(
     cofactor: Row,
     origin: Origin,
 ) -> Result<Progress, NoMemory>
-    requires kept { IsProgressOf sig.now progress }
+    requires fits { IsProgressOf sig.now progress }
     requires width { length cofactor ≡ progress.basis.width }
     requires of { AllBelong sig.now cofactor }
     ensures syzygies { IfOk result (λ p. map sums_of p.syzygies.items ≡ map sums_of progress.syzygies.items ++ run.unless_zero rationals sig.now.order (sums_of cofactor)) }
-    ensures kept { IfOk result (IsProgressOf sig.now) }
+    ensures fits { IfOk result (IsProgressOf sig.now) }
     ensures origins { IfOk result (λ p. p.origins.items ≡ progress.origins.items ++ map (λ _. origin) (run.unless_zero rationals sig.now.order (sums_of cofactor))) }
     ensures first { IfOk result (λ p. p.first ≡ progress.first) }
     ensures basis { IfOk result (λ p. p.basis ≡ progress.basis) }
@@ -188,14 +188,14 @@ fn add_row<R: OreRing>(
     coef: Rational,
 ) -> Result<Progress, RingStop>
     requires ordered { i < j }
-    requires kept { IsProgressOf (R.sig ring.now) progress }
+    requires fits { IsProgressOf (R.sig ring.now) progress }
     requires lead { (t : Term) × IsRowLead rationals (R.sig ring.now).order (sums_of work.row) t coef }
     requires row_width { length work.row ≡ progress.basis.cols }
     requires cofactor_width { length work.cofactor ≡ progress.basis.width }
     requires row_of { AllBelong (R.sig ring.now) work.row }
     requires cofactor_of { AllBelong (R.sig ring.now) work.cofactor }
     ensures gives { (t : Term) → IsRowLead rationals (R.sig ring.now).order (sums_of work.row) t coef → Gives run_state result (run.with_row rationals rational_inverses (within program (R.sig ring.now)) (run_state progress) i j (work_of work) t) }
-    ensures kept { IfOk result (IsProgressOf (R.sig ring.now)) }
+    ensures fits { IfOk result (IsProgressOf (R.sig ring.now)) }
     ensures shape { IfOk result (HasShapeOf progress (choices.Treat i j)) }
     ensures listed { IfOk result (λ p. HaveSamePairs p.listed ((i, j) ∷ progress.listed)) }
 {

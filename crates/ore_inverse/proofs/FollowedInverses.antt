@@ -29,7 +29,7 @@ use Rattle.ore_pairs.specs.Runner.{runner_within}
 use Rattle.ore_parts.specs.OfSignature.{MatrixOf}
 use Rattle.ore_cert.specs.declared.certificate.Certificate.{Certificate}
 use Rattle.ore_cert.specs.declared.certificate.Certificate.TheVariants.{RightInverse}
-use Rattle.ore_blocks.specs.CheckBlock.{RowMatrix, plain}
+use Rattle.ore_blocks.specs.CheckBlock.{RowMatrix, row_matrix_of}
 use Rattle.ore_blocks.specs.KernelCourse.{RunCourse, run_on, transposed_adjoint_within}
 use Rattle.ore_blocks.proofs.Converted.{rows_count, wide_rows, rows_are_of}
 use Rattle.ore_groebner.specs.Choosing.{Settings}
@@ -85,7 +85,7 @@ module _ (s : Signature) where
     right_ended : (a : RowMatrix) → length a.rows ≡ r.cols → (last : RunState rationals) (units : Reductions rationals) → (forced (turned s (answer_by s a last units)) >>= right_behind) ≡ right_ends s r a last units
     unfolding forced ◌>>=◌
     right_ended a count last (AllReduce all) =
-        formed_behind (transposed_adjoint_within program s (plain (stored s (record { cols = length a.rows; rows = all }))))
+        formed_behind (transposed_adjoint_within program s (row_matrix_of (stored s (record { cols = length a.rows; rows = all }))))
         ∙ ap (λ (m : RowMatrix). forced (transposed_adjoint_within program s m) >>= (λ inverse. certified program s r (RightInverse (stored s inverse)) tt))
         (stored_back s (record { cols = length a.rows; rows = all }) ∙ (λ i. record { cols = count i; rows = all }))
     right_ended a count last (LeavesRest k w) = refl
@@ -115,47 +115,47 @@ module _ (s : Signature) where
 
     module _ (r : OperatorMatrix) (before : List (List Choice)) where
       abbrev course : RunCourse Certificate
-      course = inverse_right program s (plain r)
+      course = inverse_right program s (row_matrix_of r)
 
-      right_begun : Follows runner rule course before before (forced (transposed_adjoint_within program s (plain r)) >>= right_runs s (plain r))
+      right_begun : Follows runner rule course before before (forced (transposed_adjoint_within program s (row_matrix_of r)) >>= right_runs s (row_matrix_of r))
       unfolding inverse_right
       right_begun = started runner rule course before
 
       pub adjoint_halts : (settings : Settings) (e : RingStop) → Fails e (transpose_adjoint_within program s r.cols (rows_of r)) → HaltsIn s allows allows_spent course before before settings (halt_of e Forced)
-      adjoint_halts settings e fails = work_halts s allows allows_spent before settings (transposed_adjoint_within program s (plain r)) (right_runs s (plain r)) e (adjoint_stop s (plain r) e fails) right_begun
+      adjoint_halts settings e fails = work_halts s allows allows_spent before settings (transposed_adjoint_within program s (row_matrix_of r)) (right_runs s (row_matrix_of r)) e (adjoint_stop s (row_matrix_of r) e fails) right_begun
 
       module _ (a : OperatorMatrix) (cols : a.cols ≡ length r.rows) (count : length a.rows ≡ r.cols) (formed : transpose_adjoint_within program s r.cols (rows_of r) ≡ Ok (rows_of a)) where
-        is_formed : transposed_adjoint_within program s (plain r) ≡ Ok (plain a)
+        is_formed : transposed_adjoint_within program s (row_matrix_of r) ≡ Ok (row_matrix_of a)
         is_formed = adjoint_gives s r (Ok a) cols formed
 
         abbrev turned_behind : InverseAnswer → RunCourse Certificate
-        turned_behind x = forced (turned s x) >>= right_behind (plain r)
+        turned_behind x = forced (turned s x) >>= right_behind (row_matrix_of r)
 
-        to_search : Follows runner rule course before before (left_search s (plain a) >>= turned_behind)
+        to_search : Follows runner rule course before before (left_search s (row_matrix_of a) >>= turned_behind)
         to_search =
-            subst (λ (rest : RunCourse Certificate). Follows runner rule course before before rest) (sym (searched (plain a) (right_ends s (plain r) (plain a)) turned_behind (right_ended (plain r) (plain a) (rows_count a ∙ count))))
-            (subst (λ n. Follows runner rule course before before (run_on program s (plain a) >>= (λ last. forced (reduced program s (plain a) last (identity_rows rationals n)) >>= right_ends s (plain r) (plain a) last))) (rows_count r ∙ sym cols)
-            (worked runner rule (transposed_adjoint_within program s (plain r)) (plain a) (right_runs s (plain r)) is_formed right_begun))
+            subst (λ (rest : RunCourse Certificate). Follows runner rule course before before rest) (sym (searched (row_matrix_of a) (right_ends s (row_matrix_of r) (row_matrix_of a)) turned_behind (right_ended (row_matrix_of r) (row_matrix_of a) (rows_count a ∙ count))))
+            (subst (λ n. Follows runner rule course before before (run_on program s (row_matrix_of a) >>= (λ last. forced (reduced program s (row_matrix_of a) last (identity_rows rationals n)) >>= right_ends s (row_matrix_of r) (row_matrix_of a) last))) (rows_count r ∙ sym cols)
+            (worked runner rule (transposed_adjoint_within program s (row_matrix_of r)) (row_matrix_of a) (right_runs s (row_matrix_of r)) is_formed right_begun))
 
         module _ (given : List (List Choice)) where
-          pub right_halts : (settings : Settings) (halt : Halt) → HaltsIn s allows allows_spent (left_search s (plain a)) before given settings halt → HaltsIn s allows allows_spent course before given settings halt
-          right_halts settings halt h = call_halts s allows allows_spent given settings (left_search s (plain a)) turned_behind halt h to_search
+          pub right_halts : (settings : Settings) (halt : Halt) → HaltsIn s allows allows_spent (left_search s (row_matrix_of a)) before given settings halt → HaltsIn s allows allows_spent course before given settings halt
+          right_halts settings halt h = call_halts s allows allows_spent given settings (left_search s (row_matrix_of a)) turned_behind halt h to_search
 
-          module _ (x : InverseAnswer) (led : FollowsTo s allows allows_spent (left_search s (plain a)) before given x) where
+          module _ (x : InverseAnswer) (led : FollowsTo s allows allows_spent (left_search s (row_matrix_of a)) before given x) where
             to_turn : Follows runner rule course before given (turned_behind x)
-            to_turn = called runner rule (left_search s (plain a)) x turned_behind led to_search
+            to_turn = called runner rule (left_search s (row_matrix_of a)) x turned_behind led to_search
 
             pub turning_halts : (settings : Settings) (e : RingStop) → Fails e (turned s x) → HaltsIn s allows allows_spent course before given settings (halt_of e Forced)
-            turning_halts settings e fails = work_halts s allows allows_spent given settings (turned s x) (right_behind (plain r)) e fails to_turn
+            turning_halts settings e fails = work_halts s allows allows_spent given settings (turned s x) (right_behind (row_matrix_of r)) e fails to_turn
 
-            pub right_found : (y : InverseAnswer) → turned s x ≡ Ok y → Follows runner rule course before given (certified program s (plain r) (right_certificate_of y) (no_right_report y))
-            right_found y e = worked runner rule (turned s x) y (right_behind (plain r)) e to_turn
+            pub right_found : (y : InverseAnswer) → turned s x ≡ Ok y → Follows runner rule course before given (certified program s (row_matrix_of r) (right_certificate_of y) (no_right_report y))
+            right_found y e = worked runner rule (turned s x) y (right_behind (row_matrix_of r)) e to_turn
 
     -- ---- what the plans form
 
     module _ (r : OperatorMatrix) (of : MatrixOf s r) (before given : List (List Choice)) (d : Certificate) where
-      pub left_is_right : FollowsTo s allows allows_spent (inverse_left program s (plain r)) before given d → IsCorrect s (plain r) d
-      left_is_right h = inverse_left_right s (plain r) (wide_rows s r of) (rows_are_of s r of) h.added d h.leads
+      pub left_is_right : FollowsTo s allows allows_spent (inverse_left program s (row_matrix_of r)) before given d → IsCorrect s (row_matrix_of r) d
+      left_is_right h = inverse_left_right s (row_matrix_of r) (wide_rows s r of) (rows_are_of s r of) h.added d h.leads
 
-      pub right_is_right : FollowsTo s allows allows_spent (inverse_right program s (plain r)) before given d → IsCorrect s (plain r) d
-      right_is_right h = inverse_right_right s (plain r) (wide_rows s r of) (rows_are_of s r of) h.added d h.leads
+      pub right_is_right : FollowsTo s allows allows_spent (inverse_right program s (row_matrix_of r)) before given d → IsCorrect s (row_matrix_of r) d
+      right_is_right h = inverse_right_right s (row_matrix_of r) (wide_rows s r of) (rows_are_of s r of) h.added d h.leads

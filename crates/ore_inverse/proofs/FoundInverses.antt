@@ -22,7 +22,7 @@ use Rattle.ore_pairs.specs.Run.{RunState}
 use Rattle.ore_parts.specs.OfSignature.{IsOutsideOf}
 use Rattle.ore_parts.specs.declared.block.OutsideBlock.{OutsideBlock}
 use Rattle.ore_blocks.specs.BlockOfRun.{outside_block_of}
-use Rattle.ore_blocks.specs.CheckBlock.{RowMatrix, plain}
+use Rattle.ore_blocks.specs.CheckBlock.{RowMatrix, row_matrix_of}
 use Rattle.ore_blocks.proofs.Converted.{wide_rows, rows_are_of}
 use Rattle.ore_groebner.specs.Courses.{last_of}
 use Rattle.ore_groebner.specs.declared.outcome.Finished.{Finished}
@@ -62,6 +62,6 @@ module _ (s : Signature) where
         let (j, place, less, there, t, lead) = rows_are_reduced s a long of_a last end (identity_rows rationals a.cols) (LeavesRest k w) (long_identity rationals a.cols) e in
         unit_block_of s a long of_a last end j less w there t lead
 
-  pub block_of_signature : (a : OperatorMatrix) (f : Finished) (on : IsRunOn s a f) (b : OutsideBlock) (k : ℕ) (w : ReductionState rationals) → reduced program s (plain a) (last_of f) (identity_rows rationals a.cols) ≡ Ok (LeavesRest k w)
-      → b ≡ outside_block_of s (plain a) (last_of f) w.steps w.row → IsOutsideOf s b
-  block_of_signature a f on b k w e same = subst (IsOutsideOf s) (sym same) (rest_of_signature (plain a) (wide_rows s a on.matrix_of) (rows_are_of s a on.matrix_of) (last_of f) (end_of s a f on) k w e)
+  pub block_of_signature : (a : OperatorMatrix) (f : Finished) (on : IsRunOn s a f) (b : OutsideBlock) (k : ℕ) (w : ReductionState rationals) → reduced program s (row_matrix_of a) (last_of f) (identity_rows rationals a.cols) ≡ Ok (LeavesRest k w)
+      → b ≡ outside_block_of s (row_matrix_of a) (last_of f) w.steps w.row → IsOutsideOf s b
+  block_of_signature a f on b k w e same = subst (IsOutsideOf s) (sym same) (rest_of_signature (row_matrix_of a) (wide_rows s a on.matrix_of) (rows_are_of s a on.matrix_of) (last_of f) (end_of s a f on) k w e)

@@ -32,7 +32,7 @@ use Rattle.ore_pairs.specs.Run.{RunState}
 use Rattle.ore_pairs.specs.Runner.{runner_within}
 use Rattle.ore_parts.specs.OfSignature.{IsOutsideOf}
 use Rattle.ore_parts.specs.declared.block.OutsideBlock.{OutsideBlock}
-use Rattle.ore_blocks.specs.CheckBlock.{plain}
+use Rattle.ore_blocks.specs.CheckBlock.{row_matrix_of}
 use Rattle.ore_blocks.specs.KernelCourse.{RunCourse, run_on}
 use Rattle.ore_blocks.proofs.Converted.{rows_count, wide_rows, rows_are_of}
 use Rattle.ore_groebner.specs.Choosing.{Settings}
@@ -64,40 +64,40 @@ module _ (s : Signature) (allows : BasisLeads → List (ℕ × ℕ) → Choice �
   rule = rule_of s allows allows_spent
 
   abbrev course : RunCourse InverseAnswer
-  course = left_search s (plain a)
+  course = left_search s (row_matrix_of a)
 
   -- what is left of it once the unit rows are reduced, and before
   abbrev ends : RunState rationals → Reductions rationals → RunCourse InverseAnswer
-  ends last units = Done (answer_by s (plain a) last units)
+  ends last units = Done (answer_by s (row_matrix_of a) last units)
 
   abbrev behind_run : RunState rationals → RunCourse InverseAnswer
-  behind_run last = forced (reduced program s (plain a) last (identity_rows rationals a.cols)) >>= ends last
+  behind_run last = forced (reduced program s (row_matrix_of a) last (identity_rows rationals a.cols)) >>= ends last
 
-  begun : Follows runner rule course before before (run_on program s (plain a) >>= behind_run)
+  begun : Follows runner rule course before before (run_on program s (row_matrix_of a) >>= behind_run)
   unfolding left_search
   begun = started runner rule course before
 
-  pub run_halts : (settings : Settings) (halt : Halt) → HaltsIn s allows allows_spent (run_on program s (plain a)) before given settings halt → HaltsIn s allows allows_spent course before given settings halt
-  run_halts settings halt h = call_halts s allows allows_spent given settings (run_on program s (plain a)) behind_run halt h begun
+  pub run_halts : (settings : Settings) (halt : Halt) → HaltsIn s allows allows_spent (run_on program s (row_matrix_of a)) before given settings halt → HaltsIn s allows allows_spent course before given settings halt
+  run_halts settings halt h = call_halts s allows allows_spent given settings (run_on program s (row_matrix_of a)) behind_run halt h begun
 
   -- by the basis of the run f, n unit rows are reduced
-  module _ (f : Finished) (on : IsRunOn s a f) (led : FollowsTo s allows allows_spent (run_on program s (plain a)) before given (last_of f)) (n : ℕ) (wide : n ≡ a.cols) where
+  module _ (f : Finished) (on : IsRunOn s a f) (led : FollowsTo s allows allows_spent (run_on program s (row_matrix_of a)) before given (last_of f)) (n : ℕ) (wide : n ≡ a.cols) where
     abbrev units : Result (Reductions rationals) Cause
     units = reduce_rows rationals s.order (within program s) f.basis.width (monics f.basis) (identity_rows rationals n)
 
-    units_are : reduced program s (plain a) (last_of f) (identity_rows rationals a.cols) ≡ units
+    units_are : reduced program s (row_matrix_of a) (last_of f) (identity_rows rationals a.cols) ≡ units
     units_are = reduced_is s a f on (identity_rows rationals a.cols) ∙ ap (λ n. reduce_rows rationals s.order (within program s) f.basis.width (monics f.basis) (identity_rows rationals n)) (sym wide)
 
     to_reduce : Follows runner rule course before given (behind_run (last_of f))
-    to_reduce = called runner rule (run_on program s (plain a)) (last_of f) behind_run led begun
+    to_reduce = called runner rule (run_on program s (row_matrix_of a)) (last_of f) behind_run led begun
 
     pub reducing_halts : (settings : Settings) (e : RingStop) → Fails e units → HaltsIn s allows allows_spent course before given settings (halt_of e Forced)
     reducing_halts settings e fails =
-        work_halts s allows allows_spent given settings (reduced program s (plain a) (last_of f) (identity_rows rationals a.cols)) (ends (last_of f)) e
+        work_halts s allows allows_spent given settings (reduced program s (row_matrix_of a) (last_of f) (identity_rows rationals a.cols)) (ends (last_of f)) e
         (subst (λ (x : Result (Reductions rationals) Cause). Fails e x) (sym units_are) fails) to_reduce
 
-    answered : (found : Reductions rationals) → units ≡ Ok found → FollowsTo s allows allows_spent course before given (answer_by s (plain a) (last_of f) found)
-    answered found e = worked runner rule (reduced program s (plain a) (last_of f) (identity_rows rationals a.cols)) found (ends (last_of f)) (units_are ∙ e) to_reduce
+    answered : (found : Reductions rationals) → units ≡ Ok found → FollowsTo s allows allows_spent course before given (answer_by s (row_matrix_of a) (last_of f) found)
+    answered found e = worked runner rule (reduced program s (row_matrix_of a) (last_of f) (identity_rows rationals a.cols)) found (ends (last_of f)) (units_are ∙ e) to_reduce
 
     -- what the code has reduced them to
     module _ (x : Stored) (gives : units ≡ Ok (reductions_of x)) (of : AreReductionsOf s f.basis.width x) where
@@ -118,5 +118,5 @@ module _ (s : Signature) (allows : BasisLeads → List (ℕ × ℕ) → Choice �
         pub rest_of_signature : (b : OutsideBlock) → IsOutsideBlockOfRun s f w.steps w.row b → IsOutsideOf s b
         rest_of_signature b made = block_of_signature s a f on b k (work_of w) (units_are ∙ left) (made a on.choices on.honest)
 
-        pub rest_is_first : IsFirstOutside s (plain a) k
-        rest_is_first = first_outside s (plain a) (wide_rows s a on.matrix_of) (rows_are_of s a on.matrix_of) (last_of f) (end_of s a f on) k (work_of w) (units_are ∙ left)
+        pub rest_is_first : IsFirstOutside s (row_matrix_of a) k
+        rest_is_first = first_outside s (row_matrix_of a) (wide_rows s a on.matrix_of) (rows_are_of s a on.matrix_of) (last_of f) (end_of s a f on) k (work_of w) (units_are ∙ left)

@@ -18,7 +18,7 @@ use Rattle.ore_division.specs.StoredWork.{work_of}
 use Rattle.ore_division.specs.declared.division.Reduced.{Reduced}
 use Rattle.ore_parts.specs.OfSignature.{IsOutsideOf}
 use Rattle.ore_blocks.specs.BlockOfRun.{outside_block_of}
-use Rattle.ore_blocks.specs.CheckBlock.{plain}
+use Rattle.ore_blocks.specs.CheckBlock.{row_matrix_of}
 use Rattle.ore_blocks.proofs.Converted.{rows_count, wide_rows, rows_are_of}
 use Rattle.ore_groebner.specs.Courses.{last_of}
 use Rattle.ore_groebner.specs.declared.outcome.Finished.{Finished}
@@ -40,34 +40,34 @@ module _ (s : Signature) (a : OperatorMatrix) (f : Finished) (on_a : IsRunOn s a
     of : AllByRecursion (RowOf rationals s) (rows_of a)
     of = rows_are_of s a on_a.matrix_of
 
-    end : IsEndOf s (plain a) (last_of f)
+    end : IsEndOf s (row_matrix_of a) (last_of f)
     end = end_of s a f on_a
 
     abbrev rows : List (Row rationals)
     rows = rows_of g.syzygies
 
     long_rows : AreLong rationals a.cols rows
-    long_rows = subst (λ n. AreLong rationals n rows) (rows_count q ∙ count) (wide_generators s (plain q) (wide_rows s q on_q.matrix_of) (rows_are_of s q on_q.matrix_of) (last_of g) (end_of s q g on_q))
+    long_rows = subst (λ n. AreLong rationals n rows) (rows_count q ∙ count) (wide_generators s (row_matrix_of q) (wide_rows s q on_q.matrix_of) (rows_are_of s q on_q.matrix_of) (last_of g) (end_of s q g on_q))
 
     of_rows : AllByRecursion (RowOf rationals s) rows
-    of_rows = of_generators s (plain q) (wide_rows s q on_q.matrix_of) (rows_are_of s q on_q.matrix_of) (last_of g) (end_of s q g on_q)
+    of_rows = of_generators s (row_matrix_of q) (wide_rows s q on_q.matrix_of) (rows_are_of s q on_q.matrix_of) (last_of g) (end_of s q g on_q)
 
-    all_counted : (m : OperatorMatrix) → reduced program s (plain a) (last_of f) rows ≡ Ok (AllReduce (rows_of m)) → length m.rows ≡ length g.syzygies.rows
+    all_counted : (m : OperatorMatrix) → reduced program s (row_matrix_of a) (last_of f) rows ≡ Ok (AllReduce (rows_of m)) → length m.rows ≡ length g.syzygies.rows
     all_counted m e =
-        let (more, same, found) = rows_are_reduced s (plain a) long of (last_of f) end rows (AllReduce (rows_of m)) long_rows e in
-        sym (rows_count m) ∙ found_count s (plain a) long of (last_of f) end rows (rows_of m) (subst (AreFound s (plain a) long of (last_of f) end rows) (sym same) found) ∙ rows_count g.syzygies
+        let (more, same, found) = rows_are_reduced s (row_matrix_of a) long of (last_of f) end rows (AllReduce (rows_of m)) long_rows e in
+        sym (rows_count m) ∙ found_count s (row_matrix_of a) long of (last_of f) end rows (rows_of m) (subst (AreFound s (row_matrix_of a) long of (last_of f) end rows) (sym same) found) ∙ rows_count g.syzygies
 
-    module _ (k : ℕ) (w : Reduced) (e : reduced program s (plain a) (last_of f) rows ≡ Ok (LeavesRest k (work_of w))) where
+    module _ (k : ℕ) (w : Reduced) (e : reduced program s (row_matrix_of a) (last_of f) rows ≡ Ok (LeavesRest k (work_of w))) where
       rest_wide : length w.row ≡ a.cols
       rest_wide =
-          let (j, place, less, there, t, lead) = rows_are_reduced s (plain a) long of (last_of f) end rows (LeavesRest k (work_of w)) long_rows e in
+          let (j, place, less, there, t, lead) = rows_are_reduced s (row_matrix_of a) long of (last_of f) end rows (LeavesRest k (work_of w)) long_rows e in
           sym (length-map w.row (λ x. x.sum))
-          ∙ z_wide s (plain a) long of (last_of f) end (row_at rows j) (All-get_or (λ (y : Row rationals). length y ≡ a.cols) rows j [] less long_rows) (All-get_or (RowOf rationals s) rows j [] less of_rows) (work_of w) there t lead
+          ∙ z_wide s (row_matrix_of a) long of (last_of f) end (row_at rows j) (All-get_or (λ (y : Row rationals). length y ≡ a.cols) rows j [] less long_rows) (All-get_or (RowOf rationals s) rows j [] less of_rows) (work_of w) there t lead
 
-      rest_block : IsOutsideOf s (outside_block_of s (plain a) (last_of f) [] (sums_of w.row))
+      rest_block : IsOutsideOf s (outside_block_of s (row_matrix_of a) (last_of f) [] (sums_of w.row))
       rest_block =
-          let (j, place, less, there, t, lead) = rows_are_reduced s (plain a) long of (last_of f) end rows (LeavesRest k (work_of w)) long_rows e in
-          rest_block_of s (plain a) long of (last_of f) end (row_at rows j) (All-get_or (λ (y : Row rationals). length y ≡ a.cols) rows j [] less long_rows) (All-get_or (RowOf rationals s) rows j [] less of_rows) (work_of w) there t lead
+          let (j, place, less, there, t, lead) = rows_are_reduced s (row_matrix_of a) long of (last_of f) end rows (LeavesRest k (work_of w)) long_rows e in
+          rest_block_of s (row_matrix_of a) long of (last_of f) end (row_at rows j) (All-get_or (λ (y : Row rationals). length y ≡ a.cols) rows j [] less long_rows) (All-get_or (RowOf rationals s) rows j [] less of_rows) (work_of w) there t lead
 
     pub reduced_syzygies : (x : Stored) → AreReductionsOf s f.basis.width x → reduce_rows rationals s.order (within program s) f.basis.width (monics f.basis) rows ≡ Ok (reductions_of x) → AreReducedSyzygies s a f g x
     reduced_syzygies (stored.AllReduce m) of_m e = (of_m.0 ∙ on_a.honest.width, all_counted m (reduced_is s a f on_a rows ∙ e), of_m.1)

@@ -11,7 +11,7 @@ use Rattle.ore_rows.specs.Rows.{unit_row, InRowModule}
 use Rattle.ore_parts.specs.OfSignature.{MatrixOf, IsOutsideOf}
 use Rattle.ore_cert.specs.declared.certificate.Certificate.{Certificate}
 use Rattle.ore_cert.specs.declared.certificate.Certificate.TheVariants.{LeftInverse, RightInverse, NoLeftInverse, NoRightInverse}
-use Rattle.ore_blocks.specs.CheckBlock.{RowMatrix, plain}
+use Rattle.ore_blocks.specs.CheckBlock.{RowMatrix, row_matrix_of}
 use Rattle.ore_blocks.specs.Valid.{IsValidOutsideFor}
 use Rattle.ore_check.specs.Meaning.{IsLeftInverse, IsRightInverse, HasLeftInverse, HasRightInverse, transposed_adjoint}
 use Rattle.ore_inverse.specs.declared.answer.InverseAnswer.{InverseAnswer}
@@ -56,12 +56,12 @@ module _ (s : Signature) where
   -- m of the signature, with m r the identity; or no matrix is such an inverse, as the first unit row shows that isn't in
   -- the row module of r, with a valid block of the signature
   abbrev pub IsLeftInverseAnswer : RowMatrix → InverseAnswer → Type 0
-  IsLeftInverseAnswer r (Found m) = MatrixOf s m × IsLeftInverse s r (plain m)
+  IsLeftInverseAnswer r (Found m) = MatrixOf s m × IsLeftInverse s r (row_matrix_of m)
   IsLeftInverseAnswer r (None k block) = (¬ HasLeftInverse s r) × IsFirstOutside r k × IsOutsideOf s block × IsValidOutsideFor s r (unit_row rationals r.cols k) block
 
   -- m of the signature, with r m the identity; or no matrix is such an inverse, as the first unit row shows that isn't in
   -- the row module of the transposed adjoint of r, with a valid block of the signature
   abbrev pub IsRightInverseAnswer : RowMatrix → InverseAnswer → Type 0
-  IsRightInverseAnswer r (Found m) = MatrixOf s m × IsRightInverse s r (plain m)
+  IsRightInverseAnswer r (Found m) = MatrixOf s m × IsRightInverse s r (row_matrix_of m)
   IsRightInverseAnswer r (None k block) =
       (¬ HasRightInverse s r) × IsFirstOutside (transposed_adjoint s r) k × IsOutsideOf s block × IsValidOutsideFor s (transposed_adjoint s r) (unit_row rationals (length r.rows) k) block

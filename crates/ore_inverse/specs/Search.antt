@@ -14,7 +14,7 @@ use Rattle.ore_rows.specs.ReduceRows.{Reductions, AllReduce, LeavesRest}
 use Rattle.ore_rows.specs.Rows.{identity_rows}
 use Rattle.ore_pairs.specs.Run.{RunState}
 use Rattle.ore_blocks.specs.BlockOfRun.{outside_block_of}
-use Rattle.ore_blocks.specs.CheckBlock.{RowMatrix, plain}
+use Rattle.ore_blocks.specs.CheckBlock.{RowMatrix, row_matrix_of}
 use Rattle.ore_blocks.specs.KernelCourse.{RunCourse, run_on, transposed_adjoint_within}
 use Rattle.ore_check.specs.Plans.{stored, reduced}
 use Rattle.ore_inverse.specs.declared.answer.InverseAnswer.{InverseAnswer}
@@ -40,5 +40,5 @@ module _ (s : Signature) where
 
   -- an answer of the transposed adjoint of a matrix, as one of the matrix
   abbrev pub turned : InverseAnswer → Result InverseAnswer Cause
-  turned (Found m) = found_within (transposed_adjoint_within program s (plain m))
+  turned (Found m) = found_within (transposed_adjoint_within program s (row_matrix_of m))
   turned (None k block) = Ok (None k block)

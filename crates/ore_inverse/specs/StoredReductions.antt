@@ -12,7 +12,7 @@ use Rattle.ore_rows.specs.Stored.{OperatorMatrix, sums_of, rows_of}
 use Rattle.ore_division.specs.StoredWork.{work_of}
 use Rattle.ore_parts.specs.OfSignature.{IsOutsideOf}
 use Rattle.ore_blocks.specs.BlockOfRun.{outside_block_of}
-use Rattle.ore_blocks.specs.CheckBlock.{plain}
+use Rattle.ore_blocks.specs.CheckBlock.{row_matrix_of}
 use Rattle.ore_groebner.specs.Courses.{last_of}
 use Rattle.ore_groebner.specs.declared.outcome.Finished.{Finished}
 use Rattle.ore_inverse.specs.declared.reductions.Reductions.{Reductions as Stored}
@@ -32,4 +32,4 @@ AreReductionsOf s n (stored.LeavesRest k w) = All (Belongs s) w.row
 -- signature that is left of one, with a block of the signature
 abbrev pub AreReducedSyzygies : Signature → OperatorMatrix → Finished → Finished → Stored → Type 0
 AreReducedSyzygies s a f g (stored.AllReduce m) = (m.cols ≡ length a.rows) × (length m.rows ≡ length g.syzygies.rows) × All (All (Belongs s)) m.rows
-AreReducedSyzygies s a f g (stored.LeavesRest n w) = (length w.row ≡ a.cols) × All (Belongs s) w.row × IsOutsideOf s (outside_block_of s (plain a) (last_of f) [] (sums_of w.row))
+AreReducedSyzygies s a f g (stored.LeavesRest n w) = (length w.row ≡ a.cols) × All (Belongs s) w.row × IsOutsideOf s (outside_block_of s (row_matrix_of a) (last_of f) [] (sums_of w.row))

@@ -4,7 +4,7 @@ ghost use Rattle.std.specs.Prelude.{◌≡◌, IfOk, IfErr};
 ghost use Rattle.std.specs.List.{All};
 ghost use Rattle.ore_algebra.specs.Limits.{program};
 ghost use Rattle.ore_ring.specs.Belongs.{AllBelong};
-ghost use Rattle.ore_blocks.specs.CheckBlock.{plain};
+ghost use Rattle.ore_blocks.specs.CheckBlock.{row_matrix_of};
 ghost use Rattle.ore_groebner.specs.Choosing.{AreWithinBudget};
 ghost use Rattle.ore_groebner.specs.Courses.{FollowsTo, HaltsIn};
 ghost use Rattle.ore_check.specs.PlanLaws.{IsCorrect};
@@ -34,11 +34,11 @@ pub fn left_certificate<R: OreRing, C: Chooser>(
     chooser: &mut C,
 ) -> Result<Certificate, Halt>
     requires { All (AllBelong (R.sig ring.now)) r.now.rows }
-    ensures correct { IfOk result (IsCorrect (R.sig ring.now) (plain r.now)) }
+    ensures correct { IfOk result (IsCorrect (R.sig ring.now) (row_matrix_of r.now)) }
     ensures kind { IfOk result IsOfLeftInverse }
-    ensures first { IfOk result (NamesFirstUnit (R.sig ring.now) (plain r.now)) }
-    ensures answered { IfOk result (FollowsTo (R.sig ring.now) C.allows C.allows_spent (inverse_left program (R.sig ring.now) (plain r.now)) (C.given chooser.old) (C.given chooser.new)) }
-    ensures halts { IfErr result (HaltsIn (R.sig ring.now) C.allows C.allows_spent (inverse_left program (R.sig ring.now) (plain r.now)) (C.given chooser.old) (C.given chooser.new) (C.settings chooser.new)) }
+    ensures first { IfOk result (NamesFirstUnit (R.sig ring.now) (row_matrix_of r.now)) }
+    ensures answered { IfOk result (FollowsTo (R.sig ring.now) C.allows C.allows_spent (inverse_left program (R.sig ring.now) (row_matrix_of r.now)) (C.given chooser.old) (C.given chooser.new)) }
+    ensures halts { IfErr result (HaltsIn (R.sig ring.now) C.allows C.allows_spent (inverse_left program (R.sig ring.now) (row_matrix_of r.now)) (C.given chooser.old) (C.given chooser.new) (C.settings chooser.new)) }
     ensures within_budget { AreWithinBudget (C.given chooser.old) (C.settings chooser.old).budget → AreWithinBudget (C.given chooser.new) (C.settings chooser.new).budget }
     ensures settings { C.settings chooser.new ≡ C.settings chooser.old }
 {
@@ -60,11 +60,11 @@ pub fn right_certificate<R: OreRing, C: Chooser>(
     chooser: &mut C,
 ) -> Result<Certificate, Halt>
     requires { All (AllBelong (R.sig ring.now)) r.now.rows }
-    ensures correct { IfOk result (IsCorrect (R.sig ring.now) (plain r.now)) }
+    ensures correct { IfOk result (IsCorrect (R.sig ring.now) (row_matrix_of r.now)) }
     ensures kind { IfOk result IsOfRightInverse }
-    ensures first { IfOk result (NamesFirstUnit (R.sig ring.now) (plain r.now)) }
-    ensures answered { IfOk result (FollowsTo (R.sig ring.now) C.allows C.allows_spent (inverse_right program (R.sig ring.now) (plain r.now)) (C.given chooser.old) (C.given chooser.new)) }
-    ensures halts { IfErr result (HaltsIn (R.sig ring.now) C.allows C.allows_spent (inverse_right program (R.sig ring.now) (plain r.now)) (C.given chooser.old) (C.given chooser.new) (C.settings chooser.new)) }
+    ensures first { IfOk result (NamesFirstUnit (R.sig ring.now) (row_matrix_of r.now)) }
+    ensures answered { IfOk result (FollowsTo (R.sig ring.now) C.allows C.allows_spent (inverse_right program (R.sig ring.now) (row_matrix_of r.now)) (C.given chooser.old) (C.given chooser.new)) }
+    ensures halts { IfErr result (HaltsIn (R.sig ring.now) C.allows C.allows_spent (inverse_right program (R.sig ring.now) (row_matrix_of r.now)) (C.given chooser.old) (C.given chooser.new) (C.settings chooser.new)) }
     ensures within_budget { AreWithinBudget (C.given chooser.old) (C.settings chooser.old).budget → AreWithinBudget (C.given chooser.new) (C.settings chooser.new).budget }
     ensures settings { C.settings chooser.new ≡ C.settings chooser.old }
 {

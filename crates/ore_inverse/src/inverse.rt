@@ -4,7 +4,7 @@ ghost use Rattle.std.specs.Prelude.{◌≡◌, IfOk, IfErr};
 ghost use Rattle.std.specs.List.{All};
 ghost use Rattle.ore_algebra.specs.Limits.{program};
 ghost use Rattle.ore_ring.specs.Belongs.{AllBelong};
-ghost use Rattle.ore_blocks.specs.CheckBlock.{plain};
+ghost use Rattle.ore_blocks.specs.CheckBlock.{row_matrix_of};
 ghost use Rattle.ore_groebner.specs.Choosing.{AreWithinBudget};
 ghost use Rattle.ore_groebner.specs.Courses.{FollowsTo, HaltsIn};
 ghost use Rattle.ore_check.specs.Plans.{inverse_left, inverse_right};
@@ -28,9 +28,9 @@ pub fn left_inverse<R: OreRing, C: Chooser>(
     chooser: &mut C,
 ) -> Result<InverseAnswer, Halt>
     requires { All (AllBelong (R.sig ring.now)) r.now.rows }
-    ensures inverse { IfOk result (IsLeftInverseAnswer (R.sig ring.now) (plain r.now)) }
-    ensures answered { IfOk result (λ x. FollowsTo (R.sig ring.now) C.allows C.allows_spent (inverse_left program (R.sig ring.now) (plain r.now)) (C.given chooser.old) (C.given chooser.new) (left_certificate_of x)) }
-    ensures halts { IfErr result (HaltsIn (R.sig ring.now) C.allows C.allows_spent (inverse_left program (R.sig ring.now) (plain r.now)) (C.given chooser.old) (C.given chooser.new) (C.settings chooser.new)) }
+    ensures inverse { IfOk result (IsLeftInverseAnswer (R.sig ring.now) (row_matrix_of r.now)) }
+    ensures answered { IfOk result (λ x. FollowsTo (R.sig ring.now) C.allows C.allows_spent (inverse_left program (R.sig ring.now) (row_matrix_of r.now)) (C.given chooser.old) (C.given chooser.new) (left_certificate_of x)) }
+    ensures halts { IfErr result (HaltsIn (R.sig ring.now) C.allows C.allows_spent (inverse_left program (R.sig ring.now) (row_matrix_of r.now)) (C.given chooser.old) (C.given chooser.new) (C.settings chooser.new)) }
     ensures within_budget { AreWithinBudget (C.given chooser.old) (C.settings chooser.old).budget → AreWithinBudget (C.given chooser.new) (C.settings chooser.new).budget }
     ensures settings { C.settings chooser.new ≡ C.settings chooser.old }
 {
@@ -50,9 +50,9 @@ pub fn right_inverse<R: OreRing, C: Chooser>(
     chooser: &mut C,
 ) -> Result<InverseAnswer, Halt>
     requires { All (AllBelong (R.sig ring.now)) r.now.rows }
-    ensures inverse { IfOk result (IsRightInverseAnswer (R.sig ring.now) (plain r.now)) }
-    ensures answered { IfOk result (λ x. FollowsTo (R.sig ring.now) C.allows C.allows_spent (inverse_right program (R.sig ring.now) (plain r.now)) (C.given chooser.old) (C.given chooser.new) (right_certificate_of x)) }
-    ensures halts { IfErr result (HaltsIn (R.sig ring.now) C.allows C.allows_spent (inverse_right program (R.sig ring.now) (plain r.now)) (C.given chooser.old) (C.given chooser.new) (C.settings chooser.new)) }
+    ensures inverse { IfOk result (IsRightInverseAnswer (R.sig ring.now) (row_matrix_of r.now)) }
+    ensures answered { IfOk result (λ x. FollowsTo (R.sig ring.now) C.allows C.allows_spent (inverse_right program (R.sig ring.now) (row_matrix_of r.now)) (C.given chooser.old) (C.given chooser.new) (right_certificate_of x)) }
+    ensures halts { IfErr result (HaltsIn (R.sig ring.now) C.allows C.allows_spent (inverse_right program (R.sig ring.now) (row_matrix_of r.now)) (C.given chooser.old) (C.given chooser.new) (C.settings chooser.new)) }
     ensures within_budget { AreWithinBudget (C.given chooser.old) (C.settings chooser.old).budget → AreWithinBudget (C.given chooser.new) (C.settings chooser.new).budget }
     ensures settings { C.settings chooser.new ≡ C.settings chooser.old }
 {

@@ -9,7 +9,7 @@ ghost use Rattle.ore_monomial.specs.declared.stop.RingStop.TheVariants.{Memory};
 ghost use Rattle.ore_ring.specs.Belongs.{AllBelong, Belongs};
 ghost use Rattle.ore_ring.specs.Within.{opposite};
 ghost use Rattle.ore_rows.specs.Arithmetic.{within};
-ghost use Rattle.ore_rows.specs.ReduceRows as plain;
+ghost use Rattle.ore_rows.specs.ReduceRows as reduction;
 ghost use Rattle.ore_rows.specs.Rows.{identity_rows, zero_row};
 ghost use Rattle.ore_rows.specs.Stored.{rows_of, sums_of};
 ghost use Rattle.ore_rows.specs.StoredBasis.{BasisBelongs, monics};
@@ -48,7 +48,7 @@ pub fn reduce_rows<R: OreRing>(
     requires few { basis.now.width < 2 ^ 63 }
     requires rows_of { All (AllBelong (R.sig ring.now)) rows.now.rows }
     requires basis_of { BasisBelongs (R.sig ring.now) basis.now.items }
-    ensures gives { Gives reductions_of result (plain.reduce_rows rationals (R.sig ring.now).order (within program (R.sig ring.now)) basis.now.width (monics basis.now) (rows_of rows.now)) }
+    ensures gives { Gives reductions_of result (reduction.reduce_rows rationals (R.sig ring.now).order (within program (R.sig ring.now)) basis.now.width (monics basis.now) (rows_of rows.now)) }
     ensures of { IfOk result (AreReductionsOf (R.sig ring.now) basis.now.width) }
 {
     let mut out = Vec::new(alloc);
@@ -77,7 +77,7 @@ pub fn reduce_units<R: OreRing>(
     requires cols { n ≡ basis.now.cols }
     requires few { basis.now.width < 2 ^ 63 }
     requires basis_of { BasisBelongs (R.sig ring.now) basis.now.items }
-    ensures gives { Gives reductions_of result (plain.reduce_rows rationals (R.sig ring.now).order (within program (R.sig ring.now)) basis.now.width (monics basis.now) (identity_rows rationals n)) }
+    ensures gives { Gives reductions_of result (reduction.reduce_rows rationals (R.sig ring.now).order (within program (R.sig ring.now)) basis.now.width (monics basis.now) (identity_rows rationals n)) }
     ensures of { IfOk result (AreReductionsOf (R.sig ring.now) basis.now.width) }
 {
     let units = identity(alloc, ring.signature(), n)?;
@@ -94,7 +94,7 @@ fn reduce_row<R: OreRing>(
     requires width { length row.now ≡ basis.now.cols }
     requires row_of { AllBelong (R.sig ring.now) row.now }
     requires basis_of { BasisBelongs (R.sig ring.now) basis.now.items }
-    ensures gives { Gives work_of result (plain.reduce_row rationals (R.sig ring.now).order (within program (R.sig ring.now)) basis.now.width (monics basis.now) (sums_of row.now)) }
+    ensures gives { Gives work_of result (reduction.reduce_row rationals (R.sig ring.now).order (within program (R.sig ring.now)) basis.now.width (monics basis.now) (sums_of row.now)) }
     ensures row_of { IfOk result (λ w. AllBelong (R.sig ring.now) w.row) }
     ensures cofactor_of { IfOk result (λ w. AllBelong (R.sig ring.now) w.cofactor) }
     ensures cofactor_width { IfOk result (λ w. length w.cofactor ≡ basis.now.width) }
@@ -134,7 +134,7 @@ pub fn zero_row(alloc: Global, sig: &Signature, n: usize) -> Result<Row, NoMemor
 /// Want of memory.
 pub fn negated<R: OreRing>(ring: &R, alloc: Global, row: &Row) -> Result<Row, RingStop>
     requires { AllBelong (R.sig ring.now) row.now }
-    ensures value { IfOk result (λ r. sums_of r ≡ plain.negated rationals (sums_of row.now)) }
+    ensures value { IfOk result (λ r. sums_of r ≡ reduction.negated rationals (sums_of row.now)) }
     ensures width { IfOk result (λ r. length r ≡ length row.now) }
     ensures of { IfOk result (AllBelong (R.sig ring.now)) }
     ensures memory { IfErr result (λ e. e ≡ Memory) }

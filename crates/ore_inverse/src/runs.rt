@@ -4,7 +4,7 @@ ghost use Rattle.std.specs.Prelude.{◌≡◌, IfOk, IfErr};
 ghost use Rattle.std.specs.List.{All};
 ghost use Rattle.ore_algebra.specs.Limits.{program};
 ghost use Rattle.ore_ring.specs.Belongs.{AllBelong};
-ghost use Rattle.ore_blocks.specs.CheckBlock.{plain};
+ghost use Rattle.ore_blocks.specs.CheckBlock.{row_matrix_of};
 ghost use Rattle.ore_blocks.specs.KernelCourse.{run_on};
 ghost use Rattle.ore_groebner.specs.Choosing.{AreWithinBudget};
 ghost use Rattle.ore_groebner.specs.Courses.{last_of, FollowsTo, HaltsIn};
@@ -28,8 +28,8 @@ pub fn run_on<R: OreRing, C: Chooser>(
 ) -> Result<Finished, Halt>
     requires { All (AllBelong (R.sig ring.now)) a.now.rows }
     ensures run { IfOk result (IsRunOn (R.sig ring.now) a.now) }
-    ensures answered { IfOk result (λ f. FollowsTo (R.sig ring.now) C.allows C.allows_spent (run_on program (R.sig ring.now) (plain a.now)) (C.given chooser.old) (C.given chooser.new) (last_of f)) }
-    ensures halts { IfErr result (HaltsIn (R.sig ring.now) C.allows C.allows_spent (run_on program (R.sig ring.now) (plain a.now)) (C.given chooser.old) (C.given chooser.new) (C.settings chooser.new)) }
+    ensures answered { IfOk result (λ f. FollowsTo (R.sig ring.now) C.allows C.allows_spent (run_on program (R.sig ring.now) (row_matrix_of a.now)) (C.given chooser.old) (C.given chooser.new) (last_of f)) }
+    ensures halts { IfErr result (HaltsIn (R.sig ring.now) C.allows C.allows_spent (run_on program (R.sig ring.now) (row_matrix_of a.now)) (C.given chooser.old) (C.given chooser.new) (C.settings chooser.new)) }
     ensures within_budget { AreWithinBudget (C.given chooser.old) (C.settings chooser.old).budget → AreWithinBudget (C.given chooser.new) (C.settings chooser.new).budget }
     ensures settings { C.settings chooser.new ≡ C.settings chooser.old }
 {

@@ -5,7 +5,7 @@ ghost use Rattle.std.specs.List.{All};
 ghost use Rattle.ore_monomial.specs.Gives.{Gives};
 ghost use Rattle.ore_ring.specs.Belongs.{AllBelong};
 ghost use Rattle.ore_cert.specs.CertificateOf.{IsCertificateOf};
-ghost use Rattle.ore_blocks.specs.CheckBlock.{plain};
+ghost use Rattle.ore_blocks.specs.CheckBlock.{row_matrix_of};
 ghost use Rattle.ore_groebner.specs.Choosing.{AreWithinBudget};
 ghost use Rattle.ore_groebner.specs.Courses.{FollowsTo, HaltsIn};
 ghost use Rattle.ore_inverse.specs.Inverses.{left_certificate_of, right_certificate_of, NamesFirstUnit};
@@ -31,9 +31,9 @@ pub(crate) fn find_left<R: OreRing, C: Chooser>(
 ) -> Result<InverseAnswer, Halt>
     requires { All (AllBelong (R.sig ring.now)) a.now.rows }
     ensures of { IfOk result (λ x. IsCertificateOf (R.sig ring.now) (left_certificate_of x)) }
-    ensures first { IfOk result (λ x. NamesFirstUnit (R.sig ring.now) (plain a.now) (left_certificate_of x)) }
-    ensures answered { IfOk result (FollowsTo (R.sig ring.now) C.allows C.allows_spent (left_search (R.sig ring.now) (plain a.now)) (C.given chooser.old) (C.given chooser.new)) }
-    ensures halts { IfErr result (HaltsIn (R.sig ring.now) C.allows C.allows_spent (left_search (R.sig ring.now) (plain a.now)) (C.given chooser.old) (C.given chooser.new) (C.settings chooser.new)) }
+    ensures first { IfOk result (λ x. NamesFirstUnit (R.sig ring.now) (row_matrix_of a.now) (left_certificate_of x)) }
+    ensures answered { IfOk result (FollowsTo (R.sig ring.now) C.allows C.allows_spent (left_search (R.sig ring.now) (row_matrix_of a.now)) (C.given chooser.old) (C.given chooser.new)) }
+    ensures halts { IfErr result (HaltsIn (R.sig ring.now) C.allows C.allows_spent (left_search (R.sig ring.now) (row_matrix_of a.now)) (C.given chooser.old) (C.given chooser.new) (C.settings chooser.new)) }
     ensures within_budget { AreWithinBudget (C.given chooser.old) (C.settings chooser.old).budget → AreWithinBudget (C.given chooser.new) (C.settings chooser.new).budget }
     ensures settings { C.settings chooser.new ≡ C.settings chooser.old }
 {

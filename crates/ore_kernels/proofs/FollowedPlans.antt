@@ -32,7 +32,7 @@ use Rattle.ore_cert.specs.declared.certificate.Certificate.TheVariants as certif
 use Rattle.ore_cert.specs.declared.certificate.Side.{Side}
 use Rattle.ore_cert.specs.declared.certificate.Side.TheVariants.{Left, Right}
 use Rattle.ore_blocks.specs.BlockOfRun.{exact_block_of}
-use Rattle.ore_blocks.specs.CheckBlock.{RowMatrix, plain}
+use Rattle.ore_blocks.specs.CheckBlock.{RowMatrix, row_matrix_of}
 use Rattle.ore_blocks.specs.KernelCourse.{RunCourse, RightKernel, syzygies_of, kernel_block, run_on, right_kernel}
 use Rattle.ore_blocks.proofs.Converted.{rows_count, wide_rows, rows_are_of}
 use Rattle.ore_groebner.specs.Choosing.{Settings}
@@ -54,20 +54,20 @@ use Rattle.ore_kernels.specs.KernelPlans.{kernel_course, IsKernelBlockOf, IsLeft
 module _ (s : Signature) where
   pub block_is : (f : Finished) (units : OperatorMatrix) → units.cols ≡ length f.syzygies.rows → rows_of units ≡ identity_rows rationals (length f.syzygies.rows)
       → (b : ExactBlock) → IsExactBlockOfRun s f units b → IsKernelBlockOf s f b
-  block_is f units cols rows b h a choices honest = h a choices honest ∙ ap (λ (u : RowMatrix). exact_block_of s (plain a) (last_of f) u) same
+  block_is f units cols rows b h a choices honest = h a choices honest ∙ ap (λ (u : RowMatrix). exact_block_of s (row_matrix_of a) (last_of f) u) same
     where
       count : length (rows_of f.syzygies) ≡ length f.syzygies.rows
       count = rows_count f.syzygies
 
-      same : plain units ≡ record { cols = length (rows_of f.syzygies); rows = identity_rows rationals (length (rows_of f.syzygies)) }
+      same : row_matrix_of units ≡ record { cols = length (rows_of f.syzygies); rows = identity_rows rationals (length (rows_of f.syzygies)) }
       same = λ i. record { cols = (cols ∙ sym count) i; rows = (rows ∙ ap (identity_rows rationals) (sym count)) i }
 
   -- ---- the generators
 
-  left_generators : (f : Finished) (a : OperatorMatrix) (choices : List Choice) → IsHonestRun s a choices f → stored s (syzygies_of (plain a) (last_of f)) ≡ f.syzygies
+  left_generators : (f : Finished) (a : OperatorMatrix) (choices : List Choice) → IsHonestRun s a choices f → stored s (syzygies_of (row_matrix_of a) (last_of f)) ≡ f.syzygies
   left_generators f a choices h = λ i. record { cols = sym (syzygies_width s f a choices h) i; rows = ordered-rows s f.syzygies.rows h.syzygies_of i }
 
-  right_generators : (m : OperatorMatrix) → All (All (Belongs s)) m.rows → stored s (plain m) ≡ m
+  right_generators : (m : OperatorMatrix) → All (All (Belongs s)) m.rows → stored s (row_matrix_of m) ≡ m
   right_generators m of = λ i. record { cols = m.cols; rows = ordered-rows s m.rows of i }
 
   -- ---- the plans
@@ -113,41 +113,41 @@ module _ (s : Signature) where
 
     module _ (r : OperatorMatrix) (before given : List (List Choice)) (choices : List Choice) where
       left_ends : (result : Result Kernel Halt) → IfOk result (IsLeftKernel s r) → IfOk result (λ k. IsHonestRun s r choices k.run)
-          → IfOk result (λ k. FollowsTo s allows allows_spent (run_on program s (plain r)) before given (last_of k.run))
-          → IfOk result (IsLeftToForm s allows allows_spent Left (plain r) before given)
+          → IfOk result (λ k. FollowsTo s allows allows_spent (run_on program s (row_matrix_of r)) before given (last_of k.run))
+          → IfOk result (IsLeftToForm s allows allows_spent Left (row_matrix_of r) before given)
       left_ends (Ok k) kernel honest h = (
         r,
         choices,
         honest,
-        subst (λ (m : OperatorMatrix). Follows runner rule (kernel_left program s (plain r)) before given (forming program s (plain r) (certificate.Kernel Left m (kernel_block s (plain r) (last_of k.run))) tt))
+        subst (λ (m : OperatorMatrix). Follows runner rule (kernel_left program s (row_matrix_of r)) before given (forming program s (row_matrix_of r) (certificate.Kernel Left m (kernel_block s (row_matrix_of r) (last_of k.run))) tt))
             (left_generators k.run r choices honest ∙ sym kernel.generators)
-            (called runner rule (run_on program s (plain r)) (last_of k.run) (left_rest (plain r) before) h (left_begun (plain r) before)),
+            (called runner rule (run_on program s (row_matrix_of r)) (last_of k.run) (left_rest (row_matrix_of r) before) h (left_begun (row_matrix_of r) before)),
       )
       left_ends (Err halt) kernel honest h = tt
 
       right_ends : (result : Result Kernel Halt) → IfOk result (λ k. All (All (Belongs s)) k.generators.rows) → IfOk result (λ k. IsRunOnAdjoint s r choices k.run)
-          → IfOk result (λ k. FollowsTo s allows allows_spent (right_kernel program s (plain r)) before given (right_answer s r k))
-          → IfOk result (IsLeftToForm s allows allows_spent Right (plain r) before given)
+          → IfOk result (λ k. FollowsTo s allows allows_spent (right_kernel program s (row_matrix_of r)) before given (right_answer s r k))
+          → IfOk result (IsLeftToForm s allows allows_spent Right (row_matrix_of r) before given)
       right_ends (Ok k) of (a, same, honest) h = (
         a,
         choices,
         honest,
-        subst (λ (m : OperatorMatrix). Follows runner rule (kernel_right program s (plain r)) before given (forming program s (plain r) (certificate.Kernel Right m (kernel_block s (plain a) (last_of k.run))) tt)) (right_generators k.generators of)
-            (subst (λ (p : RowMatrix). Follows runner rule (kernel_right program s (plain r)) before given (forming program s (plain r) (certificate.Kernel Right (stored s (plain k.generators)) (kernel_block s p (last_of k.run))) tt)) (sym same)
-            (called runner rule (right_kernel program s (plain r)) (right_answer s r k) (right_rest (plain r) before) h (right_begun (plain r) before))),
+        subst (λ (m : OperatorMatrix). Follows runner rule (kernel_right program s (row_matrix_of r)) before given (forming program s (row_matrix_of r) (certificate.Kernel Right m (kernel_block s (row_matrix_of a) (last_of k.run))) tt)) (right_generators k.generators of)
+            (subst (λ (p : RowMatrix). Follows runner rule (kernel_right program s (row_matrix_of r)) before given (forming program s (row_matrix_of r) (certificate.Kernel Right (stored s (row_matrix_of k.generators)) (kernel_block s p (last_of k.run))) tt)) (sym same)
+            (called runner rule (right_kernel program s (row_matrix_of r)) (right_answer s r k) (right_rest (row_matrix_of r) before) h (right_begun (row_matrix_of r) before))),
       )
       right_ends (Err halt) of honest h = tt
 
       module _ (side : Side) (result : Result Kernel Halt) where
         pub left_found : side ≡ Left → IfOk result (IsLeftKernel s r) → IfOk result (λ k. IsHonestRun s r choices k.run)
-            → IfOk result (λ k. FollowsTo s allows allows_spent (run_on program s (plain r)) before given (last_of k.run))
-            → IfOk result (IsLeftToForm s allows allows_spent side (plain r) before given)
-        left_found is kernel honest h = subst (λ (at : Side). IfOk result (IsLeftToForm s allows allows_spent at (plain r) before given)) (sym is) (left_ends result kernel honest h)
+            → IfOk result (λ k. FollowsTo s allows allows_spent (run_on program s (row_matrix_of r)) before given (last_of k.run))
+            → IfOk result (IsLeftToForm s allows allows_spent side (row_matrix_of r) before given)
+        left_found is kernel honest h = subst (λ (at : Side). IfOk result (IsLeftToForm s allows allows_spent at (row_matrix_of r) before given)) (sym is) (left_ends result kernel honest h)
 
         pub right_found : side ≡ Right → IfOk result (λ k. All (All (Belongs s)) k.generators.rows) → IfOk result (λ k. IsRunOnAdjoint s r choices k.run)
-            → IfOk result (λ k. FollowsTo s allows allows_spent (right_kernel program s (plain r)) before given (right_answer s r k))
-            → IfOk result (IsLeftToForm s allows allows_spent side (plain r) before given)
-        right_found is of honest h = subst (λ (at : Side). IfOk result (IsLeftToForm s allows allows_spent at (plain r) before given)) (sym is) (right_ends result of honest h)
+            → IfOk result (λ k. FollowsTo s allows allows_spent (right_kernel program s (row_matrix_of r)) before given (right_answer s r k))
+            → IfOk result (IsLeftToForm s allows allows_spent side (row_matrix_of r) before given)
+        right_found is of honest h = subst (λ (at : Side). IfOk result (IsLeftToForm s allows allows_spent at (row_matrix_of r) before given)) (sym is) (right_ends result of honest h)
 
     pub left_with : (r : RowMatrix) (side : Side) (k : Kernel) (before given : List (List Choice)) → IsLeftToForm s allows allows_spent side r before given k → (block : ExactBlock) → IsKernelBlockOf s k.run block
         → Follows runner rule (kernel_course side s r) before given (forming program s r (certificate.Kernel side k.generators block) tt)
@@ -155,6 +155,6 @@ module _ (s : Signature) where
         subst (λ (b : ExactBlock). Follows runner rule (kernel_course side s r) before given (forming program s r (certificate.Kernel side k.generators b) tt)) (sym (is a choices honest)) left
 
     -- what a plan forms is right
-    pub right_on : (side : Side) (r : OperatorMatrix) → MatrixOf s r → (before given : List (List Choice)) (c : Certificate) → FollowsTo s allows allows_spent (kernel_course side s (plain r)) before given c → IsCorrect s (plain r) c
-    right_on Left r of before given c h = kernel_left_right s (plain r) (wide_rows s r of) (rows_are_of s r of) h.added c h.leads
-    right_on Right r of before given c h = kernel_right_right s (plain r) (wide_rows s r of) (rows_are_of s r of) h.added c h.leads
+    pub right_on : (side : Side) (r : OperatorMatrix) → MatrixOf s r → (before given : List (List Choice)) (c : Certificate) → FollowsTo s allows allows_spent (kernel_course side s (row_matrix_of r)) before given c → IsCorrect s (row_matrix_of r) c
+    right_on Left r of before given c h = kernel_left_right s (row_matrix_of r) (wide_rows s r of) (rows_are_of s r of) h.added c h.leads
+    right_on Right r of before given c h = kernel_right_right s (row_matrix_of r) (wide_rows s r of) (rows_are_of s r of) h.added c h.leads

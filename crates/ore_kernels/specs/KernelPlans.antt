@@ -20,7 +20,7 @@ use Rattle.ore_cert.specs.declared.certificate.Side.{Side}
 use Rattle.ore_cert.specs.declared.certificate.Side.TheVariants.{Left, Right}
 use Rattle.ore_cert.specs.declared.report.Plan.{Plan}
 use Rattle.ore_cert.specs.declared.report.Plan.TheVariants.{KernelLeft, KernelRight}
-use Rattle.ore_blocks.specs.CheckBlock.{RowMatrix, plain}
+use Rattle.ore_blocks.specs.CheckBlock.{RowMatrix, row_matrix_of}
 use Rattle.ore_blocks.specs.KernelCourse.{RunCourse, kernel_block}
 use Rattle.ore_groebner.specs.Courses.{last_of}
 use Rattle.ore_groebner.specs.Honest.{IsHonestRun}
@@ -41,7 +41,7 @@ kernel_course Right s r = kernel_right program s r
 module _ (s : Signature) where
   -- on whatever matrix the run is
   abbrev pub IsKernelBlockOf : Finished → ExactBlock → Type 0
-  IsKernelBlockOf f b = (a : OperatorMatrix) (choices : List Choice) → IsHonestRun s a choices f → b ≡ kernel_block s (plain a) (last_of f)
+  IsKernelBlockOf f b = (a : OperatorMatrix) (choices : List Choice) → IsHonestRun s a choices f → b ≡ kernel_block s (row_matrix_of a) (last_of f)
 
   -- the generators, with the block of the run on a
   abbrev pub kernel_of : Side → Kernel → RowMatrix → Certificate
@@ -51,4 +51,4 @@ module _ (s : Signature) where
   abbrev pub IsLeftToForm : (BasisLeads → List (ℕ × ℕ) → Choice → Bool) → (BasisLeads → List (ℕ × ℕ) → Bool) → Side → RowMatrix → (before given : List (List Choice)) → Kernel → Type 0
   IsLeftToForm allows allows_spent side r before given k =
       (a : OperatorMatrix) × (choices : List Choice) × IsHonestRun s a choices k.run
-      × Follows (runner_within program s) (rule_of s allows allows_spent) (kernel_course side s r) before given (certified program s r (kernel_of side k (plain a)) tt)
+      × Follows (runner_within program s) (rule_of s allows allows_spent) (kernel_course side s r) before given (certified program s r (kernel_of side k (row_matrix_of a)) tt)

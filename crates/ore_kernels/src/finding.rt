@@ -3,7 +3,7 @@
 ghost use Rattle.std.specs.Prelude.{◌≡◌, IfOk, IfErr};
 ghost use Rattle.std.specs.List.{All};
 ghost use Rattle.ore_ring.specs.Belongs.{AllBelong};
-ghost use Rattle.ore_blocks.specs.CheckBlock.{plain};
+ghost use Rattle.ore_blocks.specs.CheckBlock.{row_matrix_of};
 ghost use Rattle.ore_check.specs.PlanLaws.{IsCorrect};
 ghost use Rattle.ore_groebner.specs.Choosing.{AreWithinBudget};
 ghost use Rattle.ore_groebner.specs.Courses.{FollowsTo, HaltsIn};
@@ -35,10 +35,10 @@ pub fn kernel_certificate<R: OreRing, C: Chooser>(
 ) -> Result<Certificate, Halt>
     requires { All (AllBelong (R.sig ring.now)) r.now.rows }
     // It is true, and the check accepts it.
-    ensures correct { IfOk result (IsCorrect (R.sig ring.now) (plain r.now)) }
+    ensures correct { IfOk result (IsCorrect (R.sig ring.now) (row_matrix_of r.now)) }
     // The plan forms it by the choices given, or halts so.
-    ensures answered { IfOk result (FollowsTo (R.sig ring.now) C.allows C.allows_spent (kernel_course side (R.sig ring.now) (plain r.now)) (C.given chooser.old) (C.given chooser.new)) }
-    ensures halts { IfErr result (HaltsIn (R.sig ring.now) C.allows C.allows_spent (kernel_course side (R.sig ring.now) (plain r.now)) (C.given chooser.old) (C.given chooser.new) (C.settings chooser.new)) }
+    ensures answered { IfOk result (FollowsTo (R.sig ring.now) C.allows C.allows_spent (kernel_course side (R.sig ring.now) (row_matrix_of r.now)) (C.given chooser.old) (C.given chooser.new)) }
+    ensures halts { IfErr result (HaltsIn (R.sig ring.now) C.allows C.allows_spent (kernel_course side (R.sig ring.now) (row_matrix_of r.now)) (C.given chooser.old) (C.given chooser.new) (C.settings chooser.new)) }
     ensures within_budget { AreWithinBudget (C.given chooser.old) (C.settings chooser.old).budget → AreWithinBudget (C.given chooser.new) (C.settings chooser.new).budget }
     ensures settings { C.settings chooser.new ≡ C.settings chooser.old }
 {
@@ -64,10 +64,10 @@ fn find_kernel<R: OreRing, C: Chooser>(
     chooser: &mut C,
 ) -> Result<Kernel, Halt>
     requires { All (AllBelong (R.sig ring.now)) r.now.rows }
-    ensures left { IfOk result (IsLeftToForm (R.sig ring.now) C.allows C.allows_spent side (plain r.now) (C.given chooser.old) (C.given chooser.new)) }
+    ensures left { IfOk result (IsLeftToForm (R.sig ring.now) C.allows C.allows_spent side (row_matrix_of r.now) (C.given chooser.old) (C.given chooser.new)) }
     ensures of { IfOk result (λ k. All (AllBelong (R.sig ring.now)) k.generators.rows) }
     ensures run { IfOk result (λ k. HasRun (R.sig ring.now) k.run) }
-    ensures halts { IfErr result (HaltsIn (R.sig ring.now) C.allows C.allows_spent (kernel_course side (R.sig ring.now) (plain r.now)) (C.given chooser.old) (C.given chooser.new) (C.settings chooser.new)) }
+    ensures halts { IfErr result (HaltsIn (R.sig ring.now) C.allows C.allows_spent (kernel_course side (R.sig ring.now) (row_matrix_of r.now)) (C.given chooser.old) (C.given chooser.new) (C.settings chooser.new)) }
     ensures within_budget { AreWithinBudget (C.given chooser.old) (C.settings chooser.old).budget → AreWithinBudget (C.given chooser.new) (C.settings chooser.new).budget }
     ensures settings { C.settings chooser.new ≡ C.settings chooser.old }
 {

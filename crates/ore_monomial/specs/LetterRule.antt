@@ -2,19 +2,24 @@
 -- power of its coordinate, and then its own exponent is raised by one where it stays.
 -- (Ore 1933; for several variables Chyzak and Salvy 1998.)
 --     Operator             a sum of terms over monomials in the plain order
+--     constant             a number as an operator
 --     letter, letter_times      one letter times a monomial, and times an operator
 --     power_times, letters_times    a power of a letter, and letters in declared order, times an operator
 --     monomial_times       a monomial times an operator
 use Rattle.std.specs.Prelude.{ℕ, zero, suc, cond, List, [], ◌∷◌, map}
 use Rattle.ore_algebra.specs.Domain.{Domain}
-use Rattle.ore_algebra.specs.Free.{Free, linear_extension, collect}
-use Rattle.ore_monomial.specs.Monomial.{Monomial, exponent, raise, lower, plain_cmp}
+use Rattle.ore_algebra.specs.Free.{Free, single, linear_extension, collect}
+use Rattle.ore_monomial.specs.Monomial.{Monomial, unit, exponent, raise, lower, plain_cmp}
 use Rattle.ore_monomial.specs.Signature.{Signature, kind_at, coordinate_of}
 use Rattle.ore_monomial.specs.Passing.{passings}
 
 -- an operator is a finite sum of terms, with the plain order among its monomials
 abbrev pub Operator : Domain → Type 0
 Operator K = Free K plain_cmp
+
+-- k times the monomial 1
+abbrev pub constant : (K : Domain) → K.Number → Operator K
+constant K k = single K plain_cmp unit k
 
 module _ (K : Domain) (s : Signature) where
   -- one letter times one monomial: the sum of the terms of its passing

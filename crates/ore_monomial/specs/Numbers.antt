@@ -2,7 +2,7 @@
 --     back             the order of monomials, turned round
 --     falling_over     the terms of an operator over any numbers, the greatest first
 --     numbers          the terms of the product over the whole numbers, by the letter rule
---     AreNonZero       no number of a list of terms is none
+--     AreNonZero       no number of a list of terms is zero
 --     are_within       no number has a magnitude beyond the limit
 --     numbers_within   monomials with whole numbers, where they are within the limit
 use Rattle.std.specs.Prelude.{◌≢◌, Bool, List, [], ◌∷◌, ℤ, pos, nat_abs}

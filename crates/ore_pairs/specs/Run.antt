@@ -3,7 +3,6 @@
 -- (Buchberger 1965; skipped pairs: Buchberger 1979.)
 --     RunState                  the basis, the listed pairs, the syzygies and their origins; each grows at its end
 --     Refusal                   why a choice leads nowhere (Choices of ore_course)
---     constant                  a fraction, as an operator
 --     entry_row                 zeros but for one entry
 --     entries_with              the listed pairs with one more
 --     IsComplete                each pair is listed
@@ -22,12 +21,12 @@ use Rattle.std.specs.declared.option.Option.TheVariants.{None, Some}
 use Rattle.std.specs.declared.result.Result.{Result}
 use Rattle.std.specs.declared.result.Result.TheVariants.{Ok, Err}
 use Rattle.ore_algebra.specs.Domain.{Domain, HasInverses}
-use Rattle.ore_algebra.specs.Free.{empty_sum, single}
+use Rattle.ore_algebra.specs.Free.{empty_sum}
 use Rattle.ore_algebra.specs.Limits.{Cause, ◌>>=◌}
 use Rattle.ore_monomial.specs.Monomial.{unit, plain_cmp}
 use Rattle.ore_monomial.specs.Term.{Term}
 use Rattle.ore_monomial.specs.declared.order.Order.{Order}
-use Rattle.ore_monomial.specs.LetterRule.{Operator}
+use Rattle.ore_monomial.specs.LetterRule.{Operator, constant}
 pub use Rattle.ore_course.specs.Choices.{Refusal, Unlawful, Stopped}
 use Rattle.ore_rows.specs.Rows.{Row, zero_row, unit_row}
 use Rattle.ore_rows.specs.RowLead.{coefficient_at, row_lead}
@@ -51,10 +50,6 @@ pub record RunState (K : Domain) : Type 0 where
   pub origins : List Origin
 
 module _ (K : Domain) where
-  -- k times the monomial 1
-  abbrev pub constant : K.Number → Operator K
-  constant k = single K plain_cmp unit k
-
   -- n zeros but for f at place i
   unfoldable pub entry_row : ℕ → ℕ → Operator K → Row K
   entry_row n i f = map (λ j. cond (nat_eq j i) f (empty_sum K plain_cmp)) (range_with_len 0 n)

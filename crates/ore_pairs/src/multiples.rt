@@ -10,7 +10,7 @@ ghost use Rattle.ore_monomial.specs.declared.stop.RingStop.TheVariants.{Memory};
 ghost use Rattle.ore_ring.specs.Belongs.{AllBelong, Belongs};
 ghost use Rattle.ore_rows.specs.Arithmetic.{within};
 ghost use Rattle.ore_rows.specs.Reduction.{row_at};
-ghost use Rattle.ore_rows.specs.Rows.{Row as Plain};
+ghost use Rattle.ore_rows.specs.Rows.{Row as RowOfSums};
 ghost use Rattle.ore_rows.specs.Stored.{sums_of};
 ghost use Rattle.ore_pairs.specs.Steps.{lead_at, multiples_less, multiplier, lcm_of_leads, s_row_within};
 
@@ -57,7 +57,7 @@ pub fn s_row<R: OreRing>(
     requires width { length row.now ≡ length other.now }
     requires row_of { AllBelong (R.sig ring.now) row.now }
     requires other_of { AllBelong (R.sig ring.now) other.now }
-    ensures gives { (m : List (Plain rationals)) → row_at m i ≡ sums_of row.now → row_at m j ≡ sums_of other.now → Gives sums_of result (s_row_within rationals (within program (R.sig ring.now)) leads.now m i j) }
+    ensures gives { (m : List (RowOfSums rationals)) → row_at m i ≡ sums_of row.now → row_at m j ≡ sums_of other.now → Gives sums_of result (s_row_within rationals (within program (R.sig ring.now)) leads.now m i j) }
     ensures of { IfOk result (AllBelong (R.sig ring.now)) }
     ensures width { IfOk result (λ r. length r ≡ length row.now) }
 {

@@ -29,7 +29,6 @@ use Rattle.ore_expr.specs.declared.instruction.Instruction.{Instruction}
 use Rattle.ore_expr.specs.declared.instruction.Instruction.TheVariants as code
 use Rattle.ore_expr.specs.Tokens.{lexemes_from}
 use Rattle.ore_expr.specs.Parsing.{parse}
-use Rattle.ore_expr.specs.Values.{constant}
 use Rattle.ore_expr.specs.Evaluation.{applied, value_of}
 use Rattle.ore_expr.specs.Reading.{stop_fault}
 use Rattle.ore_rows.specs.Rows.{Row}
@@ -40,6 +39,7 @@ use Rattle.ore_problem.specs.Lines.{split_at, is_comment, words}
 use Rattle.ore_problem.specs.Declarations.{declared_by, declaration_fault, is_count}
 use Rattle.ore_problem.specs.Problems.{System, Read, Frame, fault_at, found_or, fault_or, are_words, order_named, is_matrix, declared_frame, with_declared, sizes_of, is_space, is_row, text_read, value_read, parsed, evaluated, row_entries}
 use Rattle.ore_algebra.specs.Results.{◌>>=◌}
+use Rattle.ore_monomial.specs.LetterRule.{constant}
 use Rattle.ore_problem.proofs.AgainBytes.{Lacks}
 use Rattle.ore_problem.proofs.AcceptedReads.{header, system}
 
@@ -243,12 +243,12 @@ parse_zero names = refl
 
 parsed_zeros : (names : List (List ℕ)) (line n : ℕ) → (ps : List (List Instruction)) × (parsed names line (pieces n) ≡ Ok ps) × ((s : Signature) → (row : Row rationals) × (evaluated s line ps ≡ Ok row))
 unfolding parsed evaluated applied
-parsed_zeros names line zero = (zero_code ∷ [], (λ i. text_read line (parse_zero names i) >>= λ q. Ok (q ∷ [])), λ s. (constant (whole (pos 0)) ∷ [], refl))
+parsed_zeros names line zero = (zero_code ∷ [], (λ i. text_read line (parse_zero names i) >>= λ q. Ok (q ∷ [])), λ s. (constant rationals (whole (pos 0)) ∷ [], refl))
 parsed_zeros names line (suc n) =
     let m = parsed_zeros names line n in (
       zero_code ∷ m.0,
       (λ i. text_read line (parse_zero names i) >>= λ q. m.1 i >>= λ qs. Ok (q ∷ qs)),
-      λ s. let r = m.2 s in (constant (whole (pos 0)) ∷ r.0, ap (λ (x : Read (Row rationals)). x >>= λ fs. Ok (constant (whole (pos 0)) ∷ fs)) r.1),
+      λ s. let r = m.2 s in (constant rationals (whole (pos 0)) ∷ r.0, ap (λ (x : Read (Row rationals)). x >>= λ fs. Ok (constant rationals (whole (pos 0)) ∷ fs)) r.1),
     )
 
 tests_equal : (n m : ℕ) → n ≡ m → nat_eq n m ≡ true

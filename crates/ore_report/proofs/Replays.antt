@@ -4,7 +4,7 @@
 --     fronts_none              no run was begun
 --     fronts_of-given          what it gave, by the numbers of these choices
 --     fronts_begun             a run that begins
---     behind, front_more       the kept choice behind those given of a run
+--     behind, BeginsWith-snoc  the kept choice behind those given of a run
 --     fronts_next              the next kept choice is given
 --     treatment_count-front, fronts_treats     what was given treats no more pairs than what is kept
 --     next_within_budget            so the budget allows the next kept choice
@@ -89,8 +89,8 @@ behind [] [] c e = absurd (let z : ⊥ = cc in z)
 behind [] (d ∷ more) c e = (more, let f : d ≡ c = cc in ap (λ x. x ∷ more) f)
 behind (g ∷ gs) rest c e = behind gs rest c e
 
-front_more : (ks gs : List Choice) (c : Choice) → BeginsWith ks gs → slice_get ks (length gs) ≡ Some c → BeginsWith ks (gs ++ c ∷ [])
-front_more ks gs c h e =
+BeginsWith-snoc : (ks gs : List Choice) (c : Choice) → BeginsWith ks gs → slice_get ks (length gs) ≡ Some c → BeginsWith ks (gs ++ c ∷ [])
+BeginsWith-snoc ks gs c h e =
     let m = behind gs h.0 c (ap (λ xs. slice_get xs (length gs)) (sym h.1) ∙ e) in
     (m.0, h.1 ∙ ap (λ xs. gs ++ xs) m.1 ∙ sym (append_assoc gs (c ∷ []) m.0))
 
@@ -101,7 +101,7 @@ pub fronts_next : (kept given : List (List Choice)) (c : Choice) → AreFronts k
 unfolding AreFronts with_choice present
 fronts_next kept [] c h b e = absurd (b refl)
 fronts_next [] (gs ∷ given) c h b e = absurd (let n = none_kept (length (gs ∷ given) - 1) (length (present (gs ∷ given))) in let z : ⊥ = cc in z)
-fronts_next (ks ∷ kept) (gs ∷ []) c h b e = (front_more ks gs c h.0 e, tt)
+fronts_next (ks ∷ kept) (gs ∷ []) c h b e = (BeginsWith-snoc ks gs c h.0 e, tt)
 fronts_next (ks ∷ kept) (gs ∷ hs ∷ given) c h b e = (h.0, fronts_next kept (hs ∷ given) c h.1 (λ z. cc) (sym (ap (λ m. slice_get (get_or (ks ∷ kept) m []) (length (present (hs ∷ given)))) (shift (length given))) ∙ e))
   where
     shift : (n : ℕ) → suc (suc n) - 1 ≡ suc (suc n - 1)

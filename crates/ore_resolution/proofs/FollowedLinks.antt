@@ -31,7 +31,7 @@ use Rattle.ore_parts.specs.declared.block.Link.{Link}
 use Rattle.ore_cert.specs.EachKind.{IsLength}
 use Rattle.ore_cert.specs.declared.certificate.Certificate.{Certificate}
 use Rattle.ore_cert.specs.declared.certificate.Certificate.TheVariants.{Resolution as Resolved}
-use Rattle.ore_blocks.specs.CheckBlock.{plain}
+use Rattle.ore_blocks.specs.CheckBlock.{row_matrix_of}
 use Rattle.ore_blocks.specs.KernelCourse.{RunCourse, syzygies_of, run_on}
 use Rattle.ore_blocks.proofs.Converted.{wide_rows, rows_are_of}
 use Rattle.ore_groebner.specs.Choosing.{Settings}
@@ -70,17 +70,17 @@ fits_pushed r ks x more pushed last last_is fits =
     (ap (λ (m : OperatorMatrix). m.cols) (last_pushed r ks x) ∙ fits ∙ ap (λ (m : OperatorMatrix). length m.rows) (last_is ∙ sym (before_pushed r ks x)))
 
 module _ (s : Signature) where
-  pub link_is : (a : OperatorMatrix) (f : Finished) (choices : List Choice) (block : ExactBlock) → IsHonestRun s a choices f → IsKernelBlockOf s f block → record { l = f.syzygies; block = block } ≡ link_of s (plain a) (last_of f)
+  pub link_is : (a : OperatorMatrix) (f : Finished) (choices : List Choice) (block : ExactBlock) → IsHonestRun s a choices f → IsKernelBlockOf s f block → record { l = f.syzygies; block = block } ≡ link_of s (row_matrix_of a) (last_of f)
   link_is a f choices block honest shown = λ i. record { l = sym (stored_is s f.syzygies (length (rows_of a)) honest.syzygies_of (syzygies_width s f a choices honest)) i; block = shown a choices honest i }
 
   next_is : (r : OperatorMatrix) (ks : List Link) (st : RunState rationals)
-      → next_link s (resolution_of r ks) st ≡ resolution_of r (ks ++ link_of s (plain (matrix_before r ks (length ks))) st ∷ [])
+      → next_link s (resolution_of r ks) st ≡ resolution_of r (ks ++ link_of s (row_matrix_of (matrix_before r ks (length ks))) st ∷ [])
   next_is r ks st =
-      let link = link_of s (plain (matrix_before r ks (length ks))) st in
+      let link = link_of s (row_matrix_of (matrix_before r ks (length ks))) st in
       λ i. record {
         links = ks ++ link ∷ [];
-        before = plain (sym (before_pushed r ks link) i);
-        last = (sym (stored_back s (syzygies_of (plain (matrix_before r ks (length ks))) st)) ∙ ap plain (sym (last_pushed r ks link))) i;
+        before = row_matrix_of (sym (before_pushed r ks link) i);
+        last = (sym (stored_back s (syzygies_of (row_matrix_of (matrix_before r ks (length ks))) st)) ∙ ap row_matrix_of (sym (last_pushed r ks link))) i;
       }
 
   module _ (allows : BasisLeads → List (ℕ × ℕ) → Choice → Bool) (allows_spent : BasisLeads → List (ℕ × ℕ) → Bool) where
@@ -92,7 +92,7 @@ module _ (s : Signature) where
 
     module _ (r : OperatorMatrix) (n : ℕ) (before : List (List Choice)) where
       abbrev course : RunCourse Resolution
-      course = resolution program s n (plain r)
+      course = resolution program s n (row_matrix_of r)
 
       at_first : Follows runner rule course before before (links program s n (resolution_of r []))
       unfolding matrix_before
@@ -113,62 +113,62 @@ module _ (s : Signature) where
         abbrev more : RunState rationals → RunCourse Resolution
         more st = links program s (n - (k + 1)) (next_link s (resolution_of r ks) st)
 
-        taken : Follows runner rule course before mid (run_on program s (plain (matrix_before r ks (length ks))) >>= more)
+        taken : Follows runner rule course before mid (run_on program s (row_matrix_of (matrix_before r ks (length ks))) >>= more)
         unfolding links
         taken = subst (λ m. Follows runner rule course before mid (links program s m (resolution_of r ks))) (let one : n - k ≡ suc (n - (k + 1)) = omega (arith, less) in one) led
 
-        taken_last : Follows runner rule course before mid (run_on program s (plain last) >>= more)
-        taken_last = subst (λ (m : OperatorMatrix). Follows runner rule course before mid (run_on program s (plain m) >>= more)) (sym last_is) taken
+        taken_last : Follows runner rule course before mid (run_on program s (row_matrix_of last) >>= more)
+        taken_last = subst (λ (m : OperatorMatrix). Follows runner rule course before mid (run_on program s (row_matrix_of m) >>= more)) (sym last_is) taken
 
-        pub link_halts : (given : List (List Choice)) (settings : Settings) (halt : Halt) → HaltsIn s allows allows_spent (run_on program s (plain last)) mid given settings halt → HaltsIn s allows allows_spent course before given settings halt
-        link_halts given settings halt h = call_halts s allows allows_spent given settings (run_on program s (plain last)) more halt h taken_last
+        pub link_halts : (given : List (List Choice)) (settings : Settings) (halt : Halt) → HaltsIn s allows allows_spent (run_on program s (row_matrix_of last)) mid given settings halt → HaltsIn s allows allows_spent course before given settings halt
+        link_halts given settings halt h = call_halts s allows allows_spent given settings (run_on program s (row_matrix_of last)) more halt h taken_last
 
-        pub link_found : (given : List (List Choice)) (x : Link) → IsNextLink s allows allows_spent (plain last) mid given x → (more_links : List Link) → more_links ≡ ks ++ x ∷ []
+        pub link_found : (given : List (List Choice)) (x : Link) → IsNextLink s allows allows_spent (row_matrix_of last) mid given x → (more_links : List Link) → more_links ≡ ks ++ x ∷ []
             → Follows runner rule course before given (links program s (n - (k + 1)) (resolution_of r more_links))
         link_found given x (st, h, same) more_links pushed =
-            let is : x ≡ link_of s (plain (matrix_before r ks (length ks))) st = same ∙ ap (λ (m : OperatorMatrix). link_of s (plain m) st) last_is in
+            let is : x ≡ link_of s (row_matrix_of (matrix_before r ks (length ks))) st = same ∙ ap (λ (m : OperatorMatrix). link_of s (row_matrix_of m) st) last_is in
             subst (λ (y : Resolution). Follows runner rule course before given (links program s (n - (k + 1)) y))
-            (next_is r ks st ∙ ap (λ (y : Link). resolution_of r (ks ++ y ∷ [])) (sym is) ∙ ap (resolution_of r) (sym pushed)) (called runner rule (run_on program s (plain last)) st more h taken_last)
+            (next_is r ks st ∙ ap (λ (y : Link). resolution_of r (ks ++ y ∷ [])) (sym is) ∙ ap (resolution_of r) (sym pushed)) (called runner rule (run_on program s (row_matrix_of last)) st more h taken_last)
 
     -- ---- the plans
 
     module _ (r : OperatorMatrix) (n : ℕ) (before : List (List Choice)) where
       abbrev behind_resolve : Resolution → RunCourse Certificate
-      behind_resolve x = certified program s (plain r) (Resolved x.links) tt
+      behind_resolve x = certified program s (row_matrix_of r) (Resolved x.links) tt
 
-      resolve_begun : Follows runner rule (resolve program s n (plain r)) before before (resolution program s n (plain r) >>= behind_resolve)
+      resolve_begun : Follows runner rule (resolve program s n (row_matrix_of r)) before before (resolution program s n (row_matrix_of r) >>= behind_resolve)
       unfolding resolve
-      resolve_begun = started runner rule (resolve program s n (plain r)) before
+      resolve_begun = started runner rule (resolve program s n (row_matrix_of r)) before
 
-      pub resolve_halts : (given : List (List Choice)) (settings : Settings) (halt : Halt) → HaltsIn s allows allows_spent (resolution program s n (plain r)) before given settings halt → HaltsIn s allows allows_spent (resolve program s n (plain r)) before given settings halt
-      resolve_halts given settings halt h = call_halts s allows allows_spent given settings (resolution program s n (plain r)) behind_resolve halt h resolve_begun
+      pub resolve_halts : (given : List (List Choice)) (settings : Settings) (halt : Halt) → HaltsIn s allows allows_spent (resolution program s n (row_matrix_of r)) before given settings halt → HaltsIn s allows allows_spent (resolve program s n (row_matrix_of r)) before given settings halt
+      resolve_halts given settings halt h = call_halts s allows allows_spent given settings (resolution program s n (row_matrix_of r)) behind_resolve halt h resolve_begun
 
-      pub resolve_found : (given : List (List Choice)) (x : Resolution) → FollowsTo s allows allows_spent (resolution program s n (plain r)) before given x
-          → Follows runner rule (resolve program s n (plain r)) before given (certified program s (plain r) (Resolved x.links) tt)
-      resolve_found given x h = called runner rule (resolution program s n (plain r)) x behind_resolve h resolve_begun
+      pub resolve_found : (given : List (List Choice)) (x : Resolution) → FollowsTo s allows allows_spent (resolution program s n (row_matrix_of r)) before given x
+          → Follows runner rule (resolve program s n (row_matrix_of r)) before given (certified program s (row_matrix_of r) (Resolved x.links) tt)
+      resolve_found given x h = called runner rule (resolution program s n (row_matrix_of r)) x behind_resolve h resolve_begun
 
-      ext_begun : Follows runner rule (ext program s n (plain r)) before before (resolution program s n (plain r) >>= extension program s (plain r))
+      ext_begun : Follows runner rule (ext program s n (row_matrix_of r)) before before (resolution program s n (row_matrix_of r) >>= extension program s (row_matrix_of r))
       unfolding ext
-      ext_begun = started runner rule (ext program s n (plain r)) before
+      ext_begun = started runner rule (ext program s n (row_matrix_of r)) before
 
-      pub ext_links_halt : (given : List (List Choice)) (settings : Settings) (halt : Halt) → HaltsIn s allows allows_spent (resolution program s n (plain r)) before given settings halt → HaltsIn s allows allows_spent (ext program s n (plain r)) before given settings halt
-      ext_links_halt given settings halt h = call_halts s allows allows_spent given settings (resolution program s n (plain r)) (extension program s (plain r)) halt h ext_begun
+      pub ext_links_halt : (given : List (List Choice)) (settings : Settings) (halt : Halt) → HaltsIn s allows allows_spent (resolution program s n (row_matrix_of r)) before given settings halt → HaltsIn s allows allows_spent (ext program s n (row_matrix_of r)) before given settings halt
+      ext_links_halt given settings halt h = call_halts s allows allows_spent given settings (resolution program s n (row_matrix_of r)) (extension program s (row_matrix_of r)) halt h ext_begun
 
-      module _ (mid : List (List Choice)) (x : Resolution) (h : FollowsTo s allows allows_spent (resolution program s n (plain r)) before mid x) where
-        ext_found : Follows runner rule (ext program s n (plain r)) before mid (extension program s (plain r) x)
-        ext_found = called runner rule (resolution program s n (plain r)) x (extension program s (plain r)) h ext_begun
+      module _ (mid : List (List Choice)) (x : Resolution) (h : FollowsTo s allows allows_spent (resolution program s n (row_matrix_of r)) before mid x) where
+        ext_found : Follows runner rule (ext program s n (row_matrix_of r)) before mid (extension program s (row_matrix_of r) x)
+        ext_found = called runner rule (resolution program s n (row_matrix_of r)) x (extension program s (row_matrix_of r)) h ext_begun
 
-        pub ext_halts : (given : List (List Choice)) (settings : Settings) (halt : Halt) → HaltsIn s allows allows_spent (extension program s (plain r) x) mid given settings halt → HaltsIn s allows allows_spent (ext program s n (plain r)) before given settings halt
-        ext_halts given settings halt k = call_halts_last s allows allows_spent given settings (extension program s (plain r) x) halt k ext_found
+        pub ext_halts : (given : List (List Choice)) (settings : Settings) (halt : Halt) → HaltsIn s allows allows_spent (extension program s (row_matrix_of r) x) mid given settings halt → HaltsIn s allows allows_spent (ext program s n (row_matrix_of r)) before given settings halt
+        ext_halts given settings halt k = call_halts_last s allows allows_spent given settings (extension program s (row_matrix_of r) x) halt k ext_found
 
-        pub ext_answered : (given : List (List Choice)) (c : Certificate) → FollowsTo s allows allows_spent (extension program s (plain r) x) mid given c → FollowsTo s allows allows_spent (ext program s n (plain r)) before given c
-        ext_answered given c k = called_last runner rule (extension program s (plain r) x) c k ext_found
+        pub ext_answered : (given : List (List Choice)) (c : Certificate) → FollowsTo s allows allows_spent (extension program s (row_matrix_of r) x) mid given c → FollowsTo s allows allows_spent (ext program s n (row_matrix_of r)) before given c
+        ext_answered given c k = called_last runner rule (extension program s (row_matrix_of r) x) c k ext_found
 
       -- ---- what they form
 
       module _ (few : IsLength n) (of : MatrixOf s r) (given : List (List Choice)) (c : Certificate) where
-        pub resolved_right : FollowsTo s allows allows_spent (resolve program s n (plain r)) before given c → IsCorrect s (plain r) c
-        resolved_right h = resolve_right s n few (plain r) (wide_rows s r of) (rows_are_of s r of) h.added c h.leads
+        pub resolved_right : FollowsTo s allows allows_spent (resolve program s n (row_matrix_of r)) before given c → IsCorrect s (row_matrix_of r) c
+        resolved_right h = resolve_right s n few (row_matrix_of r) (wide_rows s r of) (rows_are_of s r of) h.added c h.leads
 
-        pub extended_right : FollowsTo s allows allows_spent (ext program s n (plain r)) before given c → IsCorrect s (plain r) c
-        extended_right h = ext_right s n few (plain r) (wide_rows s r of) (rows_are_of s r of) h.added c h.leads
+        pub extended_right : FollowsTo s allows allows_spent (ext program s n (row_matrix_of r)) before given c → IsCorrect s (row_matrix_of r) c
+        extended_right h = ext_right s n few (row_matrix_of r) (wide_rows s r of) (rows_are_of s r of) h.added c h.leads

@@ -2,7 +2,7 @@
 --     resolution_of      the resolution that links of a matrix are: the last two matrices stand before and in the last link
 --     link_of            the link that the last state of a run makes
 --     IsNextLink         the choices given since lead a run to the state that makes this link
---     adjoint_course     a run on the transposed adjoint of a matrix
+--     run_on_adjoint     a run on the transposed adjoint of a matrix
 --     IsResolutionOf     a certificate with so many links
 --     IsExtensionOf      a certificate of the extension module at this place
 use Rattle.std.specs.Prelude.{◌≡◌, ℕ, ◌-◌, Bool, List, length}
@@ -17,7 +17,7 @@ use Rattle.ore_pairs.specs.Run.{RunState}
 use Rattle.ore_parts.specs.declared.block.Link.{Link}
 use Rattle.ore_cert.specs.declared.certificate.Certificate.{Certificate}
 use Rattle.ore_cert.specs.declared.certificate.Certificate.TheVariants.{Resolution as Resolved, ExtZero, ExtNonzero}
-use Rattle.ore_blocks.specs.CheckBlock.{RowMatrix, plain}
+use Rattle.ore_blocks.specs.CheckBlock.{RowMatrix, row_matrix_of}
 use Rattle.ore_blocks.specs.KernelCourse.{RunCourse, syzygies_of, kernel_block, run_on, transposed_adjoint_within}
 use Rattle.ore_groebner.specs.Courses.{FollowsTo}
 use Rattle.ore_check.specs.InnerContracts.{matrix_before}
@@ -25,7 +25,7 @@ use Rattle.ore_check.specs.Plans.{Resolution, stored}
 
 -- of the matrix r
 abbrev pub resolution_of : OperatorMatrix → List Link → Resolution
-resolution_of r ks = record { links = ks; before = plain (matrix_before r ks (length ks - 1)); last = plain (matrix_before r ks (length ks)) }
+resolution_of r ks = record { links = ks; before = row_matrix_of (matrix_before r ks (length ks - 1)); last = row_matrix_of (matrix_before r ks (length ks)) }
 
 -- it has so many links
 abbrev pub IsResolutionOf : ℕ → Certificate → Type 0
@@ -48,8 +48,8 @@ module _ (s : Signature) where
   IsNextLink allows allows_spent a before given k = (st : RunState rationals) × FollowsTo s allows allows_spent (run_on program s a) before given st × (k ≡ link_of a st)
 
   -- a run on the transposed adjoint of a matrix, and its last state
-  unfoldable pub adjoint_course : RowMatrix → RunCourse (RowMatrix × RunState rationals)
-  adjoint_course m = do
+  unfoldable pub run_on_adjoint : RowMatrix → RunCourse (RowMatrix × RunState rationals)
+  run_on_adjoint m = do
     adjoint ← forced (transposed_adjoint_within program s m)
     last ← run_on program s adjoint
     Done (adjoint, last)

@@ -8,14 +8,14 @@ ghost use Rattle.ore_ring.specs.Belongs.{AllBelong};
 ghost use Rattle.ore_pairs.specs.Reached.{rule_of};
 ghost use Rattle.ore_pairs.specs.Runner.{runner_within};
 ghost use Rattle.ore_cert.specs.CertificateOf.{AreLinksOf};
-ghost use Rattle.ore_blocks.specs.CheckBlock.{plain};
+ghost use Rattle.ore_blocks.specs.CheckBlock.{row_matrix_of};
 ghost use Rattle.ore_groebner.specs.Choosing.{AreWithinBudget};
 ghost use Rattle.ore_groebner.specs.Courses.{last_of, FollowsTo, HaltsIn};
 ghost use Rattle.ore_check.specs.InnerContracts.{matrix_before};
 ghost use Rattle.ore_check.specs.Plans.{extension, extension_ends};
 ghost use Rattle.ore_inverse.specs.Runs.{IsRunOn};
 ghost use Rattle.ore_inverse.specs.StoredReductions.{reductions_of, AreReducedSyzygies};
-ghost use Rattle.ore_resolution.specs.Stored.{adjoint_course, resolution_of};
+ghost use Rattle.ore_resolution.specs.Stored.{run_on_adjoint, resolution_of};
 
 use ore_adjoint::transpose_adjoint;
 use ore_cert::Links;
@@ -59,8 +59,8 @@ pub(crate) fn reduce_elements<R: OreRing, C: Chooser>(
     ensures before { IfOk result (λ x. IsRunOn (R.sig ring.now) x.before.adjoint x.before.run) }
     ensures reduced { IfOk result (λ x. AreReducedSyzygies (R.sig ring.now) x.before.adjoint x.before.run x.last.run x.reductions) }
     // The certificate is left to form.
-    ensures left { IfOk result (λ x. Follows (runner_within program (R.sig ring.now)) (rule_of (R.sig ring.now) C.allows C.allows_spent) (extension program (R.sig ring.now) (plain r.now) (resolution_of r.now links.now)) (C.given chooser.old) (C.given chooser.new) (extension_ends program (R.sig ring.now) (plain r.now) (resolution_of r.now links.now) (plain x.last.adjoint) (last_of x.last.run) (plain x.before.adjoint) (last_of x.before.run) (reductions_of x.reductions))) }
-    ensures halts { IfErr result (HaltsIn (R.sig ring.now) C.allows C.allows_spent (extension program (R.sig ring.now) (plain r.now) (resolution_of r.now links.now)) (C.given chooser.old) (C.given chooser.new) (C.settings chooser.new)) }
+    ensures left { IfOk result (λ x. Follows (runner_within program (R.sig ring.now)) (rule_of (R.sig ring.now) C.allows C.allows_spent) (extension program (R.sig ring.now) (row_matrix_of r.now) (resolution_of r.now links.now)) (C.given chooser.old) (C.given chooser.new) (extension_ends program (R.sig ring.now) (row_matrix_of r.now) (resolution_of r.now links.now) (row_matrix_of x.last.adjoint) (last_of x.last.run) (row_matrix_of x.before.adjoint) (last_of x.before.run) (reductions_of x.reductions))) }
+    ensures halts { IfErr result (HaltsIn (R.sig ring.now) C.allows C.allows_spent (extension program (R.sig ring.now) (row_matrix_of r.now) (resolution_of r.now links.now)) (C.given chooser.old) (C.given chooser.new) (C.settings chooser.new)) }
     ensures within_budget { AreWithinBudget (C.given chooser.old) (C.settings chooser.old).budget → AreWithinBudget (C.given chooser.new) (C.settings chooser.new).budget }
     ensures settings { C.settings chooser.new ≡ C.settings chooser.old }
 {
@@ -90,8 +90,8 @@ fn run_on_adjoint<R: OreRing, C: Chooser>(
     ensures run { IfOk result (λ x. IsRunOn (R.sig ring.now) x.adjoint x.run) }
     ensures cols { IfOk result (λ x. x.adjoint.cols ≡ length (matrix_before r.now links.now k).rows) }
     ensures count { IfOk result (λ x. length x.adjoint.rows ≡ (matrix_before r.now links.now k).cols) }
-    ensures answered { IfOk result (λ x. FollowsTo (R.sig ring.now) C.allows C.allows_spent (adjoint_course (R.sig ring.now) (plain (matrix_before r.now links.now k))) (C.given chooser.old) (C.given chooser.new) (plain x.adjoint, last_of x.run)) }
-    ensures halts { IfErr result (HaltsIn (R.sig ring.now) C.allows C.allows_spent (adjoint_course (R.sig ring.now) (plain (matrix_before r.now links.now k))) (C.given chooser.old) (C.given chooser.new) (C.settings chooser.new)) }
+    ensures answered { IfOk result (λ x. FollowsTo (R.sig ring.now) C.allows C.allows_spent (run_on_adjoint (R.sig ring.now) (row_matrix_of (matrix_before r.now links.now k))) (C.given chooser.old) (C.given chooser.new) (row_matrix_of x.adjoint, last_of x.run)) }
+    ensures halts { IfErr result (HaltsIn (R.sig ring.now) C.allows C.allows_spent (run_on_adjoint (R.sig ring.now) (row_matrix_of (matrix_before r.now links.now k))) (C.given chooser.old) (C.given chooser.new) (C.settings chooser.new)) }
     ensures within_budget { AreWithinBudget (C.given chooser.old) (C.settings chooser.old).budget → AreWithinBudget (C.given chooser.new) (C.settings chooser.new).budget }
     ensures settings { C.settings chooser.new ≡ C.settings chooser.old }
 {

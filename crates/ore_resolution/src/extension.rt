@@ -6,7 +6,7 @@ ghost use Rattle.ore_algebra.specs.Limits.{program};
 ghost use Rattle.ore_ring.specs.Belongs.{AllBelong};
 ghost use Rattle.ore_cert.specs.CertificateOf.{AreLinksOf};
 ghost use Rattle.ore_cert.specs.EachKind.{IsLength};
-ghost use Rattle.ore_blocks.specs.CheckBlock.{plain};
+ghost use Rattle.ore_blocks.specs.CheckBlock.{row_matrix_of};
 ghost use Rattle.ore_groebner.specs.Choosing.{AreWithinBudget};
 ghost use Rattle.ore_groebner.specs.Courses.{FollowsTo, HaltsIn};
 ghost use Rattle.ore_check.specs.InnerContracts.{matrix_before};
@@ -45,11 +45,11 @@ pub fn ext<R: OreRing, C: Chooser>(
     requires of { All (AllBelong (R.sig ring.now)) r.now.rows }
     requires place { IsLength place }
     // It is true, and the check accepts it.
-    ensures correct { IfOk result (IsCorrect (R.sig ring.now) (plain r.now)) }
+    ensures correct { IfOk result (IsCorrect (R.sig ring.now) (row_matrix_of r.now)) }
     ensures kind { IfOk result (IsExtensionOf place) }
     // The plan forms it by the choices given, or halts so.
-    ensures answered { IfOk result (FollowsTo (R.sig ring.now) C.allows C.allows_spent (ext program (R.sig ring.now) place (plain r.now)) (C.given chooser.old) (C.given chooser.new)) }
-    ensures halts { IfErr result (HaltsIn (R.sig ring.now) C.allows C.allows_spent (ext program (R.sig ring.now) place (plain r.now)) (C.given chooser.old) (C.given chooser.new) (C.settings chooser.new)) }
+    ensures answered { IfOk result (FollowsTo (R.sig ring.now) C.allows C.allows_spent (ext program (R.sig ring.now) place (row_matrix_of r.now)) (C.given chooser.old) (C.given chooser.new)) }
+    ensures halts { IfErr result (HaltsIn (R.sig ring.now) C.allows C.allows_spent (ext program (R.sig ring.now) place (row_matrix_of r.now)) (C.given chooser.old) (C.given chooser.new) (C.settings chooser.new)) }
     ensures within_budget { AreWithinBudget (C.given chooser.old) (C.settings chooser.old).budget → AreWithinBudget (C.given chooser.new) (C.settings chooser.new).budget }
     ensures settings { C.settings chooser.new ≡ C.settings chooser.old }
 {
@@ -70,8 +70,8 @@ fn behind_links<R: OreRing, C: Chooser>(
     requires links_of { AreLinksOf (R.sig ring.now) links }
     requires fits { (matrix_before r.now links (length links)).cols ≡ length (matrix_before r.now links (length links - 1)).rows }
     ensures kind { IfOk result (IsExtensionOf (length links)) }
-    ensures answered { IfOk result (FollowsTo (R.sig ring.now) C.allows C.allows_spent (extension program (R.sig ring.now) (plain r.now) (resolution_of r.now links)) (C.given chooser.old) (C.given chooser.new)) }
-    ensures halts { IfErr result (HaltsIn (R.sig ring.now) C.allows C.allows_spent (extension program (R.sig ring.now) (plain r.now) (resolution_of r.now links)) (C.given chooser.old) (C.given chooser.new) (C.settings chooser.new)) }
+    ensures answered { IfOk result (FollowsTo (R.sig ring.now) C.allows C.allows_spent (extension program (R.sig ring.now) (row_matrix_of r.now) (resolution_of r.now links)) (C.given chooser.old) (C.given chooser.new)) }
+    ensures halts { IfErr result (HaltsIn (R.sig ring.now) C.allows C.allows_spent (extension program (R.sig ring.now) (row_matrix_of r.now) (resolution_of r.now links)) (C.given chooser.old) (C.given chooser.new) (C.settings chooser.new)) }
     ensures within_budget { AreWithinBudget (C.given chooser.old) (C.settings chooser.old).budget → AreWithinBudget (C.given chooser.new) (C.settings chooser.new).budget }
     ensures settings { C.settings chooser.new ≡ C.settings chooser.old }
 {

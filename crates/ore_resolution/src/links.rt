@@ -5,7 +5,7 @@ ghost use Rattle.std.specs.List.{All};
 ghost use Rattle.ore_algebra.specs.Limits.{program};
 ghost use Rattle.ore_ring.specs.Belongs.{AllBelong};
 ghost use Rattle.ore_parts.specs.OfSignature.{IsLinkOf};
-ghost use Rattle.ore_blocks.specs.CheckBlock.{plain};
+ghost use Rattle.ore_blocks.specs.CheckBlock.{row_matrix_of};
 ghost use Rattle.ore_blocks.specs.KernelCourse.{run_on};
 ghost use Rattle.ore_groebner.specs.Choosing.{AreWithinBudget};
 ghost use Rattle.ore_groebner.specs.Courses.{FollowsTo, HaltsIn};
@@ -36,8 +36,8 @@ pub fn find_links<R: OreRing, C: Chooser>(
     ensures of { IfOk result (All (IsLinkOf (R.sig ring.now))) }
     ensures many { IfOk result (λ ks. length ks ≡ count) }
     ensures fits { IfOk result (λ ks. 1 ≤ length ks → (matrix_before r.now ks (length ks)).cols ≡ length (matrix_before r.now ks (length ks - 1)).rows) }
-    ensures answered { IfOk result (λ ks. FollowsTo (R.sig ring.now) C.allows C.allows_spent (resolution program (R.sig ring.now) count (plain r.now)) (C.given chooser.old) (C.given chooser.new) (resolution_of r.now ks)) }
-    ensures halts { IfErr result (HaltsIn (R.sig ring.now) C.allows C.allows_spent (resolution program (R.sig ring.now) count (plain r.now)) (C.given chooser.old) (C.given chooser.new) (C.settings chooser.new)) }
+    ensures answered { IfOk result (λ ks. FollowsTo (R.sig ring.now) C.allows C.allows_spent (resolution program (R.sig ring.now) count (row_matrix_of r.now)) (C.given chooser.old) (C.given chooser.new) (resolution_of r.now ks)) }
+    ensures halts { IfErr result (HaltsIn (R.sig ring.now) C.allows C.allows_spent (resolution program (R.sig ring.now) count (row_matrix_of r.now)) (C.given chooser.old) (C.given chooser.new) (C.settings chooser.new)) }
     ensures within_budget { AreWithinBudget (C.given chooser.old) (C.settings chooser.old).budget → AreWithinBudget (C.given chooser.new) (C.settings chooser.new).budget }
     ensures settings { C.settings chooser.new ≡ C.settings chooser.old }
 {
@@ -61,8 +61,8 @@ fn next_link<R: OreRing, C: Chooser>(
     requires { All (AllBelong (R.sig ring.now)) last.now.rows }
     ensures of { IfOk result (IsLinkOf (R.sig ring.now)) }
     ensures fits { IfOk result (λ k. k.l.cols ≡ length last.now.rows) }
-    ensures answered { IfOk result (IsNextLink (R.sig ring.now) C.allows C.allows_spent (plain last.now) (C.given chooser.old) (C.given chooser.new)) }
-    ensures halts { IfErr result (HaltsIn (R.sig ring.now) C.allows C.allows_spent (run_on program (R.sig ring.now) (plain last.now)) (C.given chooser.old) (C.given chooser.new) (C.settings chooser.new)) }
+    ensures answered { IfOk result (IsNextLink (R.sig ring.now) C.allows C.allows_spent (row_matrix_of last.now) (C.given chooser.old) (C.given chooser.new)) }
+    ensures halts { IfErr result (HaltsIn (R.sig ring.now) C.allows C.allows_spent (run_on program (R.sig ring.now) (row_matrix_of last.now)) (C.given chooser.old) (C.given chooser.new) (C.settings chooser.new)) }
     ensures within_budget { AreWithinBudget (C.given chooser.old) (C.settings chooser.old).budget → AreWithinBudget (C.given chooser.new) (C.settings chooser.new).budget }
     ensures settings { C.settings chooser.new ≡ C.settings chooser.old }
 {

@@ -5,7 +5,7 @@ ghost use Rattle.std.specs.List.{All};
 ghost use Rattle.ore_algebra.specs.Limits.{program};
 ghost use Rattle.ore_ring.specs.Belongs.{AllBelong};
 ghost use Rattle.ore_cert.specs.EachKind.{IsLength};
-ghost use Rattle.ore_blocks.specs.CheckBlock.{plain};
+ghost use Rattle.ore_blocks.specs.CheckBlock.{row_matrix_of};
 ghost use Rattle.ore_groebner.specs.Choosing.{AreWithinBudget};
 ghost use Rattle.ore_groebner.specs.Courses.{FollowsTo, HaltsIn};
 ghost use Rattle.ore_check.specs.PlanLaws.{IsCorrect};
@@ -38,11 +38,11 @@ pub fn resolve<R: OreRing, C: Chooser>(
     requires of { All (AllBelong (R.sig ring.now)) r.now.rows }
     requires count { IsLength count }
     // It is true, and the check accepts it.
-    ensures correct { IfOk result (IsCorrect (R.sig ring.now) (plain r.now)) }
+    ensures correct { IfOk result (IsCorrect (R.sig ring.now) (row_matrix_of r.now)) }
     ensures kind { IfOk result (IsResolutionOf count) }
     // The plan forms it by the choices given, or halts so.
-    ensures answered { IfOk result (FollowsTo (R.sig ring.now) C.allows C.allows_spent (resolve program (R.sig ring.now) count (plain r.now)) (C.given chooser.old) (C.given chooser.new)) }
-    ensures halts { IfErr result (HaltsIn (R.sig ring.now) C.allows C.allows_spent (resolve program (R.sig ring.now) count (plain r.now)) (C.given chooser.old) (C.given chooser.new) (C.settings chooser.new)) }
+    ensures answered { IfOk result (FollowsTo (R.sig ring.now) C.allows C.allows_spent (resolve program (R.sig ring.now) count (row_matrix_of r.now)) (C.given chooser.old) (C.given chooser.new)) }
+    ensures halts { IfErr result (HaltsIn (R.sig ring.now) C.allows C.allows_spent (resolve program (R.sig ring.now) count (row_matrix_of r.now)) (C.given chooser.old) (C.given chooser.new) (C.settings chooser.new)) }
     ensures within_budget { AreWithinBudget (C.given chooser.old) (C.settings chooser.old).budget → AreWithinBudget (C.given chooser.new) (C.settings chooser.new).budget }
     ensures settings { C.settings chooser.new ≡ C.settings chooser.old }
 {

@@ -20,8 +20,8 @@ use Rattle.ore_monomial.specs.declared.order.Order.{Order}
 use Rattle.ore_monomial.specs.LetterRule.{Operator}
 use Rattle.ore_monomial.proofs.Monomials.{plain_cmp_total, plain_cmp_apart, same_key, own_key}
 use Rattle.ore_monomial.proofs.Operators
-use Rattle.ore_ring.specs.Terms.{Summand, Terms, falling, AreApart, IsFalling}
-use Rattle.ore_monomial.specs.Numbers.{back, falling_over}
+use Rattle.ore_ring.specs.Terms.{Summand, Terms, falling, IsFalling}
+use Rattle.ore_monomial.specs.Numbers.{back, falling_over, AreNonZero}
 use Rattle.ore_monomial.proofs.FallingTerms.{eq_either, back_order, back_apart}
 use Rattle.ore_ring.proofs.Falls.{first, second, less_of, left_true, right_true}
 
@@ -65,7 +65,7 @@ sorted-shown : (R : Monomial → Monomial → Ordering) (es : List (Monomial × 
 sorted-shown R [] = refl
 sorted-shown R (e ∷ es) = λ i. below-shown R e.0 es i && sorted-shown R es i
 
-apart-shown : (es : List (Monomial × NonZero rationals)) → AreApart (shown es)
+apart-shown : (es : List (Monomial × NonZero rationals)) → AreNonZero rationals (shown es)
 apart-shown [] = tt
 apart-shown (e ∷ es) = (e.1.apart, apart-shown es)
 
@@ -73,7 +73,7 @@ pub sorted-terms : (R : Monomial → Monomial → Ordering) (f : Free rationals 
 unfolding terms
 sorted-terms R f = subst T (sym (sorted-shown R (entries f))) (entries_sorted f)
 
-pub apart-terms : (R : Monomial → Monomial → Ordering) (f : Free rationals R) → AreApart (terms rationals R f)
+pub apart-terms : (R : Monomial → Monomial → Ordering) (f : Free rationals R) → AreNonZero rationals (terms rationals R f)
 unfolding terms
 apart-terms R f = apart-shown (entries f)
 
@@ -104,7 +104,7 @@ module _ (test : Summand → Bool) where
           let skip : at q (t ∷ ts) ≡ at q ts = at_skip q t ts f in
           ap (λ x. test (q, x)) skip ∙ ih (λ z. n (skip ∙ z))
 
-  pub all_of_passes : (ts : Terms) → AreDistinct ts → AreApart ts → PassesAt ts → list_all test ts ≡ true
+  pub all_of_passes : (ts : Terms) → AreDistinct ts → AreNonZero rationals ts → PassesAt ts → list_all test ts ≡ true
   all_of_passes [] d a h = refl
   all_of_passes (t ∷ ts) d a h = λ i. head i && all_of_passes ts d.1 a.1 (λ q n. rest (eq_by_cmp plain_cmp q t.0) q refl n) i
     where
@@ -123,7 +123,7 @@ module _ (test : Summand → Bool) where
   passes_like : (ts us : Terms) → ((q : Monomial) → at q ts ≡ at q us) → PassesAt ts → PassesAt us
   passes_like ts us e h q n = ap (λ x. test (q, x)) (sym (e q)) ∙ h q (λ z. n (sym (e q) ∙ z))
 
-  pub all_same : (ts us : Terms) → AreDistinct ts → AreApart ts → AreDistinct us → AreApart us → ((q : Monomial) → sum_at rationals plain_cmp q ts ≡ sum_at rationals plain_cmp q us) → list_all test ts ≡ list_all test us
+  pub all_same : (ts us : Terms) → AreDistinct ts → AreNonZero rationals ts → AreDistinct us → AreNonZero rationals us → ((q : Monomial) → sum_at rationals plain_cmp q ts ≡ sum_at rationals plain_cmp q us) → list_all test ts ≡ list_all test us
   all_same ts us d a c b e = by (list_all test ts) refl (list_all test us) refl
     where
       by : (x : Bool) → list_all test ts ≡ x → (y : Bool) → list_all test us ≡ y → x ≡ y

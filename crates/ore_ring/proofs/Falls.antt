@@ -17,8 +17,8 @@ use Rattle.ore_monomial.specs.declared.order.Order.{Order}
 use Rattle.ore_algebra.specs.Free.{empty_sum, single}
 use Rattle.ore_monomial.proofs.Monomials.{order_total}
 use Rattle.ore_rational.specs.Field.{rationals}
-use Rattle.ore_ring.specs.Terms.{Summand, Terms, falling, AreApart, IsFalling, IsBelowLast}
-use Rattle.ore_monomial.specs.Numbers.{back}
+use Rattle.ore_ring.specs.Terms.{Summand, Terms, falling, IsFalling, IsBelowLast}
+use Rattle.ore_monomial.specs.Numbers.{back, AreNonZero}
 use Rattle.ore_ring.proofs.TermLaws.{falling-collect}
 
 pub both : (a b : Bool) → T a → T b → T (a && b)
@@ -73,7 +73,7 @@ sorted_snoc o [] t h b = tt
 sorted_snoc o (u ∷ []) t h b = both _ _ (both _ _ (of_less _ b) tt) tt
 sorted_snoc o (u ∷ v ∷ ts) t h b = both _ _ (below_snoc o u.0 (v ∷ ts) t (first _ _ h) (last_below o u (v ∷ ts) t.0 h b)) (sorted_snoc o (v ∷ ts) t (second _ _ h) b)
 
-apart_snoc : (ts : Terms) (t : Summand) → AreApart ts → t.1 ≢ whole (pos 0) → AreApart (ts ++ t ∷ [])
+apart_snoc : (ts : Terms) (t : Summand) → AreNonZero rationals ts → t.1 ≢ whole (pos 0) → AreNonZero rationals (ts ++ t ∷ [])
 apart_snoc [] t h n = (n, tt)
 apart_snoc (u ∷ ts) t h n = (h.0, apart_snoc ts t h.1 n)
 

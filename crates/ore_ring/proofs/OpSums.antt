@@ -18,8 +18,8 @@ use Rattle.ore_monomial.specs.declared.order.Order.{Order}
 use Rattle.ore_monomial.specs.Signature.{Signature}
 use Rattle.ore_monomial.specs.LetterRule.{Operator}
 use Rattle.ore_monomial.proofs.Operators
-use Rattle.ore_ring.specs.Terms.{Terms, falling, IsFalling, AreApart}
-use Rattle.ore_monomial.specs.Numbers.{back}
+use Rattle.ore_ring.specs.Terms.{Terms, falling, IsFalling}
+use Rattle.ore_monomial.specs.Numbers.{back, AreNonZero}
 use Rattle.ore_ring.specs.Ordered.{Ordered}
 use Rattle.ore_ring.specs.Belongs.{Belongs, OperatorOf}
 use Rattle.ore_ring.specs.Within.{plus_within, minus_within, opposite}
@@ -54,7 +54,7 @@ opposite_value ts = ap C (over ts) ∙ Operators.collect-scaled rationals (neg (
 neg_apart : (x : Fraction) → x ≢ whole (pos 0) → neg x ≢ whole (pos 0)
 neg_apart x n e = n (sym (Numbers.minus_minus rationals x) ∙ ap neg e ∙ sym (whole-neg (pos 0)))
 
-apart-opposite : (ts : Terms) → AreApart ts → AreApart (opposite_terms ts)
+apart-opposite : (ts : Terms) → AreNonZero rationals ts → AreNonZero rationals (opposite_terms ts)
 apart-opposite [] a = tt
 apart-opposite (t ∷ ts) a = (neg_apart t.1 a.0, apart-opposite ts a.1)
 

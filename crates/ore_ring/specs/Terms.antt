@@ -1,9 +1,8 @@
 -- The terms of an operator in falling order.
 --     Summand, Terms   a monomial with its coefficient; a list of them
 --     falling          the terms of an operator over the fractions, the greatest first
---     AreApart         no coefficient of a list of terms is none
 --     IsBelowLast      a monomial may be appended
---     IsFalling        the terms fall, and no coefficient is none: what a stored operator is
+--     IsFalling        the terms fall, and no coefficient is zero: what a stored operator is
 use Rattle.std.specs.Prelude.{◌≡◌, T, List, [], ◌∷◌}
 use Rattle.std.specs.declared.cmp.Ordering.TheVariants.{Less}
 use Rattle.std.specs.FinMap.{is_sorted}
@@ -23,12 +22,9 @@ Terms = List (Monomial × Fraction)
 abbrev pub falling : Order → Operator rationals → Terms
 falling = falling_over rationals
 
-abbrev pub AreApart : Terms → Type 0
-AreApart = AreNonZero rationals
-
 pub record IsFalling (o : Order) (ts : Terms) : Type 0 where
   pub falls : T (is_sorted (back o) ts)
-  pub apart : AreApart ts
+  pub apart : AreNonZero rationals ts
 
 -- m is below the last of the terms, if there is one
 abbrev pub IsBelowLast : Order → Terms → Monomial → Type 0

@@ -200,6 +200,3 @@ pub fn lead(op: &Op) -> Option<(Exps, Rational)>
 {
     op.get(0)
 }
-
-#[cfg(test)]
-mod tests;

@@ -55,14 +55,6 @@ impl Matrix {
         self.cols
     }
 
-    /// The rows, in their order.
-    pub fn into_rows(self) -> Vec<Row>
-        ensures value { result.items ≡ self.rows }
-        ensures fits { HasColumns self.cols result.items }
-    {
-        self.rows
-    }
-
     // The rows in order.
     pub(crate) fn rows_slice(&self) -> &[Row]
         ensures value { result.now ≡ self.now.rows }

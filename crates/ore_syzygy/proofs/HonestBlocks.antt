@@ -31,7 +31,7 @@ use Rattle.ore_pairs.specs.RunBlocks.{is_origin, row_from, inside_origins, place
 use Rattle.ore_parts.specs.declared.block.ExactBlock.{ExactBlock}
 use Rattle.ore_parts.specs.declared.block.OutsideBlock.{OutsideBlock}
 use Rattle.ore_parts.specs.OfSignature.{MatrixOf}
-use Rattle.ore_blocks.specs.CheckBlock.{plain}
+use Rattle.ore_blocks.specs.CheckBlock.{row_matrix_of}
 use Rattle.ore_blocks.specs.BlockOfRun.{ordered_row, stored_matrix, stored_entry, exact_block_of, outside_block_of}
 use Rattle.ore_blocks.proofs.Converted.{wide_rows}
 use Rattle.ore_groebner.specs.Courses.{last_of}
@@ -123,7 +123,7 @@ module _ (s : Signature) where
       pub exact_is : (b : ExactBlock) → b.basis ≡ record { cols = f.basis.cols; rows = reduction.basis_rows f.basis.items } → b.from ≡ f.from → b.to ≡ record { cols = f.basis.width; rows = reduction.cofactors_of f.basis.items }
           → b.pairs ≡ map stored_entry (entries_from (size - new_rows f.events) f.events)
           → b.inside ≡ record { cols = inside.cols; rows = map (row_from f.origins inside.rows zeros) (inside_origins f.syzygies.cols (entries_from (size - new_rows f.events) f.events)) }
-          → b ≡ exact_block_of s (plain a) (last_of f) (plain inside)
+          → b ≡ exact_block_of s (row_matrix_of a) (last_of f) (row_matrix_of inside)
       exact_is b basis from to pairs rows =
           (λ i. record {
             basis = (basis ∙ sym basis_is) i;
@@ -132,10 +132,10 @@ module _ (s : Signature) where
             pairs = (pairs ∙ ap (map stored_entry) (sym listed_is)) i;
             inside = (rows ∙ sym inside_is) i;
           })
-          ∙ ap (λ st. exact_block_of s (plain a) st (plain inside)) last_is
+          ∙ ap (λ st. exact_block_of s (row_matrix_of a) st (row_matrix_of inside)) last_is
 
     pub outside_is : (steps : List (Step rationals)) (rest : List Ordered) → All (Belongs s) rest → (b : OutsideBlock) → b.basis ≡ record { cols = f.basis.cols; rows = reduction.basis_rows f.basis.items } → b.from ≡ f.from
-        → b.pairs ≡ map stored_entry (entries_from (size - new_rows f.events) f.events) → b.quotients ≡ steps → b.rest ≡ rest → b ≡ outside_block_of s (plain a) (last_of f) steps (sums_of rest)
+        → b.pairs ≡ map stored_entry (entries_from (size - new_rows f.events) f.events) → b.quotients ≡ steps → b.rest ≡ rest → b ≡ outside_block_of s (row_matrix_of a) (last_of f) steps (sums_of rest)
     outside_is steps rest of b basis from pairs quotients same =
         (λ i. record {
           basis = (basis ∙ sym basis_is) i;
@@ -144,7 +144,7 @@ module _ (s : Signature) where
           quotients = quotients i;
           rest = (same ∙ sym (ordered_row-sums_of rest of)) i;
         })
-        ∙ ap (λ st. outside_block_of s (plain a) st steps (sums_of rest)) last_is
+        ∙ ap (λ st. outside_block_of s (row_matrix_of a) st steps (sums_of rest)) last_is
 
 module _ (s : Signature) (f : Finished) (a : OperatorMatrix) (choices : List Choice) (h : IsHonestRun s a choices f) (of : MatrixOf s a) where
   pub holds : Holds rationals s s.order a.cols (rows_of a) h.last

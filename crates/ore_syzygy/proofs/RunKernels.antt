@@ -20,7 +20,7 @@ use Rattle.ore_rows.proofs.RowLaws as Rows
 use Rattle.ore_adjoint.specs.AdjointMatrix.{transpose_adjoint_within}
 use Rattle.ore_adjoint.proofs.AdjointValues.{matrix_value}
 use Rattle.ore_parts.specs.OfSignature.{MatrixOf}
-use Rattle.ore_blocks.specs.CheckBlock.{plain}
+use Rattle.ore_blocks.specs.CheckBlock.{row_matrix_of}
 use Rattle.ore_blocks.proofs.Converted.{wide_rows, rows_are_of}
 use Rattle.ore_groebner.proofs.Complete.{complete_exact}
 use Rattle.ore_groebner.proofs.Holding.{wide_syzygies}
@@ -31,7 +31,7 @@ use Rattle.ore_syzygy.specs.Kernels.{IsRightKernel, adjoint_rows, right_answer}
 use Rattle.ore_syzygy.proofs.HonestBlocks.{holds}
 
 module _ (s : Signature) where
-  pub adjoint_is : (r a : OperatorMatrix) → a.cols ≡ length r.rows → transpose_adjoint_within program s r.cols (rows_of r) ≡ Ok (rows_of a) → plain a ≡ adjoint_rows s r
+  pub adjoint_is : (r a : OperatorMatrix) → a.cols ≡ length r.rows → transpose_adjoint_within program s r.cols (rows_of r) ≡ Ok (rows_of a) → row_matrix_of a ≡ adjoint_rows s r
   adjoint_is r a cols formed = λ i. record { cols = cols i; rows = matrix_value program s r.cols (rows_of r) (rows_of a) formed i }
 
   pub matrix_of : (m : OperatorMatrix) (n : ℕ) → HasColumns n m.rows → n ≡ m.cols → All (All (Belongs s)) m.rows → MatrixOf s m

@@ -28,7 +28,7 @@ use Rattle.ore_parts.specs.OfSignature.{MatrixOf, IsExactOf, IsOutsideOf}
 use Rattle.ore_parts.specs.declared.block.ExactBlock.{ExactBlock}
 use Rattle.ore_parts.specs.declared.block.OutsideBlock.{OutsideBlock}
 use Rattle.ore_blocks.specs.BlockOfRun.{exact_block_of, outside_block_of}
-use Rattle.ore_blocks.specs.CheckBlock.{RowMatrix, plain}
+use Rattle.ore_blocks.specs.CheckBlock.{RowMatrix, row_matrix_of}
 use Rattle.ore_blocks.specs.Valid.{IsValidExactFor, IsValidOutsideFor}
 use Rattle.ore_blocks.proofs.Converted.{wide_rows, rows_are_of}
 use Rattle.ore_blocks.proofs.StoredBlocks.{exact_stored, exact_block-valid, exact_block-of, outside_block-valid, outside_block-of}
@@ -46,7 +46,7 @@ use Rattle.ore_syzygy.proofs.HonestBlocks.{holds, last_is}
 
 module _ (s : Signature) (f : Finished) (r : HasRun s f) where
   abbrev a : RowMatrix
-  a = plain r.matrix
+  a = row_matrix_of r.matrix
 
   abbrev last : RunState rationals
   last = r.honest.last
@@ -55,9 +55,9 @@ module _ (s : Signature) (f : Finished) (r : HasRun s f) where
   here = holds s f r.matrix r.choices r.honest r.matrix_of
 
   -- with rows of a signature, one for each syzygy, the exact block is of it
-  pub exact_of_signature : (inside : OperatorMatrix) → MatrixOf s inside → length inside.rows ≡ length f.syzygies.rows → (b : ExactBlock) → b ≡ exact_block_of s (plain r.matrix) (last_of f) (plain inside) → IsExactOf s b
+  pub exact_of_signature : (inside : OperatorMatrix) → MatrixOf s inside → length inside.rows ≡ length f.syzygies.rows → (b : ExactBlock) → b ≡ exact_block_of s (row_matrix_of r.matrix) (last_of f) (row_matrix_of inside) → IsExactOf s b
   exact_of_signature inside of count b made =
-      subst (IsExactOf s) (sym (made ∙ ap (λ st. exact_block_of s a st (plain inside)) (sym (last_is s f r.matrix r.choices r.honest)))) (exact_stored s r.matrix.cols (length (rows_of r.matrix)) inside.cols (exact_of_run rationals s.order (rows_of r.matrix) last inside.cols (rows_of inside))
+      subst (IsExactOf s) (sym (made ∙ ap (λ st. exact_block_of s a st (row_matrix_of inside)) (sym (last_is s f r.matrix r.choices r.honest)))) (exact_stored s r.matrix.cols (length (rows_of r.matrix)) inside.cols (exact_of_run rationals s.order (rows_of r.matrix) last inside.cols (rows_of inside))
       (long_rows rationals s s.order r.matrix.cols (rows_of r.matrix) last.basis here.basis)
       (subst (λ n. AreLong rationals n (from_rows rationals s.order (length last.basis) 0 (rows_of r.matrix))) (sym (length-map last.basis (λ b. b.row))) (long_from_rows rationals s (lawful s) s.order (length last.basis) 0 (rows_of r.matrix)))
       (wide_cofactors rationals s s.order r.matrix.cols (rows_of r.matrix) last.basis here.basis)
@@ -72,11 +72,11 @@ module _ (s : Signature) (f : Finished) (r : HasRun s f) where
     valid = subst (λ n. blocks.IsValidExact rationals s s.order r.matrix.cols (rows_of r.matrix) (rows_of m) (exact_of_run rationals s.order (rows_of r.matrix) last n (rows_of inside))) (sym columns)
         (exact_valid rationals s (lawful s) s.order r.matrix.cols (rows_of r.matrix) (wide_rows s r.matrix r.matrix_of) last here r.honest.complete (rows_of m) (rows_of inside) rows.wide rows.annihilates rows.long (rows.product ∙ sym r.honest.syzygies))
 
-    pub exact_right : (b : ExactBlock) → IsExactBlockOfRun s f inside b → IsValidExactFor s (plain r.matrix) (plain m) b × IsExactOf s b
+    pub exact_right : (b : ExactBlock) → IsExactBlockOfRun s f inside b → IsValidExactFor s (row_matrix_of r.matrix) (row_matrix_of m) b × IsExactOf s b
     exact_right b made =
-        subst (λ (b : ExactBlock). IsValidExactFor s a (plain m) b × IsExactOf s b) (sym (made r.matrix r.choices r.honest ∙ ap (λ st. exact_block_of s a st (plain inside)) (sym (last_is s f r.matrix r.choices r.honest)))) (
-          exact_block-valid s a last (plain inside) (plain m) columns valid,
-          exact_block-of s a last (plain inside) (plain m) columns valid
+        subst (λ (b : ExactBlock). IsValidExactFor s a (row_matrix_of m) b × IsExactOf s b) (sym (made r.matrix r.choices r.honest ∙ ap (λ st. exact_block_of s a st (row_matrix_of inside)) (sym (last_is s f r.matrix r.choices r.honest)))) (
+          exact_block-valid s a last (row_matrix_of inside) (row_matrix_of m) columns valid,
+          exact_block-of s a last (row_matrix_of inside) (row_matrix_of m) columns valid
               (of_exact_of_run rationals s (lawful s) s.order r.matrix.cols (rows_of r.matrix) (rows_are_of s r.matrix r.matrix_of) last here inside.cols (rows_of inside) (rows_of_stored s inside.rows of)),
         )
 
@@ -96,7 +96,7 @@ module _ (s : Signature) (f : Finished) (r : HasRun s f) where
         outside_valid rationals s (lawful s) (within program s) (within_sound program s) r.matrix.cols (rows_of r.matrix) (wide_rows s r.matrix r.matrix_of) last here r.honest.complete
         (sums_of row) (zero_row rationals (length (rows_of r.matrix))) wide_row (work_of left) reduced more
 
-    pub outside_right : (b : OutsideBlock) → IsOutsideBlockOfRun s f left.steps left.row b → IsValidOutsideFor s (plain r.matrix) (sums_of row) b × IsOutsideOf s b
+    pub outside_right : (b : OutsideBlock) → IsOutsideBlockOfRun s f left.steps left.row b → IsValidOutsideFor s (row_matrix_of r.matrix) (sums_of row) b × IsOutsideOf s b
     outside_right b made =
         let of_matrix = rows_are_of s r.matrix r.matrix_of in
         let of_row = row_of_stored s row of in

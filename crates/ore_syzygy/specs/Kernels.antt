@@ -10,7 +10,7 @@ use Rattle.ore_monomial.specs.Signature.{Signature}
 use Rattle.ore_rows.specs.Rows.{IsExact, transpose_adjoint}
 use Rattle.ore_rows.specs.Stored.{OperatorMatrix, rows_of}
 use Rattle.ore_rows.specs.declared.choices.Choice.{Choice}
-use Rattle.ore_blocks.specs.CheckBlock.{RowMatrix, plain}
+use Rattle.ore_blocks.specs.CheckBlock.{RowMatrix, row_matrix_of}
 use Rattle.ore_blocks.specs.KernelCourse.{RightKernel}
 use Rattle.ore_groebner.specs.Courses.{last_of}
 use Rattle.ore_groebner.specs.Honest.{IsHonestRun}
@@ -37,8 +37,8 @@ module _ (s : Signature) where
 
   -- the choices lead to it
   abbrev pub IsRunOnAdjoint : OperatorMatrix → List Choice → Finished → Type 0
-  IsRunOnAdjoint r choices f = (a : OperatorMatrix) × (plain a ≡ adjoint_rows r) × IsHonestRun s a choices f
+  IsRunOnAdjoint r choices f = (a : OperatorMatrix) × (row_matrix_of a ≡ adjoint_rows r) × IsHonestRun s a choices f
 
   -- the transposed adjoint, the last state of the run on its rows, and the generators
   abbrev pub right_answer : OperatorMatrix → Kernel → RightKernel
-  right_answer r k = record { adjoint = adjoint_rows r; last = last_of k.run; generators = plain k.generators }
+  right_answer r k = record { adjoint = adjoint_rows r; last = last_of k.run; generators = row_matrix_of k.generators }

@@ -24,7 +24,7 @@ use Rattle.ore_division.specs.declared.division.Reduced.{Reduced}
 use Rattle.ore_parts.specs.OfSignature.{IsExactOf, IsOutsideOf}
 use Rattle.ore_parts.specs.declared.block.ExactBlock.{ExactBlock}
 use Rattle.ore_parts.specs.declared.block.OutsideBlock.{OutsideBlock}
-use Rattle.ore_blocks.specs.CheckBlock.{plain}
+use Rattle.ore_blocks.specs.CheckBlock.{row_matrix_of}
 use Rattle.ore_blocks.specs.Valid.{IsValidExactFor, IsValidOutsideFor}
 use Rattle.ore_groebner.specs.BlockLaws.{AreInsideRows}
 use Rattle.ore_groebner.specs.declared.outcome.Finished.{Finished}
@@ -35,13 +35,13 @@ module _ (s : Signature) where
   abbrev pub ExactBlockIsValid : Type 0
   ExactBlockIsValid = (f : Finished) (r : HasRun s f) (m inside : OperatorMatrix) (b : ExactBlock)
       → AreInsideRows s r.matrix.cols (rows_of r.matrix) (rows_of m) (rows_of inside) (rows_of f.syzygies) → inside.cols ≡ length m.rows → All (All (Belongs s)) inside.rows
-      → IsExactBlockOfRun s f inside b → IsValidExactFor s (plain r.matrix) (plain m) b × IsExactOf s b
+      → IsExactBlockOfRun s f inside b → IsValidExactFor s (row_matrix_of r.matrix) (row_matrix_of m) b × IsExactOf s b
 
   -- the row has an entry for each column of the matrix of the run, and its cofactor row begins as zeros
   abbrev pub OutsideBlockIsValid : Type 0
   OutsideBlockIsValid = (f : Finished) (r : HasRun s f) (row : List Ordered) (left : Reduced) (b : OutsideBlock) → length row ≡ r.matrix.cols → All (Belongs s) row
       → reduce_row rationals s.order (within program s) (length r.matrix.rows) (monics f.basis) (sums_of row) ≡ Ok (work_of left) → sums_of left.row ≢ zero_row rationals r.matrix.cols
-      → IsOutsideBlockOfRun s f left.steps left.row b → IsValidOutsideFor s (plain r.matrix) (sums_of row) b × IsOutsideOf s b
+      → IsOutsideBlockOfRun s f left.steps left.row b → IsValidOutsideFor s (row_matrix_of r.matrix) (sums_of row) b × IsOutsideOf s b
 
   -- ---- torsion
 

@@ -12,7 +12,7 @@ use Rattle.ore_rows.specs.declared.choices.Choice.{Choice}
 use Rattle.ore_parts.specs.declared.block.ExactBlock.{ExactBlock}
 use Rattle.ore_parts.specs.declared.block.OutsideBlock.{OutsideBlock}
 use Rattle.ore_parts.specs.OfSignature.{MatrixOf}
-use Rattle.ore_blocks.specs.CheckBlock.{plain}
+use Rattle.ore_blocks.specs.CheckBlock.{row_matrix_of}
 use Rattle.ore_blocks.specs.BlockOfRun.{exact_block_of, outside_block_of}
 use Rattle.ore_groebner.specs.Courses.{last_of}
 use Rattle.ore_groebner.specs.Honest.{IsHonestRun}
@@ -31,8 +31,8 @@ module _ (s : Signature) (f : Finished) where
 
   -- on whatever matrix the run is, the block is that of its last state, by these rows for its syzygies
   abbrev pub IsExactBlockOfRun : OperatorMatrix → ExactBlock → Type 0
-  IsExactBlockOfRun inside b = (a : OperatorMatrix) (choices : List Choice) → IsHonestRun s a choices f → b ≡ exact_block_of s (plain a) (last_of f) (plain inside)
+  IsExactBlockOfRun inside b = (a : OperatorMatrix) (choices : List Choice) → IsHonestRun s a choices f → b ≡ exact_block_of s (row_matrix_of a) (last_of f) (row_matrix_of inside)
 
   -- likewise, by the steps of a reduction and the row that they leave
   abbrev pub IsOutsideBlockOfRun : List (Step rationals) → List Ordered → OutsideBlock → Type 0
-  IsOutsideBlockOfRun steps rest b = (a : OperatorMatrix) (choices : List Choice) → IsHonestRun s a choices f → b ≡ outside_block_of s (plain a) (last_of f) steps (sums_of rest)
+  IsOutsideBlockOfRun steps rest b = (a : OperatorMatrix) (choices : List Choice) → IsHonestRun s a choices f → b ≡ outside_block_of s (row_matrix_of a) (last_of f) steps (sums_of rest)

@@ -4,7 +4,7 @@ ghost use Rattle.std.specs.Prelude.{◌≡◌, IfOk, IfErr};
 ghost use Rattle.std.specs.List.{All};
 ghost use Rattle.ore_algebra.specs.Limits.{program};
 ghost use Rattle.ore_ring.specs.Belongs.{AllBelong};
-ghost use Rattle.ore_blocks.specs.CheckBlock.{plain};
+ghost use Rattle.ore_blocks.specs.CheckBlock.{row_matrix_of};
 ghost use Rattle.ore_blocks.specs.KernelCourse as courses;
 ghost use Rattle.ore_groebner.specs.Choosing.{present, AreWithinBudget};
 ghost use Rattle.ore_groebner.specs.Courses.{last_of, FollowsTo, HaltsIn};
@@ -45,8 +45,8 @@ pub fn left_kernel<R: OreRing, C: Chooser>(
     ensures of { IfOk result (λ k. All (AllBelong (R.sig ring.now)) k.generators.rows) }
     ensures run { IfOk result (λ k. HasRun (R.sig ring.now) k.run) }
     ensures honest { IfOk result (λ k. IsHonestRun (R.sig ring.now) a.now (present (C.given chooser.new)) k.run) }
-    ensures answered { IfOk result (λ k. FollowsTo (R.sig ring.now) C.allows C.allows_spent (courses.run_on program (R.sig ring.now) (plain a.now)) (C.given chooser.old) (C.given chooser.new) (last_of k.run)) }
-    ensures halts { IfErr result (HaltsIn (R.sig ring.now) C.allows C.allows_spent (courses.run_on program (R.sig ring.now) (plain a.now)) (C.given chooser.old) (C.given chooser.new) (C.settings chooser.new)) }
+    ensures answered { IfOk result (λ k. FollowsTo (R.sig ring.now) C.allows C.allows_spent (courses.run_on program (R.sig ring.now) (row_matrix_of a.now)) (C.given chooser.old) (C.given chooser.new) (last_of k.run)) }
+    ensures halts { IfErr result (HaltsIn (R.sig ring.now) C.allows C.allows_spent (courses.run_on program (R.sig ring.now) (row_matrix_of a.now)) (C.given chooser.old) (C.given chooser.new) (C.settings chooser.new)) }
     ensures within_budget { AreWithinBudget (C.given chooser.old) (C.settings chooser.old).budget → AreWithinBudget (C.given chooser.new) (C.settings chooser.new).budget }
     ensures settings { C.settings chooser.new ≡ C.settings chooser.old }
 {
@@ -75,8 +75,8 @@ pub fn right_kernel<R: OreRing, C: Chooser>(
     ensures of { IfOk result (λ k. All (AllBelong (R.sig ring.now)) k.generators.rows) }
     ensures run { IfOk result (λ k. HasRun (R.sig ring.now) k.run) }
     ensures honest { IfOk result (λ k. IsRunOnAdjoint (R.sig ring.now) r.now (present (C.given chooser.new)) k.run) }
-    ensures answered { IfOk result (λ k. FollowsTo (R.sig ring.now) C.allows C.allows_spent (courses.right_kernel program (R.sig ring.now) (plain r.now)) (C.given chooser.old) (C.given chooser.new) (right_answer (R.sig ring.now) r.now k)) }
-    ensures halts { IfErr result (HaltsIn (R.sig ring.now) C.allows C.allows_spent (courses.right_kernel program (R.sig ring.now) (plain r.now)) (C.given chooser.old) (C.given chooser.new) (C.settings chooser.new)) }
+    ensures answered { IfOk result (λ k. FollowsTo (R.sig ring.now) C.allows C.allows_spent (courses.right_kernel program (R.sig ring.now) (row_matrix_of r.now)) (C.given chooser.old) (C.given chooser.new) (right_answer (R.sig ring.now) r.now k)) }
+    ensures halts { IfErr result (HaltsIn (R.sig ring.now) C.allows C.allows_spent (courses.right_kernel program (R.sig ring.now) (row_matrix_of r.now)) (C.given chooser.old) (C.given chooser.new) (C.settings chooser.new)) }
     ensures within_budget { AreWithinBudget (C.given chooser.old) (C.settings chooser.old).budget → AreWithinBudget (C.given chooser.new) (C.settings chooser.new).budget }
     ensures settings { C.settings chooser.new ≡ C.settings chooser.old }
 {

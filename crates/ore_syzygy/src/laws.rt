@@ -1,7 +1,7 @@
 //! The laws of blocks that are made of complete runs, and what kernels show of torsion, as contracts.
 //!
 //! The functions here have no answer and do nothing. `specs/Laws.antt` has the statements. `proofs/ValidBlocks.antt` proves
-//! those of blocks, and `ore_laws` those of torsion (`proofs/TorsionOrColumn.antt`, `proofs/KernelTorsion.antt`).
+//! those of blocks, and those of torsion stand in `ore_laws/proofs/TorsionOrColumn.antt` and `KernelTorsion.antt`.
 
 ghost use Rattle.ore_syzygy.specs.Laws.{ExactBlockIsValid, KernelIsTorsion, OutsideBlockIsValid, SyzygyShowsTorsion, TorsionOrColumn};
 

@@ -2,7 +2,7 @@
 --     below_last      a monomial is below the last term where it is below the one at the last place
 --     not_past        the last place of a list has an item
 --     kept-zero, kept-other      what a term adds to others
---     terms_of-pushed      the terms with one more
+--     falling_terms-pushed      the terms with one more
 --     nothing_kept    a term 0 adds nothing to the terms
 --     good_kept       and a fact of all of them
 use Rattle.std.proofs.Common.{◌≡◌, ◌≢◌, ◌⊎◌, inl, inr, ℕ, zero, suc, [], ◌∷◌, ◌++◌, length, slice_get, Some, None, pos, refl, sym, ap, ◌∙◌, subst, arith}
@@ -65,9 +65,9 @@ falling-pushed o f t n b =
     ap (falling o) (ap (λ g. plus rationals plain_cmp g (single rationals plain_cmp t.0 t.1)) (sym (collect-falling o f)) ∙ sym (collect_snoc (falling o f) t))
     ∙ falling-collect o (falling o f ++ t ∷ []) (falls_snoc o (falling o f) t (falls-falling o f) b n)
 
-pub terms_of-pushed : (old new : Ordered) (t : Summand) → t.1 ≢ whole (pos 0) → IsBelowLast old.by (falling_terms old) t.0
+pub falling_terms-pushed : (old new : Ordered) (t : Summand) → t.1 ≢ whole (pos 0) → IsBelowLast old.by (falling_terms old) t.0
     → new ≡ record { by = old.by; sum = plus rationals plain_cmp old.sum (single rationals plain_cmp t.0 t.1) } → falling_terms new ≡ falling_terms old ++ term_unless_zero t
-terms_of-pushed old new t n b e = ap falling_terms e ∙ falling-pushed old.by old.sum t n b ∙ ap (λ ts. falling_terms old ++ ts) (sym (kept-other t n))
+falling_terms-pushed old new t n b e = ap falling_terms e ∙ falling-pushed old.by old.sum t n b ∙ ap (λ ts. falling_terms old ++ ts) (sym (kept-other t n))
 
 pub nothing_kept : (ts : Terms) (t : Summand) → t.1 ≡ whole (pos 0) → ts ≡ ts ++ term_unless_zero t
 nothing_kept ts t e = sym (ap (λ us. ts ++ us) (kept-zero t e) ∙ append_nil_terms ts)

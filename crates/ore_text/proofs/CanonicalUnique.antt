@@ -38,7 +38,8 @@ use Rattle.ore_monomial.specs.MonomialCode.{seen_again}
 use Rattle.ore_monomial.specs.Signature.{Signature, MonomialOf}
 use Rattle.ore_monomial.specs.declared.order.Order.{Order}
 use Rattle.ore_monomial.specs.LetterRule.{Operator}
-use Rattle.ore_ring.specs.Terms.{Summand, Terms, falling, AreApart}
+use Rattle.ore_monomial.specs.Numbers.{AreNonZero}
+use Rattle.ore_ring.specs.Terms.{Summand, Terms, falling}
 use Rattle.ore_ring.proofs.AllTerms.{falls-falling}
 use Rattle.ore_ring.proofs.TermLaws.{collect-falling}
 use Rattle.ore_text.specs.CanonicalParts.{starred, exponent_text, denominator_text, is_negative, IsWordEnd, IsFactorEnd, IsTermEnd, IsPrintableTerm}
@@ -298,7 +299,7 @@ module _ (s : Signature) (names : List (List ℕ)) (are : AreNames names) (count
       let same = same_begun zero_term t [] (flat_map (later_text names) ts) (zero_good s) h tt (later_end names ts) (sym (zero_text names) ∙ e ∙ first_split t ts) in
       n (sym (ap (λ u. u.1) same.0))
 
-  same_terms : (ts us : Terms) → ArePrintable ts → ArePrintable us → AreApart ts → AreApart us → terms_text names ts ≡ terms_text names us → ts ≡ us
+  same_terms : (ts us : Terms) → ArePrintable ts → ArePrintable us → AreNonZero rationals ts → AreNonZero rationals us → terms_text names ts ≡ terms_text names us → ts ≡ us
   same_terms [] [] ht hu nt nu e = refl
   same_terms [] (u ∷ us) ht hu nt nu e = absurd (not_zero_text u us nu.0 hu.0 e)
   same_terms (t ∷ ts) [] ht hu nt nu e = absurd (not_zero_text t ts nt.0 ht.0 (sym e))

@@ -18,9 +18,10 @@ use Rattle.ore_monomial.specs.Signature.{Signature}
 use Rattle.ore_monomial.specs.declared.order.Order.{Order}
 use Rattle.ore_monomial.specs.LetterRule.{Operator}
 use Rattle.ore_monomial.proofs.Monomials.{plain_cmp_total, plain_cmp_apart, same_key, own_key}
-use Rattle.ore_ring.specs.Terms.{Summand, Terms, falling, AreApart}
+use Rattle.ore_ring.specs.Terms.{Summand, Terms, falling}
 use Rattle.ore_ring.specs.Belongs.{OperatorOf}
 use Rattle.ore_monomial.proofs.FallingTerms.{back_order, back_apart, sum_at-falling}
+use Rattle.ore_monomial.specs.Numbers.{AreNonZero}
 use Rattle.ore_ring.proofs.AllTerms.{at, AreDistinct, at_skip, at_own, sorted_distinct, distinct-terms, apart-terms, falls-falling}
 use Rattle.ore_text.specs.CanonicalParts.{IsPrintableTerm}
 use Rattle.ore_text.specs.Printable.{IsStorableTerm, IsStorable, IsPrintable}
@@ -43,7 +44,7 @@ module _ (P : Summand → Type 0) where
           let skip : at q (t ∷ ts) ≡ at q ts = at_skip q t ts f in
           subst P (λ i. (q, sym skip i)) (ih (λ z. n (skip ∙ z)))
 
-  pub all_of_each : (ts : Terms) → AreDistinct ts → AreApart ts → HoldsOf ts → AllByRecursion P ts
+  pub all_of_each : (ts : Terms) → AreDistinct ts → AreNonZero rationals ts → HoldsOf ts → AllByRecursion P ts
   all_of_each [] d a h = tt
   all_of_each (t ∷ ts) d a h = (head, all_of_each ts d.1 a.1 (λ q n. rest (eq_by_cmp plain_cmp q t.0) q refl n))
     where

@@ -33,7 +33,7 @@ use Rattle.ore_parts.specs.OfSignature.{MatrixOf}
 use Rattle.ore_cert.specs.declared.certificate.Certificate.{Certificate}
 use Rattle.ore_cert.specs.declared.certificate.Certificate.TheVariants.{Controllable}
 use Rattle.ore_blocks.specs.BlockOfRun.{exact_block_of}
-use Rattle.ore_blocks.specs.CheckBlock.{RowMatrix, plain}
+use Rattle.ore_blocks.specs.CheckBlock.{RowMatrix, row_matrix_of}
 use Rattle.ore_blocks.specs.KernelCourse.{RunCourse, RightKernel, run_on, right_kernel}
 use Rattle.ore_blocks.proofs.Converted.{rows_count, wide_rows, rows_are_of}
 use Rattle.ore_groebner.specs.Choosing.{Settings}
@@ -110,67 +110,67 @@ module _ (s : Signature) (allows : BasisLeads → List (ℕ × ℕ) → Choice �
 
   -- the run on r ends in a, and the run g is on q; its syzygies are reduced to x
   module _ (r : OperatorMatrix) (a : RunState rationals) (q : OperatorMatrix) (g : Finished) (x : Stored) (before mid : List (List Choice))
-      (left : Follows runner rule (analyse program s (plain r)) before mid (verdict_course s (plain r) a (plain q) (last_of g) (reductions_of x))) where
-    left_as : (y : Stored) → x ≡ y → Follows runner rule (analyse program s (plain r)) before mid (verdict_course s (plain r) a (plain q) (last_of g) (reductions_of y))
-    left_as y is = subst (λ (y : Stored). Follows runner rule (analyse program s (plain r)) before mid (verdict_course s (plain r) a (plain q) (last_of g) (reductions_of y))) is left
+      (left : Follows runner rule (analyse program s (row_matrix_of r)) before mid (verdict_course s (row_matrix_of r) a (row_matrix_of q) (last_of g) (reductions_of x))) where
+    left_as : (y : Stored) → x ≡ y → Follows runner rule (analyse program s (row_matrix_of r)) before mid (verdict_course s (row_matrix_of r) a (row_matrix_of q) (last_of g) (reductions_of y))
+    left_as y is = subst (λ (y : Stored). Follows runner rule (analyse program s (row_matrix_of r)) before mid (verdict_course s (row_matrix_of r) a (row_matrix_of q) (last_of g) (reductions_of y))) is left
 
     -- all reduce, to these combinations
     module _ (of_q : All (All (Belongs s)) q.rows) (m : OperatorMatrix) (is : x ≡ stored_as.AllReduce m) (cols : m.cols ≡ length r.rows) where
       abbrev controllable : Certificate
-      controllable = controllable_of s q g (plain m)
+      controllable = controllable_of s q g (row_matrix_of m)
 
       -- the code and the plan form one certificate
-      left_to_form : Follows runner rule (analyse program s (plain r)) before mid (certified program s (plain r) controllable tt)
+      left_to_form : Follows runner rule (analyse program s (row_matrix_of r)) before mid (certified program s (row_matrix_of r) controllable tt)
       left_to_form =
-          subst (λ (y : OperatorMatrix × ℕ). Follows runner rule (analyse program s (plain r)) before mid (certified program s (plain r) (Controllable y.0 (exact_block_of s (plain q) (last_of g) (record { cols = y.1; rows = rows_of m }))) tt))
+          subst (λ (y : OperatorMatrix × ℕ). Follows runner rule (analyse program s (row_matrix_of r)) before mid (certified program s (row_matrix_of r) (Controllable y.0 (exact_block_of s (row_matrix_of q) (last_of g) (record { cols = y.1; rows = rows_of m }))) tt))
           (λ i. (stored_is s q q.cols of_q refl i, (rows_count r ∙ sym cols) i)) (left_as (stored_as.AllReduce m) is)
 
-      pub verdict_formed : (c : Certificate) → IsFormed s (plain r) controllable (Ok c) → FollowsTo s allows allows_spent (analyse program s (plain r)) before mid c
-      verdict_formed c h = certified_as s allows allows_spent (analyse program s (plain r)) before mid (plain r) controllable tt left_to_form c h
+      pub verdict_formed : (c : Certificate) → IsFormed s (row_matrix_of r) controllable (Ok c) → FollowsTo s allows allows_spent (analyse program s (row_matrix_of r)) before mid c
+      verdict_formed c h = certified_as s allows allows_spent (analyse program s (row_matrix_of r)) before mid (row_matrix_of r) controllable tt left_to_form c h
 
-      pub verdict_halts : (settings : Settings) (e : RingStop) → IsFormed s (plain r) controllable (Err e) → HaltsIn s allows allows_spent (analyse program s (plain r)) before mid settings (halt_of e Forced)
-      verdict_halts settings e h = certified_halts s allows allows_spent (analyse program s (plain r)) before mid (plain r) controllable tt left_to_form settings e h
+      pub verdict_halts : (settings : Settings) (e : RingStop) → IsFormed s (row_matrix_of r) controllable (Err e) → HaltsIn s allows allows_spent (analyse program s (row_matrix_of r)) before mid settings (halt_of e Forced)
+      verdict_halts settings e h = certified_halts s allows allows_spent (analyse program s (row_matrix_of r)) before mid (row_matrix_of r) controllable tt left_to_form settings e h
 
     -- a row is left of one: the plan goes on with the search for its operator
     module _ (k : ℕ) (w : Reduced) (is : x ≡ stored_as.LeavesRest k w) (given : List (List Choice)) where
-      pub element_formed : (d : Certificate) → FollowsTo s allows allows_spent (autonomous program s (plain r) a (sums_of w.row)) mid given d → FollowsTo s allows allows_spent (analyse program s (plain r)) before given d
-      element_formed d h = called_last runner rule (autonomous program s (plain r) a (sums_of w.row)) d h (left_as (stored_as.LeavesRest k w) is)
+      pub element_formed : (d : Certificate) → FollowsTo s allows allows_spent (autonomous program s (row_matrix_of r) a (sums_of w.row)) mid given d → FollowsTo s allows allows_spent (analyse program s (row_matrix_of r)) before given d
+      element_formed d h = called_last runner rule (autonomous program s (row_matrix_of r) a (sums_of w.row)) d h (left_as (stored_as.LeavesRest k w) is)
 
-      pub element_halts : (settings : Settings) (halt : Halt) → HaltsIn s allows allows_spent (autonomous program s (plain r) a (sums_of w.row)) mid given settings halt → HaltsIn s allows allows_spent (analyse program s (plain r)) before given settings halt
-      element_halts settings halt h = call_halts_last s allows allows_spent given settings (autonomous program s (plain r) a (sums_of w.row)) halt h (left_as (stored_as.LeavesRest k w) is)
+      pub element_halts : (settings : Settings) (halt : Halt) → HaltsIn s allows allows_spent (autonomous program s (row_matrix_of r) a (sums_of w.row)) mid given settings halt → HaltsIn s allows allows_spent (analyse program s (row_matrix_of r)) before given settings halt
+      element_halts settings halt h = call_halts_last s allows allows_spent given settings (autonomous program s (row_matrix_of r) a (sums_of w.row)) halt h (left_as (stored_as.LeavesRest k w) is)
 
   -- ---- the search for the operator of an element
 
   -- the matrix m is the row z above those of r
   module _ (r : OperatorMatrix) (f : Finished) (z : List Ordered) (m : OperatorMatrix) (same : m ≡ record { cols = r.cols; rows = z ∷ r.rows }) (before given : List (List Choice)) where
     abbrev course : RunCourse Certificate
-    course = autonomous program s (plain r) (last_of f) (sums_of z)
+    course = autonomous program s (row_matrix_of r) (last_of f) (sums_of z)
 
     abbrev ends : RunState rationals → RunCourse Certificate
-    ends d = certified program s (plain r) (autonomous_element s (plain r) (last_of f) (sums_of z) (first_nonzero (length (rows_of r)) d.syzygies)) tt
+    ends d = certified program s (row_matrix_of r) (autonomous_element s (row_matrix_of r) (last_of f) (sums_of z) (first_nonzero (length (rows_of r)) d.syzygies)) tt
 
-    operator_begun : Follows runner rule course before before (run_on program s (plain m) >>= ends)
+    operator_begun : Follows runner rule course before before (run_on program s (row_matrix_of m) >>= ends)
     unfolding autonomous
-    operator_begun = subst (λ (m : OperatorMatrix). Follows runner rule course before before (run_on program s (plain m) >>= ends)) (sym same) (started runner rule course before)
+    operator_begun = subst (λ (m : OperatorMatrix). Follows runner rule course before before (run_on program s (row_matrix_of m) >>= ends)) (sym same) (started runner rule course before)
 
-    pub operator_run_halts : (settings : Settings) (halt : Halt) → HaltsIn s allows allows_spent (run_on program s (plain m)) before given settings halt → HaltsIn s allows allows_spent course before given settings halt
-    operator_run_halts settings halt h = call_halts s allows allows_spent given settings (run_on program s (plain m)) ends halt h operator_begun
+    pub operator_run_halts : (settings : Settings) (halt : Halt) → HaltsIn s allows allows_spent (run_on program s (row_matrix_of m)) before given settings halt → HaltsIn s allows allows_spent course before given settings halt
+    operator_run_halts settings halt h = call_halts s allows allows_spent given settings (run_on program s (row_matrix_of m)) ends halt h operator_begun
 
     -- the run g on m
-    module _ (g : Finished) (led : FollowsTo s allows allows_spent (run_on program s (plain m)) before given (last_of g)) where
+    module _ (g : Finished) (led : FollowsTo s allows allows_spent (run_on program s (row_matrix_of m)) before given (last_of g)) where
       abbrev element : Certificate
-      element = element_of s (plain r) f z (plain g.syzygies)
+      element = element_of s (row_matrix_of r) f z (row_matrix_of g.syzygies)
 
-      element_left : Follows runner rule course before given (certified program s (plain r) element tt)
-      element_left = called runner rule (run_on program s (plain m)) (last_of g) ends led operator_begun
+      element_left : Follows runner rule course before given (certified program s (row_matrix_of r) element tt)
+      element_left = called runner rule (run_on program s (row_matrix_of m)) (last_of g) ends led operator_begun
 
-      pub operator_formed : (c : Certificate) → IsFormed s (plain r) element (Ok c) → FollowsTo s allows allows_spent course before given c
-      operator_formed c h = certified_as s allows allows_spent course before given (plain r) element tt element_left c h
+      pub operator_formed : (c : Certificate) → IsFormed s (row_matrix_of r) element (Ok c) → FollowsTo s allows allows_spent course before given c
+      operator_formed c h = certified_as s allows allows_spent course before given (row_matrix_of r) element tt element_left c h
 
-      pub operator_halts : (settings : Settings) (e : RingStop) → IsFormed s (plain r) element (Err e) → HaltsIn s allows allows_spent course before given settings (halt_of e Forced)
-      operator_halts settings e h = certified_halts s allows allows_spent course before given (plain r) element tt element_left settings e h
+      pub operator_halts : (settings : Settings) (e : RingStop) → IsFormed s (row_matrix_of r) element (Err e) → HaltsIn s allows allows_spent course before given settings (halt_of e Forced)
+      operator_halts settings e h = certified_halts s allows allows_spent course before given (row_matrix_of r) element tt element_left settings e h
 
   -- ---- the plan
 
-  pub analyse_is_right : (r : OperatorMatrix) → MatrixOf s r → (before given : List (List Choice)) (c : Certificate) → FollowsTo s allows allows_spent (analyse program s (plain r)) before given c → IsCorrect s (plain r) c
-  analyse_is_right r of before given c h = analyse_right s (plain r) (wide_rows s r of) (rows_are_of s r of) h.added c h.leads
+  pub analyse_is_right : (r : OperatorMatrix) → MatrixOf s r → (before given : List (List Choice)) (c : Certificate) → FollowsTo s allows allows_spent (analyse program s (row_matrix_of r)) before given c → IsCorrect s (row_matrix_of r) c
+  analyse_is_right r of before given c h = analyse_right s (row_matrix_of r) (wide_rows s r of) (rows_are_of s r of) h.added c h.leads

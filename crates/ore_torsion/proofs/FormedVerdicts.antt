@@ -22,7 +22,7 @@ use Rattle.ore_parts.specs.declared.block.OutsideBlock.{OutsideBlock}
 use Rattle.ore_cert.specs.declared.certificate.Certificate.{Certificate}
 use Rattle.ore_cert.specs.declared.certificate.Certificate.TheVariants.{Controllable, AutonomousElement}
 use Rattle.ore_blocks.specs.BlockOfRun.{ordered_row, outside_block_of}
-use Rattle.ore_blocks.specs.CheckBlock.{RowMatrix, plain}
+use Rattle.ore_blocks.specs.CheckBlock.{RowMatrix, row_matrix_of}
 use Rattle.ore_blocks.proofs.Converted.{rows_count}
 use Rattle.ore_groebner.specs.Courses.{last_of}
 use Rattle.ore_groebner.specs.declared.outcome.Finished.{Finished}
@@ -42,7 +42,7 @@ module _ (s : Signature) where
   memory_formed r c stop.Degree h claims = absurd cc
   memory_formed r c stop.Memory h claims = tt
 
-  pub controllable_is : (q : OperatorMatrix) (f : Finished) → IsRunOn s q f → (combinations : OperatorMatrix) (b : ExactBlock) → IsExactBlockOfRun s f combinations b → Controllable q b ≡ controllable_of s q f (plain combinations)
+  pub controllable_is : (q : OperatorMatrix) (f : Finished) → IsRunOn s q f → (combinations : OperatorMatrix) (b : ExactBlock) → IsExactBlockOfRun s f combinations b → Controllable q b ≡ controllable_of s q f (row_matrix_of combinations)
   controllable_is q f on combinations b h = ap (λ (b : ExactBlock). Controllable q b) (h q on.choices on.honest)
 
   operator_is : (f : Ordered) → Belongs s f → record { by = s.order; sum = f.sum } ≡ f
@@ -51,7 +51,7 @@ module _ (s : Signature) where
   pub element_is : (r : OperatorMatrix) (f : Finished) (z : List Ordered) → All (Belongs s) z → (element : List Ordered) → element ≡ z → (syzygies : OperatorMatrix)
       → (n : ℕ) → n ≡ length r.rows → (p : Ordered × List Ordered) → part_of p ≡ first_nonzero n (rows_of syzygies) → Belongs s p.0
       → (cofactor : List Ordered) → sums_of cofactor ≡ negated rationals (sums_of p.1) → All (Belongs s) cofactor
-      → (b : OutsideBlock) → b ≡ outside_block_of s (plain r) (last_of f) [] (sums_of z) → AutonomousElement element p.0 cofactor b ≡ element_of s (plain r) f z (plain syzygies)
+      → (b : OutsideBlock) → b ≡ outside_block_of s (row_matrix_of r) (last_of f) [] (sums_of z) → AutonomousElement element p.0 cofactor b ≡ element_of s (row_matrix_of r) f z (row_matrix_of syzygies)
   element_is r f z of_z element same syzygies n count p found of_p cofactor opposite of_cofactor b h = λ i. AutonomousElement ((same ∙ rows) i) (operators i) (cofactors i) (h i)
     where
       first : part_of p ≡ first_nonzero (length (rows_of r)) (rows_of syzygies)

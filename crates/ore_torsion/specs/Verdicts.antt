@@ -14,7 +14,7 @@ use Rattle.ore_pairs.specs.Run.{RunState}
 use Rattle.ore_cert.specs.declared.certificate.Certificate.{Certificate}
 use Rattle.ore_cert.specs.declared.certificate.Certificate.TheVariants.{Controllable, AutonomousElement}
 use Rattle.ore_blocks.specs.BlockOfRun.{exact_block_of}
-use Rattle.ore_blocks.specs.CheckBlock.{RowMatrix, plain}
+use Rattle.ore_blocks.specs.CheckBlock.{RowMatrix, row_matrix_of}
 use Rattle.ore_blocks.specs.KernelCourse.{RunCourse}
 use Rattle.ore_groebner.specs.Courses.{last_of}
 use Rattle.ore_groebner.specs.declared.outcome.Finished.{Finished}
@@ -29,7 +29,7 @@ IsVerdict other = ⊥
 module _ (s : Signature) where
   -- by the run f on q, whose syzygies are these combinations of the rows of the matrix
   abbrev pub controllable_of : OperatorMatrix → Finished → RowMatrix → Certificate
-  controllable_of q f combinations = Controllable q (exact_block_of s (plain q) (last_of f) combinations)
+  controllable_of q f combinations = Controllable q (exact_block_of s (row_matrix_of q) (last_of f) combinations)
 
   -- z is outside by the run f on r; one of the rows, which take z above r to zeros, gives its operator
   abbrev pub element_of : RowMatrix → Finished → List Ordered → RowMatrix → Certificate

@@ -10,7 +10,7 @@ ghost use Rattle.ore_pairs.specs.Reached.{rule_of};
 ghost use Rattle.ore_pairs.specs.Runner.{runner_within};
 ghost use Rattle.ore_parts.specs.OfSignature.{IsOutsideOf};
 ghost use Rattle.ore_blocks.specs.BlockOfRun.{outside_block_of};
-ghost use Rattle.ore_blocks.specs.CheckBlock.{plain};
+ghost use Rattle.ore_blocks.specs.CheckBlock.{row_matrix_of};
 ghost use Rattle.ore_groebner.specs.Choosing.{AreWithinBudget};
 ghost use Rattle.ore_groebner.specs.Courses.{last_of, FollowsTo, HaltsIn};
 ghost use Rattle.ore_check.specs.PlanLaws.{IsCorrect};
@@ -47,12 +47,12 @@ pub fn analyse<R: OreRing, C: Chooser>(
 ) -> Result<Certificate, Halt>
     requires { All (AllBelong (R.sig ring.now)) r.now.rows }
     // It is true, and the check accepts it.
-    ensures correct { IfOk result (IsCorrect (R.sig ring.now) (plain r.now)) }
+    ensures correct { IfOk result (IsCorrect (R.sig ring.now) (row_matrix_of r.now)) }
     // It is one of the two.
     ensures verdict { IfOk result IsVerdict }
     // The plan forms it by the choices given, or halts so.
-    ensures answered { IfOk result (FollowsTo (R.sig ring.now) C.allows C.allows_spent (plans.analyse program (R.sig ring.now) (plain r.now)) (C.given chooser.old) (C.given chooser.new)) }
-    ensures halts { IfErr result (HaltsIn (R.sig ring.now) C.allows C.allows_spent (plans.analyse program (R.sig ring.now) (plain r.now)) (C.given chooser.old) (C.given chooser.new) (C.settings chooser.new)) }
+    ensures answered { IfOk result (FollowsTo (R.sig ring.now) C.allows C.allows_spent (plans.analyse program (R.sig ring.now) (row_matrix_of r.now)) (C.given chooser.old) (C.given chooser.new)) }
+    ensures halts { IfErr result (HaltsIn (R.sig ring.now) C.allows C.allows_spent (plans.analyse program (R.sig ring.now) (row_matrix_of r.now)) (C.given chooser.old) (C.given chooser.new) (C.settings chooser.new)) }
     ensures within_budget { AreWithinBudget (C.given chooser.old) (C.settings chooser.old).budget → AreWithinBudget (C.given chooser.new) (C.settings chooser.new).budget }
     ensures settings { C.settings chooser.new ≡ C.settings chooser.old }
 {
@@ -103,8 +103,8 @@ fn reduce_kernel_rows<R: OreRing, C: Chooser>(
     ensures second { IfOk result (λ x. IsRunOn (R.sig ring.now) x.generators x.second) }
     ensures reduced { IfOk result (λ x. AreReducedSyzygies (R.sig ring.now) r.now x.first x.second x.reductions) }
     // The verdict is left to form.
-    ensures left { IfOk result (λ x. Follows (runner_within program (R.sig ring.now)) (rule_of (R.sig ring.now) C.allows C.allows_spent) (plans.analyse program (R.sig ring.now) (plain r.now)) (C.given chooser.old) (C.given chooser.new) (verdict_course (R.sig ring.now) (plain r.now) (last_of x.first) (plain x.generators) (last_of x.second) (reductions_of x.reductions))) }
-    ensures halts { IfErr result (HaltsIn (R.sig ring.now) C.allows C.allows_spent (plans.analyse program (R.sig ring.now) (plain r.now)) (C.given chooser.old) (C.given chooser.new) (C.settings chooser.new)) }
+    ensures left { IfOk result (λ x. Follows (runner_within program (R.sig ring.now)) (rule_of (R.sig ring.now) C.allows C.allows_spent) (plans.analyse program (R.sig ring.now) (row_matrix_of r.now)) (C.given chooser.old) (C.given chooser.new) (verdict_course (R.sig ring.now) (row_matrix_of r.now) (last_of x.first) (row_matrix_of x.generators) (last_of x.second) (reductions_of x.reductions))) }
+    ensures halts { IfErr result (HaltsIn (R.sig ring.now) C.allows C.allows_spent (plans.analyse program (R.sig ring.now) (row_matrix_of r.now)) (C.given chooser.old) (C.given chooser.new) (C.settings chooser.new)) }
     ensures within_budget { AreWithinBudget (C.given chooser.old) (C.settings chooser.old).budget → AreWithinBudget (C.given chooser.new) (C.settings chooser.new).budget }
     ensures settings { C.settings chooser.new ≡ C.settings chooser.old }
 {
@@ -134,10 +134,10 @@ fn find_operator<R: OreRing, C: Chooser>(
     requires run { IsRunOn (R.sig ring.now) r.now first }
     requires width { length rest.row ≡ r.now.cols }
     requires rest_of { AllBelong (R.sig ring.now) rest.row }
-    requires block_of { IsOutsideOf (R.sig ring.now) (outside_block_of (R.sig ring.now) (plain r.now) (last_of first) [] (sums_of rest.row)) }
+    requires block_of { IsOutsideOf (R.sig ring.now) (outside_block_of (R.sig ring.now) (row_matrix_of r.now) (last_of first) [] (sums_of rest.row)) }
     ensures verdict { IfOk result IsVerdict }
-    ensures answered { IfOk result (FollowsTo (R.sig ring.now) C.allows C.allows_spent (plans.autonomous program (R.sig ring.now) (plain r.now) (last_of first) (sums_of rest.row)) (C.given chooser.old) (C.given chooser.new)) }
-    ensures halts { IfErr result (HaltsIn (R.sig ring.now) C.allows C.allows_spent (plans.autonomous program (R.sig ring.now) (plain r.now) (last_of first) (sums_of rest.row)) (C.given chooser.old) (C.given chooser.new) (C.settings chooser.new)) }
+    ensures answered { IfOk result (FollowsTo (R.sig ring.now) C.allows C.allows_spent (plans.autonomous program (R.sig ring.now) (row_matrix_of r.now) (last_of first) (sums_of rest.row)) (C.given chooser.old) (C.given chooser.new)) }
+    ensures halts { IfErr result (HaltsIn (R.sig ring.now) C.allows C.allows_spent (plans.autonomous program (R.sig ring.now) (row_matrix_of r.now) (last_of first) (sums_of rest.row)) (C.given chooser.old) (C.given chooser.new) (C.settings chooser.new)) }
     ensures within_budget { AreWithinBudget (C.given chooser.old) (C.settings chooser.old).budget → AreWithinBudget (C.given chooser.new) (C.settings chooser.new).budget }
     ensures settings { C.settings chooser.new ≡ C.settings chooser.old }
 {

@@ -6,7 +6,7 @@ ghost use Rattle.ore_ring.specs.Belongs.{AllBelong};
 ghost use Rattle.ore_rows.specs.Stored.{sums_of};
 ghost use Rattle.ore_parts.specs.OfSignature.{IsOutsideOf};
 ghost use Rattle.ore_blocks.specs.BlockOfRun.{outside_block_of};
-ghost use Rattle.ore_blocks.specs.CheckBlock.{plain};
+ghost use Rattle.ore_blocks.specs.CheckBlock.{row_matrix_of};
 ghost use Rattle.ore_groebner.specs.Courses.{last_of};
 ghost use Rattle.ore_check.specs.Plans.{IsFormed};
 ghost use Rattle.ore_inverse.specs.Runs.{IsRunOn};
@@ -39,7 +39,7 @@ pub(crate) fn form_controllable<R: OreRing>(
     requires run { IsRunOn (R.sig ring.now) q run }
     requires count { length combinations.rows ≡ length run.syzygies.rows }
     requires combinations_of { All (AllBelong (R.sig ring.now)) combinations.rows }
-    ensures formed { IsFormed (R.sig ring.now) (plain r.now) (controllable_of (R.sig ring.now) q run (plain combinations)) result }
+    ensures formed { IsFormed (R.sig ring.now) (row_matrix_of r.now) (controllable_of (R.sig ring.now) q run (row_matrix_of combinations)) result }
     ensures verdict { IfOk result IsVerdict }
 {
     let _columns = q.cols();
@@ -62,10 +62,10 @@ pub(crate) fn form_element<R: OreRing>(
     requires r_of { All (AllBelong (R.sig ring.now)) r.now.rows }
     requires run { IsRunOn (R.sig ring.now) r.now run }
     requires rest_of { AllBelong (R.sig ring.now) rest.row }
-    requires block_of { IsOutsideOf (R.sig ring.now) (outside_block_of (R.sig ring.now) (plain r.now) (last_of run) [] (sums_of rest.row)) }
+    requires block_of { IsOutsideOf (R.sig ring.now) (outside_block_of (R.sig ring.now) (row_matrix_of r.now) (last_of run) [] (sums_of rest.row)) }
     requires cols { syzygies.now.cols ≡ suc (length r.now.rows) }
     requires syzygies_of { All (AllBelong (R.sig ring.now)) syzygies.now.rows }
-    ensures formed { IsFormed (R.sig ring.now) (plain r.now) (element_of (R.sig ring.now) (plain r.now) run rest.row (plain syzygies.now)) result }
+    ensures formed { IsFormed (R.sig ring.now) (row_matrix_of r.now) (element_of (R.sig ring.now) (row_matrix_of r.now) run rest.row (row_matrix_of syzygies.now)) result }
     ensures verdict { IfOk result IsVerdict }
 {
     let found = first_nonzero(ring, alloc, r.rows(), syzygies)?;

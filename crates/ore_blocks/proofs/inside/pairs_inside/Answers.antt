@@ -7,7 +7,7 @@ use Rattle.ore_rows.specs.Stored.{rows_of}
 use Rattle.ore_rows.proofs.Dots.{all_at}
 use Rattle.ore_parts.specs.OfSignature.{IsEntryOf}
 use Rattle.ore_blocks.specs.CheckBlock.{pairs_inside}
-use Rattle.ore_blocks.specs.InnerContracts.{IsTreatable}
+use Rattle.ore_blocks.specs.InnerContracts.{FitsLeads}
 use Rattle.ore_blocks.proofs.Chains.{refuses_as, passed_as}
 use Rattle.ore_blocks.proofs.InsideRows.{pairs_next, pairs_none, pairs_end}
 use Rattle.ore_blocks.proofs.inside.pairs_inside.Goals as goal
@@ -18,8 +18,8 @@ returns-then-next-rows g c =
     let past : length c.args.inside.now.rows ≤ c.loop-k.next = omega arith in
     sym c.loop-k.invariant ∙ pairs_none program s c.args.to.now.cols c.args.leads.now (rows_of c.args.to.now) (rows_of c.args.m.now) c.args.section (drop c.loop-k.k c.args.pairs.now) c.args.inside.now c.loop-k.next past
 
-pub pair_inside-requires-clause-treatable : goal.pair_inside-requires-clause-treatable
-pair_inside-requires-clause-treatable g c = all_at (IsTreatable c.args.leads.now) c.args.pairs.now c.loop-k.k c.get-entry.result.now c.get-entry.ensures c.requires.treatable
+pub pair_inside-requires-clause-fits_leads : goal.pair_inside-requires-clause-fits_leads
+pair_inside-requires-clause-fits_leads g c = all_at (FitsLeads c.args.leads.now) c.args.pairs.now c.loop-k.k c.get-entry.result.now c.get-entry.ensures c.requires.fits_leads
 
 pub pair_inside-requires-clause-entry_of : goal.pair_inside-requires-clause-entry_of
 pair_inside-requires-clause-entry_of g c = all_at (IsEntryOf (g.R.OreRing.sig c.args.ring.now)) c.args.pairs.now c.loop-k.k c.get-entry.result.now c.get-entry.ensures c.requires.pairs_of

@@ -8,7 +8,7 @@ use Rattle.ore_rows.specs.Stored.{rows_of}
 use Rattle.ore_blocks.specs.CheckBlock.{pair_of, check_entries, check_pairs}
 use Rattle.ore_blocks.specs.Conditions.{Checked}
 use Rattle.ore_blocks.proofs.Chains.{refuses_as, passed_as}
-use Rattle.ore_blocks.proofs.Entries.{entries_next, entries_end, entries_treatable, entry_treatable}
+use Rattle.ore_blocks.proofs.Entries.{entries_next, entries_end, entries_fit, entry_fits}
 use Rattle.ore_blocks.proofs.pairs.check_pairs.Goals as goal
 
 pub loop-k-init : goal.loop-k-init
@@ -27,7 +27,7 @@ returns-in_err-check_entry-clause-judges g c =
 pub list_pair-requires : goal.list_pair-requires
 list_pair-requires g c =
     let s = g.R.OreRing.sig c.args.ring.now in
-    entry_treatable s (rows_of c.args.basis.now) c.args.leads.now c.args.section c.loop-k.k c.loop-k.listed c.get-entry.result.now c.in_ok-check_entry.ensures.judges
+    entry_fits s (rows_of c.args.basis.now) c.args.leads.now c.args.section c.loop-k.k c.loop-k.listed c.get-entry.result.now c.in_ok-check_entry.ensures.judges
 
 pub loop-k-preserved : goal.loop-k-preserved
 loop-k-preserved g c =
@@ -41,12 +41,12 @@ returns-clause-judges g c =
     let past : length c.args.pairs.now ≤ c.loop-k.k = omega arith in
     sym c.loop-k.invariant ∙ entries_end program s (rows_of c.args.basis.now) c.args.leads.now c.args.section c.loop-k.listed c.args.pairs.now c.loop-k.k past
 
-pub returns-clause-treatable : goal.returns-clause-treatable
+pub returns-clause-fits_leads : goal.returns-clause-fits_leads
 unfolding check_pairs
-returns-clause-treatable g c =
+returns-clause-fits_leads g c =
     let s = g.R.OreRing.sig c.args.ring.now in
     let past : length c.args.pairs.now ≤ c.loop-k.k = omega arith in
     let entries = check_entries program s (rows_of c.args.basis.now) c.args.leads.now c.args.section 0 [] c.args.pairs.now in
     let passed : check_pairs program s (rows_of c.args.basis.now) c.args.leads.now c.args.section c.args.pairs.now ≡ Ok tt =
     sym c.loop-k.invariant ∙ entries_end program s (rows_of c.args.basis.now) c.args.leads.now c.args.section c.loop-k.listed c.args.pairs.now c.loop-k.k past in
-    entries_treatable s (rows_of c.args.basis.now) c.args.leads.now c.args.section 0 [] c.args.pairs.now (bound _ (λ u. entries) tt passed).2
+    entries_fit s (rows_of c.args.basis.now) c.args.leads.now c.args.section 0 [] c.args.pairs.now (bound _ (λ u. entries) tt passed).2

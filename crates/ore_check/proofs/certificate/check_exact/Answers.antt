@@ -4,7 +4,7 @@ use Rattle.ore_rational.specs.Field.{rationals}
 use Rattle.ore_rows.specs.Rows.{AreLong}
 use Rattle.ore_rows.specs.Stored.{HasColumns, rows_of}
 use Rattle.ore_parts.specs.OfSignature.{MatrixOf}
-use Rattle.ore_blocks.specs.CheckBlock.{plain}
+use Rattle.ore_blocks.specs.CheckBlock.{row_matrix_of}
 use Rattle.ore_blocks.specs.declared.place.Section.TheVariants.{Body}
 use Rattle.ore_blocks.proofs.Converted.{wide_rows}
 use Rattle.ore_blocks.proofs.CheckedBlocks.{exact_block_checked}
@@ -20,7 +20,7 @@ returns-in-Ok-clause-exact g c = λ e.
     let l_columns = subst (λ n. HasColumns n l.rows) c.cols-columns.ensures.value c.cols-columns.ensures.fits in
     let a_of : MatrixOf s a = record { columns = a_columns; of = c.requires.a_of } in
     let l_of : MatrixOf s l = record { columns = l_columns; of = c.requires.l_of } in
-    exact_block_checked program s Body (plain a) (plain l) c.args.block.now (wide_rows s a a_of)
+    exact_block_checked program s Body (row_matrix_of a) (row_matrix_of l) c.args.block.now (wide_rows s a a_of)
     (subst (λ n. AreLong rationals n (rows_of l)) (c.requires.fits ∙ sym (rows_count a)) (wide_rows s l l_of))
     c.requires.block_of c.in-Ok.ensures
 

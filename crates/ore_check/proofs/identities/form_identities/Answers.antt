@@ -1,7 +1,7 @@
 use Rattle.std.proofs.Common.{sym, subst}
 use Rattle.ore_algebra.specs.Limits.{program}
 use Rattle.ore_monomial.specs.Gives.{Gives}
-use Rattle.ore_blocks.specs.CheckBlock.{plain}
+use Rattle.ore_blocks.specs.CheckBlock.{row_matrix_of}
 use Rattle.ore_check.specs.Check.{check}
 use Rattle.ore_check.specs.Layout.{line_in}
 use Rattle.ore_check.specs.Plans.{formed_as}
@@ -14,7 +14,7 @@ returns g c =
     let cert = c.args.cert.now in
     record {
       formed = λ claims.
-          let checked = check program s (plain c.args.r.now) cert claims in
+          let checked = check program s (row_matrix_of c.args.r.now) cert claims in
           subst (λ r. Gives (λ (u : Unit {0}). cert) r (formed_as cert checked)) (sym c.answer_stop.ensures)
           (formed_gives cert (line_in cert) c.check.result checked (c.check.ensures.answers claims));
     }

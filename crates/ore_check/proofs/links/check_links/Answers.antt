@@ -7,7 +7,7 @@ use Rattle.ore_ring.specs.Belongs.{Belongs}
 use Rattle.ore_rows.specs.Stored.{OperatorMatrix}
 use Rattle.ore_rows.proofs.Dots.{all_at}
 use Rattle.ore_parts.specs.OfSignature.{IsLinkOf}
-use Rattle.ore_blocks.specs.CheckBlock.{plain}
+use Rattle.ore_blocks.specs.CheckBlock.{row_matrix_of}
 use Rattle.ore_blocks.proofs.Chains.{refuses_as, passed_as}
 use Rattle.ore_check.specs.Check.{check_links}
 use Rattle.ore_check.specs.InnerContracts.{matrix_before}
@@ -34,8 +34,8 @@ returns-in_err-check_link-clause-judges g c =
     let i = c.loop-i.i in
     let p = err_from_is_err_and c.from_residual.result c.from_residual.ensures.1 in
     rw (p.1, p.2) (refuses_as _ _ _ _
-    (ap (λ (m : OperatorMatrix). check_links program s i (plain (matrix_before r links (i - 1))) (plain m) (drop i links)) (sym c.matrix_before.ensures)
-    ∙ links_next program s (plain (matrix_before r links (i - 1))) (plain c.matrix_before.result.now) links i c.get.result.now c.get.ensures)
+    (ap (λ (m : OperatorMatrix). check_links program s i (row_matrix_of (matrix_before r links (i - 1))) (row_matrix_of m) (drop i links)) (sym c.matrix_before.ensures)
+    ∙ links_next program s (row_matrix_of (matrix_before r links (i - 1))) (row_matrix_of c.matrix_before.result.now) links i c.get.result.now c.get.ensures)
     c.loop-i.invariant.told _ c.in_err-check_link.ensures.judges)
 
 pub loop-i-preserved : goal.loop-i-preserved
@@ -49,10 +49,10 @@ loop-i-preserved g c =
     let next = before_next r links i c.get.result.now c.get.ensures in
     record {
       told =
-          (λ j. check_links program s (i + 1) (plain (before j)) (plain (next j)) (drop (i + 1) links))
+          (λ j. check_links program s (i + 1) (row_matrix_of (before j)) (row_matrix_of (next j)) (drop (i + 1) links))
           ∙ passed_as _ _ _ _
-          (ap (λ (m : OperatorMatrix). check_links program s i (plain (matrix_before r links (i - 1))) (plain m) (drop i links)) (sym c.matrix_before.ensures)
-          ∙ links_next program s (plain (matrix_before r links (i - 1))) (plain c.matrix_before.result.now) links i c.get.result.now c.get.ensures)
+          (ap (λ (m : OperatorMatrix). check_links program s i (row_matrix_of (matrix_before r links (i - 1))) (row_matrix_of m) (drop i links)) (sym c.matrix_before.ensures)
+          ∙ links_next program s (row_matrix_of (matrix_before r links (i - 1))) (row_matrix_of c.matrix_before.result.now) links i c.get.result.now c.get.ensures)
           c.loop-i.invariant.told tt c.in_ok-check_link.ensures.judges;
       fits = λ h. ap (λ (m : OperatorMatrix). m.cols) next ∙ c.in_ok-check_link.ensures.fits ∙ ap (λ (m : OperatorMatrix). length m.rows) (sym before);
       few = omega arith;
@@ -66,8 +66,8 @@ returns-clause-judges g c =
     let i = c.loop-i.i in
     let past : length links ≤ i = omega arith in
     let all : i ≡ length links = omega (arith, c.loop-i.invariant.few) in
-    sym c.loop-i.invariant.told ∙ links_end program s (plain (matrix_before r links (i - 1))) (plain (matrix_before r links i)) links i past
-    ∙ (λ j. Ok (plain (matrix_before r links (all j - 1)), plain (matrix_before r links (all j))))
+    sym c.loop-i.invariant.told ∙ links_end program s (row_matrix_of (matrix_before r links (i - 1))) (row_matrix_of (matrix_before r links i)) links i past
+    ∙ (λ j. Ok (row_matrix_of (matrix_before r links (all j - 1)), row_matrix_of (matrix_before r links (all j))))
 
 pub returns-clause-fits : goal.returns-clause-fits
 returns-clause-fits g c = λ h.

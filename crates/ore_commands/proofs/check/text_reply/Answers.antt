@@ -3,7 +3,7 @@ use Rattle.std.specs.Prelude.{codes}
 use Rattle.ore_parts.specs.Reading.{IsFaultOf}
 use Rattle.ore_cert.specs.KindWords.{kind_word}
 use Rattle.ore_cert.specs.WholeText.{IsCertificate}
-use Rattle.ore_blocks.specs.CheckBlock.{plain}
+use Rattle.ore_blocks.specs.CheckBlock.{row_matrix_of}
 use Rattle.ore_check.specs.Meaning.{Means}
 use Rattle.ore_problem.specs.Stored.{system_of}
 use Rattle.ore_reply.specs.Replies.{valid, malformed_at}
@@ -24,7 +24,7 @@ pub returns-in-Ok-clause-valid : goal.returns-in-Ok-clause-valid
 returns-in-Ok-clause-valid c =
     let p = c.args.problem.now in
     let cert = c.in-Ok.certificate in
-    if_ok c.certificate_reply.result (λ r. r.status ≡ Done → Means p.signature (plain p.matrix) cert × (r.text.items ≡ (valid (kind_word cert)).text)) (λ r. r.status ≡ Done → SaysValid (system_of p) c.args.text.now r.text.items) c.certificate_reply.ensures.valid
+    if_ok c.certificate_reply.result (λ r. r.status ≡ Done → Means p.signature (row_matrix_of p.matrix) cert × (r.text.items ≡ (valid (kind_word cert)).text)) (λ r. r.status ≡ Done → SaysValid (system_of p) c.args.text.now r.text.items) c.certificate_reply.ensures.valid
     (λ r h d. let v = h d in (cert, record { written = c.in-Ok.ensures.found.0; certificate = c.in-Ok.ensures.found.1; means = v.0 }, v.1))
 
 pub returns-in-Err-Malformed-clause-reply : goal.returns-in-Err-Malformed-clause-reply

@@ -1,5 +1,5 @@
 use Rattle.std.proofs.Common.{◌≡◌, inl, [], ap, sym, subst, ◌∙◌}
-use Rattle.ore_blocks.specs.CheckBlock.{plain}
+use Rattle.ore_blocks.specs.CheckBlock.{row_matrix_of}
 use Rattle.ore_groebner.specs.Choosing.{AreWithinBudget}
 use Rattle.ore_problem.specs.Stored.{system_of}
 use Rattle.ore_reply.specs.MadeReply.{reply_of}
@@ -14,7 +14,7 @@ use Rattle.ore_commands.proofs.search.reply_in.Goals as goal
 pub returns-in-Ok : goal.returns-in-Ok
 returns-in-Ok g c =
     let p = system_of c.args.problem in
-    let r = plain c.args.problem.matrix in
+    let r = row_matrix_of c.args.problem.matrix in
     let found = c.in-Ok.found in
     let before = c.new-chooser.result in
     let after = c.find.new.chooser in

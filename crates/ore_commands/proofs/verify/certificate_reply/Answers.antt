@@ -1,6 +1,6 @@
 use Rattle.std.proofs.Common.{◌≡◌, subst}
 use Rattle.ore_cert.specs.KindWords.{kind_word}
-use Rattle.ore_blocks.specs.CheckBlock.{plain}
+use Rattle.ore_blocks.specs.CheckBlock.{row_matrix_of}
 use Rattle.ore_check.specs.Meaning.{Means}
 use Rattle.ore_problem.specs.Stored.{system_of}
 use Rattle.ore_reply.specs.Replies.{valid}
@@ -26,5 +26,5 @@ returns-clause-valid c =
     let cert = c.args.cert.now in
     let problem = c.args.problem.now in
     let given = c.checked-answer.result in
-    if_ok c.answer_reply.result (λ r. IsAnswerReply lines c.word.result.now given (reply_of r)) (λ r. r.status ≡ Done → Means problem.signature (plain problem.matrix) cert × (r.text.items ≡ (valid (kind_word cert)).text)) c.answer_reply.ensures
+    if_ok c.answer_reply.result (λ r. IsAnswerReply lines c.word.result.now given (reply_of r)) (λ r. r.status ≡ Done → Means problem.signature (row_matrix_of problem.matrix) cert × (r.text.items ≡ (valid (kind_word cert)).text)) c.answer_reply.ensures
     (λ r h done. let v = done_valid lines (kind_word cert) (reply_of r) given (subst (λ word. IsAnswerReply lines word given (reply_of r)) c.word.ensures h) done in (c.checked-answer.ensures.means v.0, v.1))

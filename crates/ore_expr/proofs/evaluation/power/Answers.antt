@@ -2,11 +2,13 @@ use Rattle.std.proofs.Common.{◌+◌, sym, ap, ◌∙◌, subst, arith}
 use Rattle.std.proofs.lemmas.Result.{err_from_is_err_and}
 use Rattle.std.specs.declared.result.Result.TheVariants.{Ok}
 use Rattle.ore_algebra.specs.Limits.{program}
+use Rattle.ore_rational.specs.Field.{rationals}
 use Rattle.ore_monomial.proofs.Stops.{fails_like}
 use Rattle.ore_monomial.specs.Gives.{Gives}
+use Rattle.ore_monomial.specs.LetterRule.{constant}
 use Rattle.ore_ring.specs.Belongs.{Belongs}
 use Rattle.ore_ring.specs.Ordered.{Ordered}
-use Rattle.ore_expr.specs.Values.{constant, power_within}
+use Rattle.ore_expr.specs.Values.{power_within}
 use Rattle.ore_expr.proofs.Stacks.{power_next, power_stops}
 use Rattle.ore_expr.proofs.evaluation.power.Goals as goal
 
@@ -15,7 +17,7 @@ unfolding power_within
 returns-then-count-eq0-clause-gives g c =
     let s = g.R.OreRing.sig c.args.ring.now in
     subst (λ n. Gives (λ (w : Ordered). w.sum) c.constant.result (power_within program s n c.args.f.now.sum)) (sym c.if-count-eq0.true)
-    (subst (λ q. Gives (λ (w : Ordered). w.sum) c.constant.result (Ok (constant q))) c.one.ensures c.constant.ensures.gives)
+    (subst (λ q. Gives (λ (w : Ordered). w.sum) c.constant.result (Ok (constant rationals q))) c.one.ensures c.constant.ensures.gives)
 
 pub loop-init : goal.loop-init
 unfolding power_within

@@ -6,8 +6,9 @@ use Rattle.std.proofs.lemmas.List.FromFn.{map-range_with_len_more}
 use Rattle.ore_algebra.specs.Free.{empty_sum}
 use Rattle.ore_rational.specs.Field.{rationals}
 use Rattle.ore_monomial.specs.Monomial.{plain_cmp}
+use Rattle.ore_monomial.specs.LetterRule.{constant}
 use Rattle.ore_ring.specs.Ordered.{Ordered}
-use Rattle.ore_pairs.specs.Run.{constant, entry_row}
+use Rattle.ore_pairs.specs.Run.{entry_row}
 use Rattle.ore_rows.specs.Stored.{sums_of}
 use Rattle.ore_groebner.proofs.entries.entry_row.Goals as goal
 

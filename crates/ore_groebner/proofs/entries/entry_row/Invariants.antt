@@ -4,8 +4,8 @@ use Rattle.std.specs.List.{All, range_with_len}
 use Rattle.ore_algebra.specs.Free.{empty_sum}
 use Rattle.ore_rational.specs.Field.{rationals}
 use Rattle.ore_monomial.specs.Monomial.{plain_cmp}
+use Rattle.ore_monomial.specs.LetterRule.{constant}
 use Rattle.ore_ring.specs.Belongs.{Belongs}
-use Rattle.ore_pairs.specs.Run.{constant}
 use Rattle.ore_rows.specs.Stored.{sums_of}
 use Rattle.ore_groebner.proofs.entries.entry_row.Given as goal
 

@@ -1,7 +1,8 @@
 use Rattle.std.proofs.Common.{ap, ◌∙◌}
 use Rattle.ore_rational.specs.Field.{rationals}
 use Rattle.ore_monomial.specs.Term.{Term}
-use Rattle.ore_pairs.specs.Run.{constant, entry_row}
+use Rattle.ore_monomial.specs.LetterRule.{constant}
+use Rattle.ore_pairs.specs.Run.{entry_row}
 use Rattle.ore_rows.specs.Stored.{sums_of}
 use Rattle.ore_rows.proofs.StoredBases.{zeros_lead}
 use Rattle.ore_groebner.proofs.Multiples.{from_zero, from_lead}

@@ -15,7 +15,7 @@ use Rattle.ore_rows.specs.StoredBasis.{StoredBasis, monics}
 use Rattle.ore_rows.proofs.Dots.{all_at}
 use Rattle.ore_groebner.specs.RunProgress.{run_state, IsBegun}
 use Rattle.ore_groebner.specs.declared.progress.Progress.{Progress}
-use Rattle.ore_groebner.proofs.FirstBasis.{begun_first, rows_start, rows_next, rows_stop, rows_end, empty_kept}
+use Rattle.ore_groebner.proofs.FirstBasis.{begun_first, rows_start, rows_next, rows_stop, rows_end, empty_fits}
 use Rattle.ore_groebner.proofs.first.begin.Goals as goal
 
 pub loop-k-init : goal.loop-k-init
@@ -25,7 +25,7 @@ loop-k-init g c =
     let begun : IsBegun p = record { events = c.new-3.ensures.items; listed = c.new-2.ensures } in
     record {
       told = rows_start s (rows_of c.args.a.now) p (ap monics c.new.ensures) begun c.new-4.ensures.items c.new-5.ensures.items;
-      kept = empty_kept s p _ _ c.new.ensures refl begun c.new-4.ensures.items;
+      fits = empty_fits s p _ _ c.new.ensures refl begun c.new-4.ensures.items;
       begun = begun;
       cols = ap (λ (b : StoredBasis). b.cols) c.new.ensures ∙ c.cols.ensures.value;
       width = ap (λ (b : StoredBasis). b.width) c.new.ensures ∙ c.rows.ensures.value;
@@ -52,7 +52,7 @@ loop-k-preserved g c =
     let width = length-map a.rows sums_of ∙ sym i.width in
     record {
       told = i.told ∙ rows_next s (rows_of a) (length (rows_of a)) c.loop-k.k (sums_of c.row.result.now) (run_state c.loop-k.progress) (run_state c.in_ok-progress.progress) (slice_get-map sums_of a.rows c.loop-k.k ∙ ap (option_map sums_of) c.row.ensures.value) (ap (λ n. run.begin_row rationals rational_inverses s.order (within program s) n c.loop-k.k (sums_of c.row.result.now) (run_state c.loop-k.progress)) width ∙ e.gives);
-      kept = e.kept;
+      fits = e.fits;
       begun = e.begun;
       cols = e.widths.cols ∙ i.cols;
       width = e.widths.width ∙ i.width;
@@ -68,5 +68,5 @@ returns-clause-gives g c =
 pub returns-clause-first : goal.returns-clause-first
 returns-clause-first g c =
     let i = c.loop-k.invariant in
-    let e = begun_first (g.R.OreRing.sig c.args.ring.now) c.loop-k.progress i.kept i.begun in
+    let e = begun_first (g.R.OreRing.sig c.args.ring.now) c.loop-k.progress i.fits i.begun in
     (e, grind (arith, e, i.few, c.rows-k-end.ensures.value))

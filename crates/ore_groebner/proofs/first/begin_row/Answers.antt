@@ -17,8 +17,8 @@ use Rattle.ore_groebner.specs.RunProgress.{run_state, with_basis_row, IsProgress
 use Rattle.ore_groebner.proofs.FirstBasis.{begin_none, begin_some}
 use Rattle.ore_groebner.proofs.first.begin_row.Goals as goal
 
-pub begin_zero-requires-clause-kept : goal.begin_zero-requires-clause-kept
-begin_zero-requires-clause-kept g c = subst (λ (v : Signature). IsProgressOf v c.args.progress) (sym c.signature-in-None.ensures) c.requires.kept
+pub begin_zero-requires-clause-fits : goal.begin_zero-requires-clause-fits
+begin_zero-requires-clause-fits g c = subst (λ (v : Signature). IsProgressOf v c.args.progress) (sym c.signature-in-None.ensures) c.requires.fits
 
 pub begin_monic-requires-clause-lead : goal.begin_monic-requires-clause-lead
 begin_monic-requires-clause-lead g c =

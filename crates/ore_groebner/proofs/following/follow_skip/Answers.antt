@@ -9,12 +9,12 @@ pub returns : goal.returns
 returns c =
     let s = c.args.sig.now in
     let p = c.args.progress in
-    let lawful = lawful_kept s p (choices.Skip c.args.i c.args.j c.args.via) c.requires.kept c.requires.lawful in
+    let lawful = lawful_kept s p (choices.Skip c.args.i c.args.j c.args.via) c.requires.fits c.requires.lawful in
     let e = c.in_ok-skip.ensures in
     record {
       followed = record {
         made = skip_followed s (run_state p) c.args.i c.args.j c.args.via lawful ∙ ap Ok (sym e.state);
-        kept = e.kept s c.requires.kept;
+        fits = e.fits s c.requires.fits;
         shape = e.shape;
         listed = e.listed;
       };

@@ -10,11 +10,11 @@ pub returns-in-Ok-clause-followed : goal.returns-in-Ok-clause-followed
 returns-in-Ok-clause-followed g c =
     let s = g.R.OreRing.sig c.args.ring.now in
     let p = c.args.progress in
-    let lawful = lawful_kept s p (choices.Treat c.args.i c.args.j) c.requires.kept c.requires.lawful in
+    let lawful = lawful_kept s p (choices.Treat c.args.i c.args.j) c.requires.fits c.requires.lawful in
     let e = c.in-Ok.ensures in
     record {
       made = treat_followed s (run_state p) c.args.i c.args.j lawful _ e.gives;
-      kept = e.kept;
+      fits = e.fits;
       shape = e.shape;
       listed = e.listed;
     }
@@ -23,7 +23,7 @@ pub returns-in-Err-clause-halted : goal.returns-in-Err-clause-halted
 returns-in-Err-clause-halted g c =
     let s = g.R.OreRing.sig c.args.ring.now in
     let p = c.args.progress in
-    let lawful = lawful_kept s p (choices.Treat c.args.i c.args.j) c.requires.kept c.requires.lawful in
+    let lawful = lawful_kept s p (choices.Treat c.args.i c.args.j) c.requires.fits c.requires.lawful in
     subst (IsStopOf s (run_state p) (choices.Treat c.args.i c.args.j)) (sym c.halt_at.ensures) (treat_stops s (run_state p) c.args.i c.args.j lawful c.in-Err.stop c.in-Err.ensures.gives)
 
 pub treat-requires-clause-ordered : goal.treat-requires-clause-ordered

@@ -7,7 +7,7 @@ use Rattle.ore_pairs.specs.PairList as pair
 use Rattle.ore_rows.specs.StoredBasis.{monic_of}
 use Rattle.ore_division.specs.StoredWork.{work_of}
 use Rattle.ore_groebner.specs.RunProgress.{new_rows, choices_of}
-use Rattle.ore_groebner.proofs.ProgressParts.{choices_push, entry_row, entries_more, kept_more, row_stops, row_state, one_new_row, new_rows-row}
+use Rattle.ore_groebner.proofs.ProgressParts.{choices_push, entry_row, entries_more, fits_more, row_stops, row_state, one_new_row, new_rows-row}
 use Rattle.ore_groebner.specs.declared.outcome.Event.TheVariants.{Treated}
 use Rattle.ore_groebner.specs.declared.outcome.Outcome.TheVariants.{NewRow}
 use Rattle.ore_groebner.specs.declared.progress.Progress.{Progress}
@@ -26,16 +26,16 @@ returns-clause-gives g c t lead =
     let e = Treated c.args.i c.args.j w.steps (NewRow c.args.coef) in
     let entry = pair.Pair c.args.i c.args.j (w.steps ++ record { index = p.first + new_rows p.events.items; monomial = unit; number = c.args.coef } ∷ []) in
     let q : Progress = record { first = p.first; basis = c.in_ok-basis.basis; listed = c.add.new.self; events = c.push.new.self; syzygies = p.syzygies; origins = p.origins } in
-    row_state s p c.args.i c.args.j (work_of w) t q c.args.coef lead.stands (length-map p.basis.items monic_of ∙ c.requires.kept.counted) (entries_more p q e c.args.i c.args.j entry refl refl refl c.in_ok-push.ensures.items (entry_row _ c.args.i c.args.j w.steps c.args.coef)) refl refl (c.in_ok-basis.ensures.gives t lead)
+    row_state s p c.args.i c.args.j (work_of w) t q c.args.coef lead.stands (length-map p.basis.items monic_of ∙ c.requires.fits.counted) (entries_more p q e c.args.i c.args.j entry refl refl refl c.in_ok-push.ensures.items (entry_row _ c.args.i c.args.j w.steps c.args.coef)) refl refl (c.in_ok-basis.ensures.gives t lead)
 
-pub returns-clause-kept : goal.returns-clause-kept
-returns-clause-kept g c =
+pub returns-clause-fits : goal.returns-clause-fits
+returns-clause-fits g c =
     let s = g.R.OreRing.sig c.args.ring.now in
     let p = c.args.progress in
     let w = c.args.work in
     let e = Treated c.args.i c.args.j w.steps (NewRow c.args.coef) in
     let entry = pair.Pair c.args.i c.args.j (w.steps ++ record { index = p.first + new_rows p.events.items; monomial = unit; number = c.args.coef } ∷ []) in
-    kept_more p _ e c.args.i c.args.j entry refl refl refl c.in_ok-push.ensures.items (entry_row _ c.args.i c.args.j w.steps c.args.coef) s c.requires.kept c.in_ok-add.ensures.added c.in_ok-basis.ensures.basis_of (one_new_row _ _ _ c.in_ok-basis.ensures.count (new_rows-row c.args.i c.args.j w.steps c.args.coef)) c.in_ok-basis.ensures.width refl
+    fits_more p _ e c.args.i c.args.j entry refl refl refl c.in_ok-push.ensures.items (entry_row _ c.args.i c.args.j w.steps c.args.coef) s c.requires.fits c.in_ok-add.ensures.added c.in_ok-basis.ensures.basis_of (one_new_row _ _ _ c.in_ok-basis.ensures.count (new_rows-row c.args.i c.args.j w.steps c.args.coef)) c.in_ok-basis.ensures.width refl
 
 pub returns-clause-shape : goal.returns-clause-shape
 returns-clause-shape g c = record {

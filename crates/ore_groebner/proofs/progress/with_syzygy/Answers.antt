@@ -13,8 +13,8 @@ returns-clause-syzygies c =
     ∙ map-append sums_of c.args.progress.syzygies.items (c.args.cofactor ∷ [])
     ∙ sym (ap (λ rs. map sums_of c.args.progress.syzygies.items ++ rs) (unless_zero-row c.args.sig.now.order c.args.cofactor (λ z. true≢false (sym (c.if-is_zero.ensures.1 z)))))
 
-pub returns-clause-kept : goal.returns-clause-kept
-returns-clause-kept c = more_syzygies c.args.sig.now c.args.progress _ c.args.cofactor c.requires.kept refl refl refl refl c.in_ok-push.ensures.items c.requires.width c.requires.of
+pub returns-clause-fits : goal.returns-clause-fits
+returns-clause-fits c = more_syzygies c.args.sig.now c.args.progress _ c.args.cofactor c.requires.fits refl refl refl refl c.in_ok-push.ensures.items c.requires.width c.requires.of
 
 pub returns-then-is_zero-clause-origins : goal.returns-then-is_zero-clause-origins
 returns-then-is_zero-clause-origins c = sym (ap (λ rs. c.args.progress.origins.items ++ map (λ _. c.args.origin) rs) (unless_zero-zero c.args.sig.now.order c.args.cofactor (c.if-is_zero.ensures.0 refl)) ∙ append-nil _)

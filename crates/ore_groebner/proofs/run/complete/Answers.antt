@@ -107,7 +107,7 @@ loop-progress-preserved g c =
     record {
       begun = λ z. with_choice-begun given d i.begun (sym now ∙ z);
       led = subst (λ cs. IsLed s a g.C.Rule.allows cs q) (sym (ap present now ∙ present-with_choice given d i.begun)) (led_next s a g.C.Rule.allows (present given) d p q i.led c.chosen.ensures.leads allowed f);
-      grown = subst (λ (shown : BasisLeads). BeginsWithLeads shown q.basis) (sym e.shown) (grown_shown s p q longer.0 i.led.kept f.kept c.chosen.ensures.leads c.cols-cols.ensures.leads longer.1);
+      grown = subst (λ (shown : BasisLeads). BeginsWithLeads shown q.basis) (sym e.shown) (grown_shown s p q longer.0 i.led.fits f.fits c.chosen.ensures.leads c.cols-cols.ensures.leads longer.1);
       earlier = ap earlier now ∙ earlier-with_choice given d ∙ i.earlier;
       within_budget = λ h. within_budget_next given (g.C.Chooser.given c.chosen.new.chooser) (g.C.Chooser.settings c.loop-progress.chooser).budget (g.C.Chooser.settings c.chosen.new.chooser).budget d i.begun now (ap (λ (v : Settings). v.budget) c.chosen.ensures.settings) next.1 (i.within_budget h);
       settings = c.chosen.ensures.settings ∙ i.settings;

@@ -25,7 +25,7 @@ complete-requires-clause-led g c =
     let p = c.in-Ok.progress in
     let e = c.in-Ok.ensures in
     subst (λ cs. IsLed s a g.C.Rule.allows cs p) (sym (ap present c.in-Ok-start_run.ensures.begun ∙ present-start (g.C.Chooser.given c.args.chooser.now)))
-    (led_start s a g.C.Rule.allows p e.gives e.kept e.begun e.first.0 e.cols e.width)
+    (led_start s a g.C.Rule.allows p e.gives e.fits e.begun e.first.0 e.cols e.width)
 
 pub complete-requires-clause-grown : goal.complete-requires-clause-grown
 complete-requires-clause-grown g c =
@@ -110,5 +110,5 @@ returns-clause-answered g c =
     let led = c.in_ok-progress.ensures.led in
     let f = c.finished.ensures in
     run_answered s g.C.Rule.allows g.C.Rule.allows_spent c.args.a.now (g.C.Chooser.given c.args.chooser.now) (g.C.Chooser.given c.complete.new.chooser) p c.finished.result led c.in_ok-progress.ensures.listed
-    (last_led s p c.finished.result led.kept f.basis f.events (ap rows_of f.syzygies) f.origins)
+    (last_led s p c.finished.result led.fits f.basis f.events (ap rows_of f.syzygies) f.origins)
     (one_more (g.C.Chooser.given c.args.chooser.now) (g.C.Chooser.given c.complete.new.chooser) c.complete.ensures.begun (c.complete.ensures.earlier ∙ ap earlier c.in-Ok-start_run.ensures.begun))

@@ -4,7 +4,7 @@ use Rattle.std.proofs.lemmas.Result.{err_from_is_err_and}
 use Rattle.ore_algebra.specs.Limits.{program}
 use Rattle.ore_cert.specs.CertificateOf.{IsCertificateOf}
 use Rattle.ore_cert.specs.declared.certificate.Certificate.{Certificate}
-use Rattle.ore_blocks.specs.CheckBlock.{plain}
+use Rattle.ore_blocks.specs.CheckBlock.{row_matrix_of}
 use Rattle.ore_check.specs.Check.{IsNoReport}
 use Rattle.ore_check.specs.Plans.{IsFormed, inverse_left}
 use Rattle.ore_check.proofs.LastWork.{certified_halts, certified_as}
@@ -19,7 +19,7 @@ returns-in_err-answer-clause-halts g c =
     let chooser = c.find_left.new.chooser in
     let e = err_from_is_err_and c.from_residual.result c.from_residual.ensures.1 in
     rw (e.1, e.2)
-    (left_halts (g.R.OreRing.sig c.args.ring.now) g.C.Rule.allows g.C.Rule.allows_spent (plain c.args.r.now) (g.C.Chooser.given c.args.chooser.now) (g.C.Chooser.given chooser) (g.C.Chooser.settings chooser) _ c.in_err-answer.ensures.halts)
+    (left_halts (g.R.OreRing.sig c.args.ring.now) g.C.Rule.allows g.C.Rule.allows_spent (row_matrix_of c.args.r.now) (g.C.Chooser.given c.args.chooser.now) (g.C.Chooser.given chooser) (g.C.Chooser.settings chooser) _ c.in_err-answer.ensures.halts)
 
 pub certify-requires-clause-cert_of : goal.certify-requires-clause-cert_of
 certify-requires-clause-cert_of g c = subst (IsCertificateOf (g.R.OreRing.sig c.args.ring.now)) (sym c.left_certificate_of.ensures) c.in_ok-answer.ensures.of
@@ -30,7 +30,7 @@ certify-requires-clause-claims g c = subst IsNoReport (sym c.left_certificate_of
 pub returns-in_err-certify-clause-halts : goal.returns-in_err-certify-clause-halts
 returns-in_err-certify-clause-halts g c =
     let s = g.R.OreRing.sig c.args.ring.now in
-    let r = plain c.args.r.now in
+    let r = row_matrix_of c.args.r.now in
     let before = g.C.Chooser.given c.args.chooser.now in
     let chooser = c.find_left.new.chooser in
     let given = g.C.Chooser.given chooser in
@@ -44,7 +44,7 @@ returns-in_err-certify-clause-halts g c =
 pub returns-clause-answered : goal.returns-clause-answered
 returns-clause-answered g c =
     let s = g.R.OreRing.sig c.args.ring.now in
-    let r = plain c.args.r.now in
+    let r = row_matrix_of c.args.r.now in
     let before = g.C.Chooser.given c.args.chooser.now in
     let given = g.C.Chooser.given c.find_left.new.chooser in
     let x = c.in_ok-answer.answer in
@@ -64,4 +64,4 @@ returns-clause-kind g c = subst IsOfLeftInverse (sym (c.in_ok-certify.ensures.sa
 
 pub returns-clause-first : goal.returns-clause-first
 returns-clause-first g c =
-    subst (NamesFirstUnit (g.R.OreRing.sig c.args.ring.now) (plain c.args.r.now)) (sym (c.in_ok-certify.ensures.same ∙ c.left_certificate_of.ensures)) c.in_ok-answer.ensures.first
+    subst (NamesFirstUnit (g.R.OreRing.sig c.args.ring.now) (row_matrix_of c.args.r.now)) (sym (c.in_ok-certify.ensures.same ∙ c.left_certificate_of.ensures)) c.in_ok-answer.ensures.first

@@ -4,7 +4,7 @@ use Rattle.std.proofs.lemmas.Result.{err_from_is_err_and}
 use Rattle.ore_algebra.specs.Limits.{program}
 use Rattle.ore_cert.specs.CertificateOf.{IsCertificateOf}
 use Rattle.ore_cert.specs.declared.certificate.Certificate.{Certificate}
-use Rattle.ore_blocks.specs.CheckBlock.{RowMatrix, plain}
+use Rattle.ore_blocks.specs.CheckBlock.{RowMatrix, row_matrix_of}
 use Rattle.ore_check.specs.Check.{IsNoReport}
 use Rattle.ore_check.specs.Plans.{IsFormed, inverse_right}
 use Rattle.ore_check.proofs.LastWork.{certified_halts, certified_as}
@@ -58,8 +58,8 @@ returns-in_err-certify-clause-halts g c =
     let left = right_found s g.C.Rule.allows g.C.Rule.allows_spent r before c.in_ok-adjoint.adjoint turned.cols turned.count turned.gives given c.in_ok-found.found c.in_ok-found.ensures.answered y c.in_ok-answer.ensures.gives in
     let e = err_from_is_err_and c.from_residual-in_err-certify.result c.from_residual-in_err-certify.ensures.1 in
     rw (e.1, e.2)
-    (certified_halts s g.C.Rule.allows g.C.Rule.allows_spent (inverse_right program s (plain r)) before given (plain r) (right_certificate_of y) (no_right_report y) left (g.C.Chooser.settings chooser) _
-    (subst (λ (d : Certificate). IsFormed s (plain r) d (Err c.in_err-certify.field-0.0)) c.right_certificate_of.ensures c.in_err-certify.ensures.formed))
+    (certified_halts s g.C.Rule.allows g.C.Rule.allows_spent (inverse_right program s (row_matrix_of r)) before given (row_matrix_of r) (right_certificate_of y) (no_right_report y) left (g.C.Chooser.settings chooser) _
+    (subst (λ (d : Certificate). IsFormed s (row_matrix_of r) d (Err c.in_err-certify.field-0.0)) c.right_certificate_of.ensures c.in_err-certify.ensures.formed))
 
 pub returns-clause-answered : goal.returns-clause-answered
 returns-clause-answered g c =
@@ -70,8 +70,8 @@ returns-clause-answered g c =
     let turned = c.in_ok-adjoint.ensures in
     let y = c.in_ok-answer.answer in
     let left = right_found s g.C.Rule.allows g.C.Rule.allows_spent r before c.in_ok-adjoint.adjoint turned.cols turned.count turned.gives given c.in_ok-found.found c.in_ok-found.ensures.answered y c.in_ok-answer.ensures.gives in
-    certified_as s g.C.Rule.allows g.C.Rule.allows_spent (inverse_right program s (plain r)) before given (plain r) (right_certificate_of y) (no_right_report y) left _
-    (subst (λ (d : Certificate). IsFormed s (plain r) d (Ok c.in_ok-certify.field-0)) c.right_certificate_of.ensures c.in_ok-certify.ensures.formed)
+    certified_as s g.C.Rule.allows g.C.Rule.allows_spent (inverse_right program s (row_matrix_of r)) before given (row_matrix_of r) (right_certificate_of y) (no_right_report y) left _
+    (subst (λ (d : Certificate). IsFormed s (row_matrix_of r) d (Ok c.in_ok-certify.field-0)) c.right_certificate_of.ensures c.in_ok-certify.ensures.formed)
 
 pub returns-clause-correct : goal.returns-clause-correct
 returns-clause-correct g c =
@@ -90,4 +90,4 @@ returns-clause-first g c =
     let x = c.in_ok-found.found in
     let star = adjoint_is s r c.in_ok-adjoint.adjoint c.in_ok-adjoint.ensures.cols c.in_ok-adjoint.ensures.gives in
     let first = subst (λ (a : RowMatrix). NamesFirstUnit s a (left_certificate_of x)) star c.in_ok-found.ensures.first in
-    subst (NamesFirstUnit s (plain r)) (sym (c.in_ok-certify.ensures.same ∙ c.right_certificate_of.ensures)) (first_turned s (plain r) x c.in_ok-answer.answer c.in_ok-answer.ensures.gives first)
+    subst (NamesFirstUnit s (row_matrix_of r)) (sym (c.in_ok-certify.ensures.same ∙ c.right_certificate_of.ensures)) (first_turned s (row_matrix_of r) x c.in_ok-answer.answer c.in_ok-answer.ensures.gives first)

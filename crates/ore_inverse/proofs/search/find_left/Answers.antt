@@ -1,6 +1,6 @@
 use Rattle.std.proofs.Common.{subst}
 use Rattle.std.proofs.lemmas.Result.{err_from_is_err_and}
-use Rattle.ore_blocks.specs.CheckBlock.{plain}
+use Rattle.ore_blocks.specs.CheckBlock.{row_matrix_of}
 use Rattle.ore_check.proofs.LastWork.{memory_halts}
 use Rattle.ore_syzygy.proofs.RunKernels.{matrix_of}
 use Rattle.ore_inverse.specs.Search.{left_search}
@@ -44,7 +44,7 @@ returns-in_err-block-in-LeavesRest-clause-halts g c =
     let chooser = c.run_on.new.chooser in
     let e = err_from_is_err_and c.from_residual-in_err-block-in-LeavesRest.result c.from_residual-in_err-block-in-LeavesRest.ensures.1 in
     rw (e.1, e.2)
-    (memory_halts s g.C.Rule.allows g.C.Rule.allows_spent (left_search s (plain c.args.a.now)) (g.C.Chooser.given c.args.chooser.now) (g.C.Chooser.given chooser) (g.C.Chooser.settings chooser) _ c.in_err-block-in-LeavesRest.ensures.memory)
+    (memory_halts s g.C.Rule.allows g.C.Rule.allows_spent (left_search s (row_matrix_of c.args.a.now)) (g.C.Chooser.given c.args.chooser.now) (g.C.Chooser.given chooser) (g.C.Chooser.settings chooser) _ c.in_err-block-in-LeavesRest.ensures.memory)
 
 pub returns-in_ok-block-in-LeavesRest-clause-answered : goal.returns-in_ok-block-in-LeavesRest-clause-answered
 returns-in_ok-block-in-LeavesRest-clause-answered g c =

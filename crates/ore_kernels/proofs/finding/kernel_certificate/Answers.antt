@@ -1,6 +1,6 @@
 use Rattle.std.proofs.lemmas.Result.{err_from_is_err_and}
 use Rattle.ore_cert.specs.declared.certificate.Certificate.TheVariants.{Kernel}
-use Rattle.ore_blocks.specs.CheckBlock.{plain}
+use Rattle.ore_blocks.specs.CheckBlock.{row_matrix_of}
 use Rattle.ore_check.proofs.LastWork.{memory_halts, certified_halts, certified_as}
 use Rattle.ore_syzygy.proofs.RunKernels.{matrix_of}
 use Rattle.ore_kernels.specs.KernelPlans.{kernel_course}
@@ -13,7 +13,7 @@ returns-in_err-block-clause-halts g c =
     let chooser = c.find_kernel.new.chooser in
     let e = err_from_is_err_and c.from_residual-in_err-block.result c.from_residual-in_err-block.ensures.1 in
     rw (e.1, e.2)
-    (memory_halts s g.C.Rule.allows g.C.Rule.allows_spent (kernel_course c.args.side s (plain c.args.r.now)) (g.C.Chooser.given c.args.chooser.now) (g.C.Chooser.given chooser) (g.C.Chooser.settings chooser) _ c.in_err-block.ensures.memory)
+    (memory_halts s g.C.Rule.allows g.C.Rule.allows_spent (kernel_course c.args.side s (row_matrix_of c.args.r.now)) (g.C.Chooser.given c.args.chooser.now) (g.C.Chooser.given chooser) (g.C.Chooser.settings chooser) _ c.in_err-block.ensures.memory)
 
 pub certify-requires-clause-cert_of : goal.certify-requires-clause-cert_of
 certify-requires-clause-cert_of g c =
@@ -22,7 +22,7 @@ certify-requires-clause-cert_of g c =
 pub returns-in_err-certify-clause-halts : goal.returns-in_err-certify-clause-halts
 returns-in_err-certify-clause-halts g c =
     let s = g.R.OreRing.sig c.args.ring.now in
-    let r = plain c.args.r.now in
+    let r = row_matrix_of c.args.r.now in
     let before = g.C.Chooser.given c.args.chooser.now in
     let given = g.C.Chooser.given c.find_kernel.new.chooser in
     let kernel = c.in_ok-kernel.kernel in
@@ -35,7 +35,7 @@ returns-in_err-certify-clause-halts g c =
 pub returns-clause-answered : goal.returns-clause-answered
 returns-clause-answered g c =
     let s = g.R.OreRing.sig c.args.ring.now in
-    let r = plain c.args.r.now in
+    let r = row_matrix_of c.args.r.now in
     let before = g.C.Chooser.given c.args.chooser.now in
     let given = g.C.Chooser.given c.find_kernel.new.chooser in
     let kernel = c.in_ok-kernel.kernel in

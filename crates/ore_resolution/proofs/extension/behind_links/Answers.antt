@@ -1,7 +1,7 @@
 use Rattle.std.proofs.lemmas.Result.{err_from_is_err_and}
 use Rattle.ore_algebra.specs.Limits.{program}
 use Rattle.ore_cert.specs.declared.certificate.Certificate.TheVariants.{ExtZero, ExtNonzero}
-use Rattle.ore_blocks.specs.CheckBlock.{plain}
+use Rattle.ore_blocks.specs.CheckBlock.{row_matrix_of}
 use Rattle.ore_check.specs.Plans.{extension}
 use Rattle.ore_check.proofs.LastWork.{memory_halts, certified_halts, certified_as}
 use Rattle.ore_inverse.proofs.StoredRuns.{has_run}
@@ -41,7 +41,7 @@ returns-in_err-block-in-AllReduce-clause-halts g c =
     let chooser = c.reduce_elements.new.chooser in
     let e = err_from_is_err_and c.from_residual-in_err-block-in-AllReduce.result c.from_residual-in_err-block-in-AllReduce.ensures.1 in
     rw (e.1, e.2)
-    (memory_halts s g.C.Rule.allows g.C.Rule.allows_spent (extension program s (plain r) (resolution_of r c.args.links)) (g.C.Chooser.given c.args.chooser.now) (g.C.Chooser.given chooser) (g.C.Chooser.settings chooser) _ c.in_err-block-in-AllReduce.ensures.memory)
+    (memory_halts s g.C.Rule.allows g.C.Rule.allows_spent (extension program s (row_matrix_of r) (resolution_of r c.args.links)) (g.C.Chooser.given c.args.chooser.now) (g.C.Chooser.given chooser) (g.C.Chooser.settings chooser) _ c.in_err-block-in-AllReduce.ensures.memory)
 
 pub returns-in_err-certify-in-AllReduce-clause-halts :
     goal.returns-in_err-certify-in-AllReduce-clause-halts
@@ -58,7 +58,7 @@ returns-in_err-certify-in-AllReduce-clause-halts g c =
     c.in-AllReduce.combinations c.in-AllReduce.is block c.in_ok-block-in-AllReduce.ensures.value in
     let e = err_from_is_err_and c.from_residual-in_err-certify-in-AllReduce.result c.from_residual-in_err-certify-in-AllReduce.ensures.1 in
     rw (e.1, e.2)
-    (certified_halts s g.C.Rule.allows g.C.Rule.allows_spent (extension program s (plain r) (resolution_of r c.args.links)) start given (plain r) (ExtZero c.args.links block) tt left (g.C.Chooser.settings chooser) _ c.in_err-certify-in-AllReduce.ensures.formed)
+    (certified_halts s g.C.Rule.allows g.C.Rule.allows_spent (extension program s (row_matrix_of r) (resolution_of r c.args.links)) start given (row_matrix_of r) (ExtZero c.args.links block) tt left (g.C.Chooser.settings chooser) _ c.in_err-certify-in-AllReduce.ensures.formed)
 
 pub returns-in_ok-certify-in-AllReduce-clause-answered : goal.returns-in_ok-certify-in-AllReduce-clause-answered
 returns-in_ok-certify-in-AllReduce-clause-answered g c =
@@ -71,7 +71,7 @@ returns-in_ok-certify-in-AllReduce-clause-answered g c =
     let left =
     zero_found s g.C.Rule.allows g.C.Rule.allows_spent r c.args.links start given c.in_ok-found.found found.last found.before found.reduced found.left
     c.in-AllReduce.combinations c.in-AllReduce.is block c.in_ok-block-in-AllReduce.ensures.value in
-    certified_as s g.C.Rule.allows g.C.Rule.allows_spent (extension program s (plain r) (resolution_of r c.args.links)) start given (plain r) (ExtZero c.args.links block) tt left _ c.in_ok-certify-in-AllReduce.ensures.formed
+    certified_as s g.C.Rule.allows g.C.Rule.allows_spent (extension program s (row_matrix_of r) (resolution_of r c.args.links)) start given (row_matrix_of r) (ExtZero c.args.links block) tt left _ c.in_ok-certify-in-AllReduce.ensures.formed
 
 -- ---- it isn't
 
@@ -94,7 +94,7 @@ returns-in_err-block-in-LeavesRest-clause-halts g c =
     let chooser = c.reduce_elements.new.chooser in
     let e = err_from_is_err_and c.from_residual-in_err-block-in-LeavesRest.result c.from_residual-in_err-block-in-LeavesRest.ensures.1 in
     rw (e.1, e.2)
-    (memory_halts s g.C.Rule.allows g.C.Rule.allows_spent (extension program s (plain r) (resolution_of r c.args.links)) (g.C.Chooser.given c.args.chooser.now) (g.C.Chooser.given chooser) (g.C.Chooser.settings chooser) _ c.in_err-block-in-LeavesRest.ensures.memory)
+    (memory_halts s g.C.Rule.allows g.C.Rule.allows_spent (extension program s (row_matrix_of r) (resolution_of r c.args.links)) (g.C.Chooser.given c.args.chooser.now) (g.C.Chooser.given chooser) (g.C.Chooser.settings chooser) _ c.in_err-block-in-LeavesRest.ensures.memory)
 
 pub certify-requires-in-LeavesRest-clause-cert_of :
     goal.certify-requires-in-LeavesRest-clause-cert_of
@@ -127,7 +127,7 @@ returns-in_err-certify-in-LeavesRest-clause-halts g c =
     _ c.in-LeavesRest.rest c.in-LeavesRest.is w.result w.ensures.row w.ensures.steps block c.in_ok-block-in-LeavesRest.ensures.value in
     let e = err_from_is_err_and c.from_residual-in_err-certify-in-LeavesRest.result c.from_residual-in_err-certify-in-LeavesRest.ensures.1 in
     rw (e.1, e.2)
-    (certified_halts s g.C.Rule.allows g.C.Rule.allows_spent (extension program s (plain r) (resolution_of r c.args.links)) start given (plain r) (ExtNonzero c.args.links w.result.row block) tt left (g.C.Chooser.settings chooser) _ c.in_err-certify-in-LeavesRest.ensures.formed)
+    (certified_halts s g.C.Rule.allows g.C.Rule.allows_spent (extension program s (row_matrix_of r) (resolution_of r c.args.links)) start given (row_matrix_of r) (ExtNonzero c.args.links w.result.row block) tt left (g.C.Chooser.settings chooser) _ c.in_err-certify-in-LeavesRest.ensures.formed)
 
 pub returns-in_ok-certify-in-LeavesRest-clause-answered : goal.returns-in_ok-certify-in-LeavesRest-clause-answered
 returns-in_ok-certify-in-LeavesRest-clause-answered g c =
@@ -141,4 +141,4 @@ returns-in_ok-certify-in-LeavesRest-clause-answered g c =
     let left =
     nonzero_found s g.C.Rule.allows g.C.Rule.allows_spent r c.args.links start given c.in_ok-found.found found.last found.before found.reduced found.left
     _ c.in-LeavesRest.rest c.in-LeavesRest.is w.result w.ensures.row w.ensures.steps block c.in_ok-block-in-LeavesRest.ensures.value in
-    certified_as s g.C.Rule.allows g.C.Rule.allows_spent (extension program s (plain r) (resolution_of r c.args.links)) start given (plain r) (ExtNonzero c.args.links w.result.row block) tt left _ c.in_ok-certify-in-LeavesRest.ensures.formed
+    certified_as s g.C.Rule.allows g.C.Rule.allows_spent (extension program s (row_matrix_of r) (resolution_of r c.args.links)) start given (row_matrix_of r) (ExtNonzero c.args.links w.result.row block) tt left _ c.in_ok-certify-in-LeavesRest.ensures.formed

@@ -5,7 +5,7 @@ use Rattle.std.proofs.lemmas.List.Elements.{All-nil, All-push}
 use Rattle.std.proofs.lemmas.Result.{err_from_is_err_and}
 use Rattle.ore_algebra.specs.Limits.{program}
 use Rattle.ore_parts.specs.OfSignature.{IsLinkOf}
-use Rattle.ore_blocks.specs.CheckBlock.{plain}
+use Rattle.ore_blocks.specs.CheckBlock.{row_matrix_of}
 use Rattle.ore_check.specs.Plans.{resolution}
 use Rattle.ore_check.proofs.LinkConditions.{found_of}
 use Rattle.ore_syzygy.proofs.FollowedKernels.{memory_halts}
@@ -44,7 +44,7 @@ returns-in_err-link-clause-halts g c =
 pub returns-in_default-clause-halts : goal.returns-in_default-clause-halts
 returns-in_default-clause-halts g c =
     let s = g.R.OreRing.sig c.args.ring.now in
-    memory_halts s g.C.Rule.allows g.C.Rule.allows_spent (resolution program s c.args.count (plain c.args.r.now)) _ _ (g.C.Chooser.settings c.next_link.new.chooser)
+    memory_halts s g.C.Rule.allows g.C.Rule.allows_spent (resolution program s c.args.count (row_matrix_of c.args.r.now)) _ _ (g.C.Chooser.settings c.next_link.new.chooser)
 
 pub loop-k-preserved : goal.loop-k-preserved
 loop-k-preserved g c =

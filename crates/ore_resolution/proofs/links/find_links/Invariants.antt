@@ -5,7 +5,7 @@ use Rattle.ore_course.specs.Following.{Follows}
 use Rattle.ore_pairs.specs.Reached.{rule_of}
 use Rattle.ore_pairs.specs.Runner.{runner_within}
 use Rattle.ore_parts.specs.OfSignature.{IsLinkOf}
-use Rattle.ore_blocks.specs.CheckBlock.{plain}
+use Rattle.ore_blocks.specs.CheckBlock.{row_matrix_of}
 use Rattle.ore_groebner.specs.Choosing.{AreWithinBudget}
 use Rattle.ore_check.specs.InnerContracts.{matrix_before}
 use Rattle.ore_check.specs.Plans.{links, resolution}
@@ -14,7 +14,7 @@ use Rattle.ore_resolution.proofs.links.find_links.Given as goal
 
 abbrev pub invariant-loop-k : goal.invariant-loop-k
 invariant-loop-k g l = record {
-  led : Follows (runner_within program (g.R.OreRing.sig l.ring)) (rule_of (g.R.OreRing.sig l.ring) g.C.Rule.allows g.C.Rule.allows_spent) (resolution program (g.R.OreRing.sig l.ring) l.count (plain l.r)) (g.C.Chooser.given l.fn.chooser) (g.C.Chooser.given l.chooser)
+  led : Follows (runner_within program (g.R.OreRing.sig l.ring)) (rule_of (g.R.OreRing.sig l.ring) g.C.Rule.allows g.C.Rule.allows_spent) (resolution program (g.R.OreRing.sig l.ring) l.count (row_matrix_of l.r)) (g.C.Chooser.given l.fn.chooser) (g.C.Chooser.given l.chooser)
       (links program (g.R.OreRing.sig l.ring) (l.count - l.k) (resolution_of l.r l.links.items));
   of : All (IsLinkOf (g.R.OreRing.sig l.ring)) l.links.items;
   many : length l.links.items ≡ l.k;

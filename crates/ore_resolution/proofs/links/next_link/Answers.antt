@@ -3,7 +3,7 @@ use Rattle.std.specs.List.{All}
 use Rattle.ore_algebra.specs.Limits.{program}
 use Rattle.ore_ring.specs.Belongs.{Belongs}
 use Rattle.ore_rows.specs.Stored.{OperatorMatrix}
-use Rattle.ore_blocks.specs.CheckBlock.{plain}
+use Rattle.ore_blocks.specs.CheckBlock.{row_matrix_of}
 use Rattle.ore_blocks.specs.KernelCourse.{run_on}
 use Rattle.ore_groebner.specs.Courses.{last_of}
 use Rattle.ore_syzygy.proofs.FollowedKernels.{memory_halts}
@@ -18,7 +18,7 @@ kernel_block-requires g c = record { run = has_run (g.R.OreRing.sig c.args.ring.
 pub returns-in_default-clause-halts : goal.returns-in_default-clause-halts
 returns-in_default-clause-halts g c =
     let s = g.R.OreRing.sig c.args.ring.now in
-    memory_halts s g.C.Rule.allows g.C.Rule.allows_spent (run_on program s (plain c.args.last.now)) _ _ (g.C.Chooser.settings c.run_on.new.chooser)
+    memory_halts s g.C.Rule.allows g.C.Rule.allows_spent (run_on program s (row_matrix_of c.args.last.now)) _ _ (g.C.Chooser.settings c.run_on.new.chooser)
 
 pub returns-clause-of : goal.returns-clause-of
 returns-clause-of g c =

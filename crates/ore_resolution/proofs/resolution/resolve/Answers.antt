@@ -1,7 +1,7 @@
 use Rattle.std.proofs.lemmas.Result.{err_from_is_err_and}
 use Rattle.ore_algebra.specs.Limits.{program}
 use Rattle.ore_cert.specs.declared.certificate.Certificate.TheVariants.{Resolution as Resolved}
-use Rattle.ore_blocks.specs.CheckBlock.{plain}
+use Rattle.ore_blocks.specs.CheckBlock.{row_matrix_of}
 use Rattle.ore_check.specs.Plans.{resolve}
 use Rattle.ore_check.proofs.LastWork.{certified_halts, certified_as}
 use Rattle.ore_syzygy.proofs.RunKernels.{matrix_of}
@@ -26,7 +26,7 @@ returns-in_err-certify-clause-halts g c =
     let found = resolve_found s g.C.Rule.allows g.C.Rule.allows_spent r n before given (resolution_of r links) c.in_ok-links.ensures.answered in
     let e = err_from_is_err_and c.from_residual-in_err-certify.result c.from_residual-in_err-certify.ensures.1 in
     rw (e.1, e.2)
-    (certified_halts s g.C.Rule.allows g.C.Rule.allows_spent (resolve program s n (plain r)) before given (plain r) (Resolved links) tt found (g.C.Chooser.settings c.find_links.new.chooser) _ c.in_err-certify.ensures.formed)
+    (certified_halts s g.C.Rule.allows g.C.Rule.allows_spent (resolve program s n (row_matrix_of r)) before given (row_matrix_of r) (Resolved links) tt found (g.C.Chooser.settings c.find_links.new.chooser) _ c.in_err-certify.ensures.formed)
 
 pub returns-clause-answered : goal.returns-clause-answered
 returns-clause-answered g c =
@@ -37,7 +37,7 @@ returns-clause-answered g c =
     let given = g.C.Chooser.given c.find_links.new.chooser in
     let links = c.in_ok-links.links in
     let found = resolve_found s g.C.Rule.allows g.C.Rule.allows_spent r n before given (resolution_of r links) c.in_ok-links.ensures.answered in
-    certified_as s g.C.Rule.allows g.C.Rule.allows_spent (resolve program s n (plain r)) before given (plain r) (Resolved links) tt found _ c.in_ok-certify.ensures.formed
+    certified_as s g.C.Rule.allows g.C.Rule.allows_spent (resolve program s n (row_matrix_of r)) before given (row_matrix_of r) (Resolved links) tt found _ c.in_ok-certify.ensures.formed
 
 pub returns-clause-correct : goal.returns-clause-correct
 returns-clause-correct g c =

@@ -3,7 +3,7 @@ use Rattle.ore_algebra.specs.Limits.{program}
 use Rattle.ore_rational.specs.Field.{rationals}
 use Rattle.ore_rows.specs.Rows.{IsExact}
 use Rattle.ore_rows.specs.Stored.{OperatorMatrix, rows_of}
-use Rattle.ore_blocks.specs.CheckBlock.{plain}
+use Rattle.ore_blocks.specs.CheckBlock.{row_matrix_of}
 use Rattle.ore_blocks.specs.KernelCourse.{run_on}
 use Rattle.ore_groebner.specs.Choosing.{present}
 use Rattle.ore_syzygy.proofs.FollowedKernels.{memory_halts}
@@ -13,7 +13,7 @@ use Rattle.ore_syzygy.proofs.kernel.left_kernel.Goals as goal
 pub returns-in_default-clause-halts : goal.returns-in_default-clause-halts
 returns-in_default-clause-halts g c =
     let s = g.R.OreRing.sig c.args.ring.now in
-    memory_halts s g.C.Rule.allows g.C.Rule.allows_spent (run_on program s (plain c.args.a.now)) _ _ (g.C.Chooser.settings c.run.new.chooser)
+    memory_halts s g.C.Rule.allows g.C.Rule.allows_spent (run_on program s (row_matrix_of c.args.a.now)) _ _ (g.C.Chooser.settings c.run.new.chooser)
 
 pub returns-clause-kernel : goal.returns-clause-kernel
 returns-clause-kernel g c =

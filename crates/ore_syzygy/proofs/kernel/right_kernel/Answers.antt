@@ -5,7 +5,7 @@ use Rattle.ore_monomial.specs.Gives.{Fails}
 use Rattle.std.specs.declared.result.Result.TheVariants.{Ok}
 use Rattle.ore_adjoint.specs.AdjointMatrix.{transpose_adjoint_within}
 use Rattle.ore_rows.specs.Stored.{rows_of}
-use Rattle.ore_blocks.specs.CheckBlock.{RowMatrix, plain}
+use Rattle.ore_blocks.specs.CheckBlock.{RowMatrix, row_matrix_of}
 use Rattle.ore_blocks.specs.KernelCourse.{syzygies_of, transposed_adjoint_within, right_kernel}
 use Rattle.ore_groebner.specs.Choosing.{present}
 use Rattle.ore_groebner.specs.Courses.{last_of, FollowsTo, HaltsIn}
@@ -16,7 +16,7 @@ use Rattle.ore_syzygy.proofs.kernel.right_kernel.Goals as goal
 pub returns-in-Err-clause-halts : goal.returns-in-Err-clause-halts
 returns-in-Err-clause-halts g c =
     let s = g.R.OreRing.sig c.args.ring.now in
-    let r = plain c.args.r.now in
+    let r = row_matrix_of c.args.r.now in
     let before = g.C.Chooser.given c.args.chooser.now in
     let stop = c.in-Err.stop in
     subst (HaltsIn s g.C.Rule.allows g.C.Rule.allows_spent (right_kernel program s r) before before (g.C.Chooser.settings c.args.chooser.now)) (sym c.halt_at.ensures)
@@ -26,7 +26,7 @@ returns-in-Err-clause-halts g c =
 pub returns-in_err-run-clause-halts : goal.returns-in_err-run-clause-halts
 returns-in_err-run-clause-halts g c =
     let s = g.R.OreRing.sig c.args.ring.now in
-    let r = plain c.args.r.now in
+    let r = row_matrix_of c.args.r.now in
     let a : RowMatrix = record { cols = length r.rows; rows = rows_of c.in-Ok.adjoint } in
     let e = err_from_is_err_and c.from_residual.result c.from_residual.ensures.1 in
     rw (e.1, e.2) (followed.run_halted s g.C.Rule.allows g.C.Rule.allows_spent r (g.C.Chooser.given c.args.chooser.now) a (followed.adjoint_value s r a.rows c.in-Ok.ensures.gives) (g.C.Chooser.given c.run.new.chooser) (g.C.Chooser.settings c.run.new.chooser) _ c.in_err-run.ensures.halts)
@@ -48,7 +48,7 @@ returns-in-Ok-transpose_adjoint-clause-honest g c =
 pub returns-in-Ok-transpose_adjoint-clause-answered : goal.returns-in-Ok-transpose_adjoint-clause-answered
 returns-in-Ok-transpose_adjoint-clause-answered g c =
     let s = g.R.OreRing.sig c.args.ring.now in
-    let r = plain c.args.r.now in
+    let r = row_matrix_of c.args.r.now in
     let before = g.C.Chooser.given c.args.chooser.now in
     let given = g.C.Chooser.given c.run.new.chooser in
     let a : RowMatrix = record { cols = length r.rows; rows = rows_of c.in-Ok.adjoint } in
@@ -65,7 +65,7 @@ returns-in-Ok-transpose_adjoint-clause-answered g c =
 pub returns-clause-halts : goal.returns-clause-halts
 returns-clause-halts g c =
     let s = g.R.OreRing.sig c.args.ring.now in
-    let r = plain c.args.r.now in
+    let r = row_matrix_of c.args.r.now in
     let before = g.C.Chooser.given c.args.chooser.now in
     let given = g.C.Chooser.given c.run.new.chooser in
     let a : RowMatrix = record { cols = length r.rows; rows = rows_of c.in-Ok.adjoint } in

@@ -1,7 +1,7 @@
 use Rattle.std.proofs.lemmas.Result.{err_from_is_err_and}
 use Rattle.ore_algebra.specs.Limits.{program}
 use Rattle.ore_rows.specs.Stored.{sums_of}
-use Rattle.ore_blocks.specs.CheckBlock.{plain}
+use Rattle.ore_blocks.specs.CheckBlock.{row_matrix_of}
 use Rattle.ore_groebner.specs.Courses.{last_of}
 use Rattle.ore_check.specs.Plans.{autonomous}
 use Rattle.ore_check.proofs.LastWork.{memory_halts}
@@ -14,7 +14,7 @@ returns-in_err-stacked-clause-halts g c =
     let chooser = c.args.chooser.now in
     let e = err_from_is_err_and c.from_residual.result c.from_residual.ensures.1 in
     rw (e.1, e.2)
-    (memory_halts s g.C.Rule.allows g.C.Rule.allows_spent (autonomous program s (plain c.args.r.now) (last_of c.args.first) (sums_of c.args.rest.row)) (g.C.Chooser.given chooser) (g.C.Chooser.given chooser) (g.C.Chooser.settings chooser) _ c.in_err-stacked.ensures.memory)
+    (memory_halts s g.C.Rule.allows g.C.Rule.allows_spent (autonomous program s (row_matrix_of c.args.r.now) (last_of c.args.first) (sums_of c.args.rest.row)) (g.C.Chooser.given chooser) (g.C.Chooser.given chooser) (g.C.Chooser.settings chooser) _ c.in_err-stacked.ensures.memory)
 
 pub returns-in_err-second-clause-halts : goal.returns-in_err-second-clause-halts
 returns-in_err-second-clause-halts g c =

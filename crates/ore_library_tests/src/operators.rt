@@ -1,4 +1,8 @@
-use super::*;
+//! Operators of one term.
+
+use ore_monomial::{Exps, Order};
+use ore_rational::Rational;
+use ore_ring::{Op, lead};
 use std::test::Fail;
 
 // The power of the first variable.
