@@ -12,7 +12,7 @@ use Rattle.std.specs.declared.result.Result.TheVariants.{Ok}
 use Rattle.std.specs.Str.Parse.{digits_value}
 use Rattle.ore_algebra.specs.Free.{empty_sum, single}
 use Rattle.ore_algebra.specs.Limits.{Limits, Cause, ◌>>=◌}
-use Rattle.ore_rational.specs.Fraction.{Fraction, whole, reduce}
+use Rattle.ore_rational.specs.Fraction.{whole, reduce}
 use Rattle.ore_rational.specs.Field.{rationals}
 use Rattle.ore_monomial.specs.Monomial.{unit, with_exponent, plain_cmp}
 use Rattle.ore_monomial.specs.Signature.{Signature}
