@@ -14,7 +14,6 @@ use Rattle.ore_rational.specs.Fraction.{Fraction, whole, add}
 use Rattle.ore_rational.specs.Field.{rationals}
 use Rattle.ore_algebra.specs.Free.{NonZero, Free, terms, collect, coefficient, sum_at}
 use Rattle.ore_algebra.proofs.DomainLaws.{zero_plus}
-use Rattle.ore_algebra.proofs.FreeLaws
 use Rattle.ore_monomial.specs.Monomial.{Monomial, plain_cmp}
 use Rattle.ore_monomial.specs.declared.order.Order.{Order}
 use Rattle.ore_monomial.specs.LetterRule.{Operator}

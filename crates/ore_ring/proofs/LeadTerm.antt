@@ -8,7 +8,6 @@ use Rattle.std.specs.Ordering.{eq_by_cmp, is_eq, is_gt}
 use Rattle.std.specs.Cmp.{tied_itself}
 use Rattle.std.specs.FinMap.Entries.{below_all}
 use Rattle.ore_algebra.specs.Free.{empty_sum, collect, coefficient}
-use Rattle.ore_algebra.proofs.FreeLaws
 use Rattle.ore_rational.specs.Fraction.{whole}
 use Rattle.ore_rational.specs.Field.{rationals}
 use Rattle.ore_monomial.specs.Monomial.{Monomial, order_cmp, plain_cmp}

@@ -2,11 +2,10 @@
 --     sent                 the operator with each coefficient sent
 --     monomial_times-sent  a product of monomials over one domain, sent, is that over the other
 --     numbers_are          the whole numbers of a product of monomials are its coefficients as fractions
-use Rattle.std.proofs.Common.{◌≡◌, ℕ, zero, suc, cond, true, false, Bool, List, [], ◌∷◌, map, pos, refl, sym, ap, ◌∙◌}
-use Rattle.std.specs.Ordering.{eq_by_cmp}
+use Rattle.std.proofs.Common.{◌≡◌, ℕ, zero, suc, cond, true, false, List, [], ◌∷◌, map, pos, refl, sym, ap, ◌∙◌}
 use Rattle.ore_algebra.specs.Ring.{of_nat, power}
 use Rattle.ore_algebra.specs.Domain.{Domain}
-use Rattle.ore_algebra.specs.Free.{empty_sum, single, plus, scale, linear_extension, collect, terms, coefficient, sum_at}
+use Rattle.ore_algebra.specs.Free.{empty_sum, single, plus, scale, linear_extension, collect, terms, coefficient}
 use Rattle.ore_algebra.proofs.Integers.{integers}
 use Rattle.ore_algebra.proofs.RingMaps.{IsRingMap, sent-of_nat, sent-power, sent_terms, sum_at-sent}
 use Rattle.ore_rational.specs.Fraction.{whole}

@@ -16,8 +16,8 @@ use Rattle.ore_ring.specs.Within.{times_within, degrees_fit}
 use Rattle.ore_ring.specs.Contributions.{IsInRange, AreInRange, push_number, push_product, push_pair, push_row}
 use Rattle.ore_ring.specs.Meets.{MeetsNone}
 use Rattle.ore_ring.proofs.FallingSum.{falling_sum}
-use Rattle.ore_ring.proofs.FractionSteps.{one_product, product_one}
-use Rattle.ore_ring.proofs.PlainNumbers.{plain_push}
+use Rattle.ore_ring.proofs.FractionSteps.{one_product}
+use Rattle.ore_ring.proofs.PlainNumbers.{plain_push, fraction_push}
 use Rattle.ore_ring.proofs.ProductSteps.{times_made}
 use Rattle.ore_ring.proofs.TermLaws.{C, collect-falling}
 
@@ -30,10 +30,7 @@ module _ (s : Signature) where
   one_meets_none u x a n = absurd (n (exponent-unit _))
 
   one_number : (out : Terms) (u : Summand) → IsInRange u → push_number program u.1 out (product unit u.0, pos 1) ≡ Ok (out ++ u ∷ [])
-  unfolding push_number
-  one_number out u h =
-      ap (λ r. r >>= λ c. Ok (out ++ (product unit u.0, c) ∷ [])) (product_one u.1 (fits_from u.1 h.0 h.1))
-      ∙ ap (λ m. Ok (out ++ (m, u.1) ∷ [])) (product-unit u.0)
+  one_number out u h = ap (λ m. push_number program u.1 out (m, pos 1)) (product-unit u.0) ∙ fraction_push u.1 out u.0 h.0 h.1
 
   one_pair : (out : Terms) (u : Summand) → IsInRange u → push_pair program s one_term out u ≡ Ok (out ++ u ∷ [])
   unfolding push_pair

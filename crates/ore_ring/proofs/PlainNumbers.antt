@@ -1,8 +1,9 @@
 -- The whole numbers of a product of monomials in which no letter meets its coordinate.
 --     plain_numbers     the product of the monomials, once
 --     plain_push        so it contributes that product, with the fraction
+--     fraction_push     1 times a fraction goes to the end as that fraction
 --     still_meets       letters that do not act meet no coordinate
-use Rattle.std.proofs.Common.{◌≡◌, false, [], ◌∷◌, pos, refl, ap, ◌∙◌, true≢false, sym}
+use Rattle.std.proofs.Common.{◌≡◌, ◌<◌, ◌^◌, false, [], ◌∷◌, ◌++◌, pos, refl, ap, ◌∙◌, true≢false, sym}
 use Rattle.std.specs.declared.result.Result.{Result}
 use Rattle.std.specs.declared.result.Result.TheVariants.{Ok, Err}
 use Rattle.ore_algebra.specs.Free.{single}
@@ -13,10 +14,13 @@ use Rattle.ore_monomial.specs.Signature.{Signature, kind_at, is_acting}
 use Rattle.ore_monomial.specs.Numbers.{numbers, numbers_within}
 use Rattle.ore_monomial.specs.Numbers.{falling_over}
 use Rattle.ore_rational.specs.Fraction.{Fraction}
+use Rattle.ore_rational.specs.Range.{InRange}
+use Rattle.ore_rational.proofs.Bounds.{fits_from}
 use Rattle.ore_ring.specs.Terms.{Terms}
 use Rattle.ore_ring.specs.Contributions.{push_number, push_product}
 use Rattle.ore_ring.specs.Meets.{MeetsNone}
 use Rattle.ore_ring.proofs.AdjointParts.{clear_product}
+use Rattle.ore_ring.proofs.FractionSteps.{product_one}
 use Rattle.ore_monomial.proofs.FallingTerms.{falling_over-collect}
 
 pub plain_numbers : (s : Signature) (m n : Monomial) → MeetsNone s m n → numbers s m n ≡ (product m n, pos 1) ∷ []
@@ -42,3 +46,7 @@ plain_push s uv out m n h =
     alone : (r : Result Terms Cause) → (r >>= λ t. Ok t) ≡ r
     alone (Ok t) = refl
     alone (Err e) = refl
+
+pub fraction_push : (uv : Fraction) (out : Terms) (m : Monomial) → InRange uv.num → uv.den < 2 ^ 127 → push_number program uv out (m, pos 1) ≡ Ok (out ++ (m, uv) ∷ [])
+unfolding push_number
+fraction_push uv out m num den = ap (λ r. r >>= λ c. Ok (out ++ (m, c) ∷ [])) (product_one uv (fits_from uv num den))

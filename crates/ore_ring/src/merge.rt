@@ -21,7 +21,7 @@ pub(crate) fn merged(
 ) -> Result<Vec<(Exps, Rational)>, RingStop>
     ensures { Gives (λ v. v.items) result (merge_within program order a.now b.now) }
 {
-    let mut out = Vec::new(alloc);
+    let mut out = Vec::with_capacity(alloc, a.len().saturating_add(b.len()))?;
     let mut i = 0;
     let mut j = 0;
     while i < a.len() && j < b.len() {
@@ -72,7 +72,7 @@ pub(crate) fn merged_less(
 ) -> Result<Vec<(Exps, Rational)>, RingStop>
     ensures { Gives (λ v. v.items) result (merge_within program order a.now (opposite_terms b.now)) }
 {
-    let mut out = Vec::new(alloc);
+    let mut out = Vec::with_capacity(alloc, a.len().saturating_add(b.len()))?;
     let mut i = 0;
     let mut j = 0;
     while i < a.len() && j < b.len() {

@@ -169,10 +169,19 @@ pub(crate) fn push_product<P: MonomialProduct>(
 {
     if meets_none(p.signature(), left, right) {
         let both = left.plus(right)?;
-        return push_number(out, uv, &(both, 1));
+        return push_fraction(out, uv, both);
     }
     let ks = p.pass(alloc, left, right)?;
     push_numbers(out, uv, &ks)
+}
+
+// Appends a fraction, which is 1 times it.
+fn push_fraction(out: &mut Vec<(Exps, Rational)>, uv: Rational, exps: Exps) -> Result<(), RingStop>
+    ensures { Turns result out.new.items (number_of program uv out.old.items (exps, pos 1)) }
+{
+    let _ = (uv.numerator(), uv.denominator());
+    out.push((exps, uv))?;
+    Ok(())
 }
 
 // Appends each whole number times a fraction.

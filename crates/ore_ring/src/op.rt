@@ -59,12 +59,20 @@ impl Op {
     pub fn term(alloc: Global, order: Order, exps: Exps, coef: Rational) -> Result<Op, NoMemory>
         ensures { IfOk result (λ f. f ≡ record { by = order; sum = single rationals plain_cmp exps coef }) }
     {
-        let mut made = Op::zero(alloc, order);
         if coef.is_zero() {
-            return Ok(made);
+            return Ok(Op::zero(alloc, order));
         }
+        let mut made = Op::with_capacity(alloc, order, 1)?;
         made.push(exps, coef)?;
         Ok(made)
+    }
+
+    // The operator zero, with room for so many terms.
+    fn with_capacity(alloc: Global, order: Order, terms: usize) -> Result<Op, NoMemory>
+        ensures { IfOk result (λ f. f ≡ record { by = order; sum = empty_sum rationals plain_cmp }) }
+    {
+        let terms = Vec::with_capacity(alloc, terms)?;
+        Ok(Op { order, terms })
     }
 
     // The operator of falling terms.
@@ -176,7 +184,7 @@ impl Op {
     pub fn copy(&self, alloc: Global) -> Result<Op, NoMemory>
         ensures { IfOk result (λ f. f ≡ self.now) }
     {
-        let mut terms = Vec::new(alloc);
+        let mut terms = Vec::with_capacity(alloc, self.terms.len())?;
         terms.extend_from_slice(&self.terms)?;
         Ok(Op {
             order: self.order,

@@ -17,7 +17,7 @@ pub returns-then-meets_none : goal.returns-then-meets_none
 returns-then-meets_none g c =
     let s = g.P.MonomialProduct.sig c.args.p.now in
     let none = c.meets_none.ensures c.if-meets_none.true in
-    subst (Turns c.push_number.result c.push_number.new.out.items)
+    subst (Turns c.push_fraction.result c.push_fraction.new.out.items)
     (ap (λ m. push_number program c.args.uv c.args.out.now.items (m, pos 1)) c.in_ok-both.ensures.1
     ∙ sym (plain_push s c.args.uv c.args.out.now.items c.args.left.now c.args.right.now (subst (λ t. MeetsNone t c.args.left.now c.args.right.now) c.signature.ensures none)))
-    c.push_number.ensures
+    c.push_fraction.ensures

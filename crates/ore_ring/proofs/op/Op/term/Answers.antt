@@ -15,17 +15,17 @@ more f v = record { by = v.by; sum = plus rationals plain_cmp v.sum f }
 pub push-requires-clause-below : goal.push-requires-clause-below
 push-requires-clause-below c =
     let o = c.args.order in
-    subst (λ v. IsBelowLast v.by (falling v.by v.sum) c.args.exps) (sym c.zero-made.ensures) (subst (λ ts. IsBelowLast o ts c.args.exps) (sym (falling-none o)) tt)
+    subst (λ v. IsBelowLast v.by (falling v.by v.sum) c.args.exps) (sym c.in_ok-made.ensures) (subst (λ ts. IsBelowLast o ts c.args.exps) (sym (falling-none o)) tt)
 
 pub returns-then-is_zero : goal.returns-then-is_zero
 returns-then-is_zero c =
     let e = sym (ap (single rationals plain_cmp c.args.exps) (c.is_zero.ensures.0 c.if-is_zero.true) ∙ Operators.single_zero rationals c.args.exps) in
-    c.zero-made.ensures ∙ (λ i. record { by = c.args.order; sum = e i })
+    c.zero.ensures ∙ (λ i. record { by = c.args.order; sum = e i })
 
 pub returns : goal.returns
 unfolding more
 returns c =
     let one = single rationals plain_cmp c.args.exps c.args.coef in
-    let h : c.push.new.self ≡ record { by = c.zero-made.result.by; sum = plus rationals plain_cmp c.zero-made.result.sum one } = c.in_ok-push.ensures.ok in
+    let h : c.push.new.self ≡ record { by = c.in_ok-made.made.by; sum = plus rationals plain_cmp c.in_ok-made.made.sum one } = c.in_ok-push.ensures.ok in
     let e = Operators.zero-plus rationals one in
-    h ∙ ap (more one) c.zero-made.ensures ∙ (λ i. record { by = c.args.order; sum = e i })
+    h ∙ ap (more one) c.in_ok-made.ensures ∙ (λ i. record { by = c.args.order; sum = e i })
