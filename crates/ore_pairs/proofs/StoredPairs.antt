@@ -9,15 +9,12 @@
 --     either_first, either_second  a pair of ordered ones is listed in the order of its places
 --     one_more_exponent, divides_to_twelve     dividing, exponent by exponent
 --     lead_read                    the lead that is read at a place
-use Rattle.std.proofs.Common.{◌≡◌, ◌⊎◌, ⊎_elim, ℕ, ◌+◌, ◌<◌, ◌≤◌, Bool, true, false, List, [], ◌∷◌, refl, sym, ap, ◌∙◌, subst, true≢false, arith, rules}
+use Rattle.std.proofs.Common.{◌≡◌, ◌⊎◌, ⊎_elim, ℕ, ◌+◌, ◌<◌, ◌≤◌, Bool, true, false, List, [], ◌∷◌, refl, sym, ap, ◌∙◌, subst, true≢false, arith}
 use Rattle.std.specs.Prelude.{◌&&◌, ◌||◌, nat_eq, nat_le, cond}
 use Rattle.std.specs.List.{slice_get, list_any}
-use Rattle.std.specs.Ordering.{is_eq, nat_cmp, ordering_then}
-use Rattle.std.specs.declared.cmp.Ordering.{Ordering}
 use Rattle.std.specs.declared.option.Option.TheVariants.{Some}
 use Rattle.std.specs.declared.result.Result.{Result}
 use Rattle.std.specs.declared.result.Result.TheVariants.{Ok, Err}
-use Rattle.std.specs.BTreeMap.{is_at}
 use Rattle.std.proofs.lemmas.Bool.Decides.{nat_tests}
 use Rattle.std.proofs.lemmas.Option.{get_or_from_slice_get}
 use Rattle.ore_algebra.specs.Domain.{Domain}
@@ -93,27 +90,21 @@ passes_not d h = grind (arith, nat_tests)
 
 -- ---- the list of pairs
 
-equal_by_order : (i x : ℕ) → is_eq (nat_cmp i x) ≡ nat_eq i x
-equal_by_order i x = grind (arith, nat_tests)
-
-equal_then : (p q : Ordering) → is_eq (ordering_then p q) ≡ (is_eq p && is_eq q)
-equal_then p q = Prim.search rules
-
-pub found_listed : (i j : ℕ) (ks : List (ℕ × ℕ)) → list_any (is_at (λ k. ordering_then (nat_cmp i k.0) (nat_cmp j k.1))) ks ≡ is_listed i j ks
+pub found_listed : (i j : ℕ) (ks : List (ℕ × ℕ)) → list_any (λ k. nat_eq i k.0 && nat_eq j k.1) ks ≡ is_listed i j ks
 unfolding is_listed
 found_listed i j [] = refl
-found_listed i j (k ∷ ks) = λ n. (equal_then (nat_cmp i k.0) (nat_cmp j k.1) ∙ (λ n. equal_by_order i k.0 n && equal_by_order j k.1 n)) n || found_listed i j ks n
+found_listed i j (k ∷ ks) = λ n. (nat_eq i k.0 && nat_eq j k.1) || found_listed i j ks n
 
 equal_turned : (i x : ℕ) → nat_eq i x ≡ nat_eq x i
 equal_turned i x = grind (arith, nat_tests)
 
-pub added_listed : (i j : ℕ) (before after : List (ℕ × ℕ)) → ((q : ℕ × ℕ) → list_any (is_at (λ k. ordering_then (nat_cmp q.0 k.0) (nat_cmp q.1 k.1))) after ≡ cond (is_eq (ordering_then (nat_cmp i q.0) (nat_cmp j q.1))) true (list_any (is_at (λ k. ordering_then (nat_cmp q.0 k.0) (nat_cmp q.1 k.1))) before))
+pub added_listed : (i j : ℕ) (before after : List (ℕ × ℕ)) → ((q : ℕ × ℕ) → list_any (λ k. nat_eq q.0 k.0 && nat_eq q.1 k.1) after ≡ cond (nat_eq i q.0 && nat_eq j q.1) true (list_any (λ k. nat_eq q.0 k.0 && nat_eq q.1 k.1) before))
     → HaveSamePairs after ((i, j) ∷ before)
 unfolding is_listed
 added_listed i j before after h x y =
     sym (found_listed x y after)
     ∙ h (x, y)
-    ∙ (λ n. cond ((equal_then (nat_cmp i x) (nat_cmp j y) ∙ (λ n. (equal_by_order i x ∙ equal_turned i x) n && (equal_by_order j y ∙ equal_turned j y) n)) n) true (found_listed x y before n))
+    ∙ (λ n. cond (equal_turned i x n && equal_turned j y n) true (found_listed x y before n))
     ∙ or_by_cases (nat_eq x i && nat_eq y j) (is_listed x y before)
   where
     or_by_cases : (b c : Bool) → cond b true c ≡ (b || c)

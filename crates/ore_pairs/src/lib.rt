@@ -26,7 +26,7 @@
 //! the common multiple of two leads and the S-row of two rows, and [`rule`] the tests whether a pair may be treated,
 //! and whether it may be skipped by way of a third row. Over a whole basis, [`common`] is the common multiple of two
 //! leads, [`s_row`] the S-row of a pair with its cofactor row, and [`may_skip`] that test. They call those over leads.
-//! [`Listed`] keeps the pairs that were dealt with in an ordered set.
+//! [`Listed`] keeps the pairs that were dealt with in a set.
 //!
 //! `specs/PairRule.antt` has the words on pairs: which is listed, which may be treated, which skipped, and that all are
 //! listed, by the leads and a list of pairs alone. Runs, lawful lists of pairs, the rule of choosers and the check of

@@ -5,13 +5,13 @@ ghost use Rattle.ore_pairs.specs.PairRule.{is_listed, either_listed, HaveSamePai
 
 use ore_monomial::NoMemory;
 use std::alloc::Global;
-use std::collections::BTreeSet;
+use std::collections::HashSet;
 use std::marker::Model;
 
 /// The pairs of basis rows that a run has treated or skipped, each by the places of its rows, the lesser first.
 #[derive(Drop)]
 pub struct Listed {
-    pairs: BTreeSet<(usize, usize)>,
+    pairs: HashSet<(usize, usize)>,
 }
 
 impl Model for Listed {
@@ -33,7 +33,7 @@ impl Listed {
         ensures { result ≡ [] }
     {
         Listed {
-            pairs: BTreeSet::new(alloc),
+            pairs: HashSet::new(alloc),
         }
     }
 
