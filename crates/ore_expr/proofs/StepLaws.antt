@@ -2,10 +2,10 @@
 --     rest-skipped, rest-space, rest-token      what a byte does that is passed over, that is a space, that begins a token
 --     front-slice                               the text from a place on
 --     rest-taken, rest-faulty                   the token is taken, or has a fault
---     parse-zero                                the text `0` is the number 0
+--     parse-zero                                the text `0` is the number 0, and so it is behind a space
 --     parse-ends                                what is left to do behind the last byte
 --     parse-fault                               a fault of the rest is that of the text
-use Rattle.std.proofs.Common.{◌≡◌, ◌≢◌, ◌≤◌, ℕ, zero, suc, ◌+◌, ◌-◌, ◌<◌, true, false, nat_eq, if◌then◌else◌, List, [], ◌∷◌, length, take, drop, get_or, Ok, Err, pos, refl, sym, ap, subst, ◌∙◌, arith, add-one, drop-cons}
+use Rattle.std.proofs.Common.{◌≡◌, ◌≢◌, ◌≤◌, ◌⊎◌, inl, inr, ℕ, zero, suc, ◌+◌, ◌-◌, ◌<◌, true, false, nat_eq, if◌then◌else◌, List, [], ◌∷◌, length, take, drop, get_or, Ok, Err, pos, refl, sym, ap, subst, ◌∙◌, arith, add-one, drop-cons}
 use Rattle.std.specs.declared.result.Result.{Result}
 use Rattle.std.proofs.lemmas.List.{drop_all, take_all, length-drop}
 use Rattle.std.proofs.lemmas.Bool.Decides.{Decides-eqb, nat_tests}
@@ -78,9 +78,10 @@ module _ (names : List (List ℕ)) (text : List ℕ) (place : ℕ) (within : pla
     pub rest-faulty : (f : TextFault) → FaultReads f (takes_token names s place token) → FaultReads f (rest_read names text s k place)
     rest-faulty f faulty = subst (FaultReads f) (sym rest-token) (refused_on (Unit {0}) (fault_in_text f) _ (λ t. rest_read names text t (more_bytes token) (place + 1)) faulty)
 
-pub parse-zero : (names : List (List ℕ)) → parse names (48 ∷ []) ≡ Ok (code.Constant (whole (pos 0)) ∷ [])
+pub parse-zero : (names : List (List ℕ)) (text : List ℕ) → (text ≡ 48 ∷ []) ⊎ (text ≡ 32 ∷ 48 ∷ []) → parse names text ≡ Ok (code.Constant (whole (pos 0)) ∷ [])
 unfolding lexemes_from
-parse-zero names = refl
+parse-zero names text (inl alone) = ap (parse names) alone
+parse-zero names text (inr spaced) = ap (parse names) spaced
 
 module _ (names : List (List ℕ)) (text : List ℕ) where
   pub parse-ends : (s : State) (skipped place : ℕ) → place ≡ length text → rest_read names text s skipped place ≡ takes_all names start (lexemes text) → parse names text ≡ ends (length text) s

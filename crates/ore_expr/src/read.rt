@@ -1,6 +1,6 @@
 //! Reads operators.
 
-ghost use Rattle.std.specs.Prelude.{◌≡◌, ◌<◌, [], ◌∷◌, length, pos, true, IfOk};
+ghost use Rattle.std.specs.Prelude.{◌≡◌, ◌<◌, ◌⊎◌, [], ◌∷◌, length, pos, true, IfOk};
 ghost use Rattle.std.specs.List.{All};
 ghost use Rattle.ore_rational.specs.Fraction.{whole};
 ghost use Rattle.ore_ring.specs.Belongs.{Belongs};
@@ -35,12 +35,13 @@ pub fn parse(alloc: Global, names: &Names, text: &[u8]) -> Result<Vec<Instructio
     parse_tokens(alloc, names, text)
 }
 
-// Whether the text is `0`, as most entries are.
+// Whether the text is `0`, as most entries are, with a space in front or without.
 fn is_zero(text: &[u8]) -> bool
-    ensures { result ≡ true → text.now ≡ 48 ∷ [] }
+    ensures { result ≡ true → (text.now ≡ 48 ∷ []) ⊎ (text.now ≡ 32 ∷ 48 ∷ []) }
 {
     match text {
-        [byte] => *byte == b'0',
+        [b'0'] => true,
+        [b' ', b'0'] => true,
         _ => false,
     }
 }
