@@ -13,4 +13,5 @@ pub mod Printing
 pub mod RowBytes
 pub mod RowEntries
 pub mod Walking
+pub mod ZeroText
 pub mod CanonicalUnique

@@ -3,7 +3,7 @@
 //! A lenient walk finds the operator of a canonical text, and something or nothing in any other text.
 //! What it finds is taken only where its canonical text is the text that was read.
 
-ghost use Rattle.std.specs.Prelude.{◌≡◌, ◌≢◌, ◌⊎◌, true, false, ℕ, ◌+◌, ◌<◌, ◌≤◌, ◌^◌, Bool, not, ◌==◌, if◌then◌else◌, nat_abs, ℤ, neg_ℤ, List, [], ◌++◌, length, drop, slice_index, decimal, codes, IsTrue, ◌↔◌, IfOk, IfSome, MatchOption, pos};
+ghost use Rattle.std.specs.Prelude.{◌≡◌, ◌≢◌, ◌⊎◌, true, false, ℕ, ◌+◌, ◌<◌, ◌≤◌, ◌^◌, Bool, not, ◌==◌, if◌then◌else◌, nat_abs, ℤ, neg_ℤ, List, [], ◌∷◌, ◌++◌, length, drop, slice_index, decimal, codes, IsTrue, ◌↔◌, IfOk, IfSome, MatchOption, pos};
 ghost use Rattle.std.specs.List.{All, AllByRecursion, position_or_len};
 ghost use Rattle.std.specs.Char.{is_ascii_digit};
 ghost use Rattle.ore_rational.specs.Fraction.{Fraction, whole};
@@ -50,6 +50,32 @@ pub fn read_canonical(
 /// # Errors
 /// Want of memory.
 pub fn operator_in(
+    alloc: Global,
+    algebra: &Algebra<'_>,
+    text: &[u8],
+) -> Result<Option<Op>, NoMemory>
+    ensures found { IfOk result (λ o. IfSome o (λ f. IsPrintable algebra.now.signature.now algebra.now.names.now f.sum × (text.now ≡ operator_text algebra.now.names.now algebra.now.signature.now.order f.sum))) }
+    ensures of { IfOk result (λ o. IfSome o (Belongs algebra.now.signature.now)) }
+    ensures only { IfOk result (λ o. (f : _) → IsPrintable algebra.now.signature.now algebra.now.names.now f → text.now ≡ operator_text algebra.now.names.now algebra.now.signature.now.order f → MatchOption o ⊥ (λ g. g.sum ≡ f)) }
+{
+    if is_zero(text) {
+        return Ok(Some(Op::zero(alloc, algebra.signature.order())));
+    }
+    operator_of_terms(alloc, algebra, text)
+}
+
+// Whether the text is `0`, as most entries are.
+fn is_zero(text: &[u8]) -> bool
+    ensures { result ≡ true → text.now ≡ 48 ∷ [] }
+{
+    match text {
+        [b'0'] => true,
+        _ => false,
+    }
+}
+
+// The same, term by term.
+fn operator_of_terms(
     alloc: Global,
     algebra: &Algebra<'_>,
     text: &[u8],
